@@ -1,0 +1,42 @@
+-- What each page is for, by its number alone (Pages and Extents Architecture Guide).
+use Rattle.std.specs.Prelude.{ℕ, ◌*◌, ◌/◌, ◌==◌, ◌||◌, Bool, if◌then◌else◌, Option, Some, None}
+use Rattle.std.specs.List.{list_any, range_with_len}
+use Rattle.spec_file.specs.declared.geometry.Geometry.{Geometry}
+use Rattle.spec_file.specs.declared.role.Role.{Role}
+use Rattle.spec_file.specs.declared.role.Role.TheVariants as role
+use Rattle.spec_file.specs.Places.{interval_of_page, gam_page, sgam_page, pfs_page}
+
+-- a PFS page is the one that speaks of itself
+abbrev pub is_pfs_page : Geometry → ℕ → Bool
+is_pfs_page g p = p == pfs_page g p
+
+-- a GAM page is that of its own interval
+abbrev pub is_gam_page : Geometry → ℕ → Bool
+is_gam_page g p = p == gam_page g (interval_of_page g p)
+
+abbrev pub is_sgam_page : Geometry → ℕ → Bool
+is_sgam_page g p = p == sgam_page g (interval_of_page g p)
+
+-- the system places are the PFS, GAM and SGAM pages
+abbrev pub is_system_place : Geometry → ℕ → Bool
+is_system_place g p = is_pfs_page g p || is_gam_page g p || is_sgam_page g p
+
+-- a system extent holds page 0 or a system place
+abbrev pub is_system_extent : Geometry → ℕ → Bool
+is_system_extent g e = list_any (λ p. (p == 0) || is_system_place g p) (range_with_len (8 * e) 8)
+
+abbrev pub role_of : Geometry → ℕ → Role
+role_of g p =
+    if p == 0 then role.FileHeader else (if is_pfs_page g p then role.Pfs else (if is_gam_page g p then role.Gam
+    else (if is_sgam_page g p then role.Sgam else (if p == 9 then role.Boot
+    else (if is_system_extent g (p / 8) then role.Reserved else role.Ordinary)))))
+
+-- the type that a system place and the boot page must have
+abbrev pub system_type : Role → Option ℕ
+system_type role.Pfs = Some 11
+system_type role.Gam = Some 8
+system_type role.Sgam = Some 9
+system_type role.Boot = Some 13
+system_type role.FileHeader = None
+system_type role.Reserved = None
+system_type role.Ordinary = None

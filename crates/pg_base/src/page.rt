@@ -1,0 +1,20 @@
+ghost use Rattle.std.specs.Prelude.{◌≡◌, IfOk, replicate};
+
+use crate::NoMemory;
+use std::alloc::Global;
+
+/// How many bytes a page has (Pages and Extents Architecture Guide).
+pub const PAGE_SIZE: usize = 8192;
+
+/// The bytes of one page.
+#[derive(Drop)]
+pub struct Page {
+    pub bytes: [u8; 8192],
+}
+
+impl Page {
+    /// A page of zeros, to be read into.
+    pub fn zeroed(alloc: Global) -> Result<Box<Page>, NoMemory> {
+        Ok(Box::new(alloc, Page { bytes: [0; 8192] })?)
+    }
+}

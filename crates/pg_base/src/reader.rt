@@ -1,4 +1,5 @@
-ghost use Rattle.std.specs.Prelude.{◌≡◌, ◌<◌, ◌≤◌, IsTrue, Bool, List, ℕ, Option, IfSome, OnOk};
+ghost use Rattle.std.specs.Prelude.{◌≡◌, ◌<◌, ◌≤◌, IsTrue, Bool, List, ℕ, Option, IfSome, OnOk, length};
+ghost use Rattle.std.specs.Option.{ForSome};
 ghost use Rattle.spec_file.specs.Image.{page};
 ghost use Rattle.pg_base.specs.Reading.{FaultHasCause, KeepsFailed, EndHasCause};
 
@@ -46,4 +47,7 @@ pub trait SnapReader {
         ensures pages { pages self.new ≡ pages self.old }
         ensures image { image self.new ≡ image self.old }
         ensures bound { bound self.new ≡ bound self.old };
+
+    /// A told image has as many pages as the reader says.
+    ghost whole: { (r : Self) → ForSome (image r) (λ image. length image ≡ pages r) };
 }

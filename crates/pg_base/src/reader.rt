@@ -1,9 +1,9 @@
 ghost use Rattle.std.specs.Prelude.{◌≡◌, ◌<◌, ◌≤◌, IsTrue, Bool, List, ℕ, Option, IfSome, OnOk, length};
 ghost use Rattle.std.specs.Option.{ForSome};
 ghost use Rattle.spec_file.specs.Image.{page};
-ghost use Rattle.pg_base.specs.Reading.{FaultHasCause, KeepsFailed, EndHasCause};
+ghost use Rattle.pg_base.specs.Reading.{StopHasCause, NamesOnly, KeepsFailed};
 
-use crate::{Page, PageNo};
+use crate::{NoMemory, Page, PageNo};
 
 /// Why a page of an image was not read.
 #[derive(Clone, Copy, Debug, PartialEq, Eq)]
@@ -13,6 +13,16 @@ pub enum ReadStop {
     /// The check that the reader reads for has ended.
     Ended,
     NoMemory,
+}
+
+impl From<NoMemory> for ReadStop {
+    ghost use Rattle.pg_base.specs.declared.reader.ReadStop.TheVariants.{NoMemory};
+
+    ghost from_gives = { λ _ stop. stop ≡ NoMemory };
+
+    fn from(_: NoMemory) -> Self {
+        ReadStop::NoMemory
+    }
 }
 
 /// Something that reads the pages of one image, as DBCC CHECKDB reads those of its snapshot.
@@ -39,9 +49,9 @@ pub trait SnapReader {
     fn page(&mut self, p: PageNo, into: &mut Page) -> Result<(), ReadStop>
         requires { p.0 < pages self.old }
         ensures page { OnOk result (IfSome (image self.old) (λ image. into.new.bytes ≡ page image p.0)) }
-        ensures fault { FaultHasCause p.0 (faults self.old) (faults self.new) (failed self.new) result }
+        ensures cause { StopHasCause (faults self.old) (faults self.new) (failed self.new) (ended self.new) result }
+        ensures named { NamesOnly p.0 result }
         ensures failed { KeepsFailed (failed self.old) (failed self.new) result }
-        ensures end { EndHasCause (ended self.new) result }
         ensures ended { IsTrue (ended self.old) → IsTrue (ended self.new) }
         ensures faults { faults self.old ≤ faults self.new }
         ensures pages { pages self.new ≡ pages self.old }

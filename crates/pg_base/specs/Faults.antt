@@ -6,5 +6,5 @@ use Rattle.std.proofs.Common.{arith}
 abbrev pub Rose : ℕ → ℕ → Type 0
 Rose before now = min (before + 1) (2 ^ 64 - 1) ≤ now
 
-pub Rose-earlier : (a b c : ℕ) → a ≤ b → Rose b c → Rose a c
-Rose-earlier a b c h r = omega arith
+pub rose_earlier : (a b c : ℕ) → a ≤ b → Rose b c → Rose a c
+rose_earlier a b c h r = omega arith

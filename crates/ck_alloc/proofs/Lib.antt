@@ -1,0 +1,3 @@
+pub mod Catalogs
+pub mod Gathering
+pub mod Together

@@ -1,0 +1,14 @@
+//! The check of a still file without tables: its system pages, the bits of its maps, and the bytes of
+//! the report.
+#![tactic(auto)]
+
+mod catalog;
+
+mod maps;
+mod order;
+mod system;
+
+pub use catalog::{has_table, passes_catalog};
+
+pub use spec_check::{CheckError, CheckReport, TableLine};
+pub use system::is_page_of;

@@ -1,5 +1,5 @@
 -- A list of errors that grows by one rule after another.
-use Rattle.std.proofs.Common.{◌≡◌, ◌⊎◌, List, [], Contains, inl, inr, ⊎_elim, subst, rules}
+use Rattle.std.proofs.Common.{◌≡◌, ◌⊎◌, ◌<◌, List, [], ◌∷◌, length, refl, arith, Contains, inl, inr, ⊎_elim, subst, rules}
 use Rattle.spec_check.specs.declared.report.CheckError.{CheckError}
 use Rattle.ck_alloc.specs.Gathered.{Gathers, Adds}
 
@@ -30,3 +30,22 @@ adds_not xs P E never = record {
   kept = λ x c. c;
   complete = λ x s. absurd (never s.0);
 }
+
+-- no other rule's errors stand beside the first rule's
+pub alone : (xs : List CheckError) (P Q : CheckError → Type 0) → 0 < length xs → Gathers xs P
+    → Gathers xs (λ x. P x ⊎ (((y : CheckError) → P y → ⊥) × Q x))
+alone [] P Q some h = absurd (omega (arith, some))
+alone (y ∷ ys) P Q some h = record {
+  sound = λ x c. inl (h.sound x c);
+  complete = λ x s. ⊎_elim (λ first. h.complete x first) (λ other. absurd (other.0 y (h.sound y (0, some, refl)))) s;
+}
+
+-- where the first rule has no errors, the other rule's stand
+pub only : (none xs : List CheckError) (P Q : CheckError → Type 0) → length none ≡ 0 → Gathers none P → Gathers xs Q
+    → Gathers xs (λ x. P x ⊎ (((y : CheckError) → P y → ⊥) × Q x))
+only none xs P Q empty h m = record {
+  sound = λ x c. inr (λ y first. never y first, m.sound x c);
+  complete = λ x s. ⊎_elim (λ first. absurd (never x first)) (λ other. m.complete x other.1) s;
+} where
+  never : (y : CheckError) → P y → ⊥
+  never y first = let member = h.complete y first in let below = member.1 in omega (arith, below, empty)

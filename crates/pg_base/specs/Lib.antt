@@ -1,2 +1,4 @@
 pub mod Faults
+pub mod NumberLaws
+pub mod Numbers
 pub mod Reading

@@ -2,3 +2,4 @@ pub mod Faults
 pub mod NumberLaws
 pub mod Numbers
 pub mod Reading
+pub mod Zeros

@@ -3,6 +3,15 @@
 //! tell nothing. Each counts its failures.
 #![tactic(auto)]
 
+mod count;
 mod device;
+mod file;
+mod memory;
+mod pieces;
 
 pub use device::{DeviceFailed, LogFile, LogStop, Sink, Source, Volume};
+pub use file::{FileLog, FileSource, FileVolume, StdoutSink};
+pub use memory::{FailAt, MemLog, MemSink, MemSource, MemVolume};
+
+#[cfg(test)]
+mod tests;

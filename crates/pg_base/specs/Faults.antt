@@ -6,5 +6,10 @@ use Rattle.std.proofs.Common.{arith}
 abbrev pub Rose : ℕ → ℕ → Type 0
 Rose before now = min (before + 1) (2 ^ 64 - 1) ≤ now
 
-pub rose_earlier : (a b c : ℕ) → a ≤ b → Rose b c → Rose a c
-rose_earlier a b c h r = omega arith
+-- a count that has risen since some call has risen since any call before it
+pub Rose-earlier : (a b c : ℕ) → a ≤ b → Rose b c → Rose a c
+Rose-earlier a b c h r = omega arith
+
+-- a count that had risen after some call has risen after any call that follows
+pub Rose-later : (a b c : ℕ) → Rose a b → b ≤ c → Rose a c
+Rose-later a b c r h = omega arith

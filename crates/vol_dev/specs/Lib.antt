@@ -1,0 +1,4 @@
+pub mod Devices
+pub mod DeviceLaws
+pub mod Lines
+pub mod Memory

@@ -1,7 +1,6 @@
 // The check of a still file, from its pages to the report.
 ghost use Rattle.std.specs.Prelude.{◌≡◌, ◌+◌, ◌*◌, ◌/◌, ◌<◌, ◌≤◌, IfOk, IfSome, IsTrue};
 ghost use Rattle.spec_file.specs.declared.geometry.Geometry.TheVariants.{Small};
-ghost use Rattle.spec_file.specs.Image.{page};
 ghost use Rattle.pg_base.specs.Reading.{StopHasCause};
 ghost use Rattle.spec_check.specs.Errors.{Lists};
 ghost use Rattle.spec_check.specs.Written.{IsCheckOf};
@@ -11,25 +10,10 @@ ghost use Rattle.ck_alloc.specs.SystemParts.{AreOf, StandsByPages};
 use crate::maps::both_map_errors;
 use crate::order::in_order;
 use crate::system::{SystemPages, system_errors};
-use pg_base::{NoMemory, Page, PageNo, ReadStop, SnapReader};
+use pg_base::{NoMemory, PageNo, ReadStop, SnapReader, read_page};
 use spec_check::{CheckError, CheckReport};
 use sqlite_items::Items;
 use std::alloc::Global;
-
-fn read_page<R: SnapReader>(alloc: Global, reader: &mut R, p: PageNo) -> Result<Box<Page>, ReadStop>
-    requires { p.0 < R.pages reader.old }
-    ensures page { IfOk result (λ found. IfSome (R.image reader.old) (λ image. found.value.bytes ≡ page image p.0)) }
-    ensures cause { StopHasCause (R.faults reader.old) (R.faults reader.new) (R.failed reader.new) (R.ended reader.new) result }
-    ensures ended { IsTrue (R.ended reader.old) → IsTrue (R.ended reader.new) }
-    ensures faults { R.faults reader.old ≤ R.faults reader.new }
-    ensures pages { R.pages reader.new ≡ R.pages reader.old }
-    ensures image { R.image reader.new ≡ R.image reader.old }
-    ensures bound { R.bound reader.new ≡ R.bound reader.old }
-{
-    let mut page = Page::zeroed(alloc)?;
-    reader.page(p, &mut page)?;
-    Ok(page)
-}
 
 fn read_system_pages<R: SnapReader>(alloc: Global, reader: &mut R) -> Result<SystemPages, ReadStop>
     requires { 16 ≤ R.pages reader.old }

@@ -164,13 +164,10 @@ impl LogFile for MemLog {
             Some(most) => bytes.len().min(most as usize),
             None => bytes.len(),
         };
-        if self.bytes.extend_from_slice(&bytes[..taken]).is_err() {
-            return Err(self.faults.failed());
+        match self.bytes.extend_from_slice(&bytes[..taken]) {
+            Ok(()) if taken == bytes.len() => Ok(()),
+            _ => Err(self.faults.failed()),
         }
-        if taken < bytes.len() {
-            return Err(self.faults.failed());
-        }
-        Ok(())
     }
 }
 

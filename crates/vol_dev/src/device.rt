@@ -3,9 +3,12 @@ ghost use Rattle.std.specs.Option.{ForSome};
 ghost use Rattle.std.specs.Io.KnownBytes.{append_known, prepend_known, IsAtEnd};
 ghost use Rattle.spec_file.specs.Image.{page_at};
 ghost use Rattle.pg_base.specs.Faults.{Rose};
-ghost use Rattle.vol_dev.specs.Devices.{longest_log, HasPage, FitsPage, WroteFront, MayHaveSpoiled, with_known_page};
+ghost use Rattle.vol_dev.specs.Devices.{HasPage, FitsPage, WroteFront, MayHaveSpoiled, with_known_page};
 
 use pg_base::{Page, PageNo};
+
+/// The most bytes that a log may have when it is opened (this project's own).
+pub const LONGEST_LOG: u64 = 536_870_912;
 
 /// A device failed in this call, and counted it.
 #[derive(Clone, Copy, Debug, PartialEq, Eq)]
@@ -49,7 +52,7 @@ pub trait Volume {
 pub enum LogStop {
     /// The log's device failed.
     Failed,
-    /// The log has more than 536,870,912 bytes.
+    /// The log has more than `LONGEST_LOG` bytes.
     TooLong,
     NoMemory,
 }
@@ -69,9 +72,9 @@ pub trait LogFile {
         ensures same { contents self.new ≡ contents self.old }
 
         // `TooLong` comes exactly where the log is too long and this call met no failure.
-        ensures too_long { IsErrOf result LogStop.TooLong → IfSome (contents self.old) (λ bytes. longest_log < length bytes) }
+        ensures too_long { IsErrOf result LogStop.TooLong → IfSome (contents self.old) (λ bytes. LONGEST_LOG < length bytes) }
         ensures no_fault { IsErrOf result LogStop.TooLong → faults self.new ≡ faults self.old }
-        ensures refused { IfSome (contents self.old) (λ bytes. longest_log < length bytes
+        ensures refused { IfSome (contents self.old) (λ bytes. LONGEST_LOG < length bytes
             → IsErrOf result LogStop.TooLong ⊎ IsErrOf result LogStop.Failed) }
 
         ensures fault { IsErrOf result LogStop.Failed → Rose (faults self.old) (faults self.new) }

@@ -4,14 +4,11 @@ ghost use Rattle.std.specs.Prelude.{◌≡◌, ◌≤◌, length, drop, None, If
 
 use crate::count::FaultCount;
 use crate::pieces::copy_front;
-use crate::{DeviceFailed, LogFile, LogStop, Sink, Source, Volume};
+use crate::{DeviceFailed, LONGEST_LOG, LogFile, LogStop, Sink, Source, Volume};
 use pg_base::{PAGE_SIZE, Page, PageNo};
 use std::fs::OpenOptions;
 use std::io::{Read, Seek, SeekFrom, Write};
 use std::rt::Files;
-
-// The most bytes that a log may have when it is opened.
-const LONGEST_LOG: u64 = 536_870_912;
 
 // The most bytes that a source reads at a time.
 const PIECE: usize = 4096;

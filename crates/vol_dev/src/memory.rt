@@ -4,12 +4,9 @@ ghost use Rattle.vol_dev.specs.Devices.{with_page};
 
 use crate::count::FaultCount;
 use crate::pieces::copy_front;
-use crate::{DeviceFailed, LogFile, LogStop, Sink, Source, Volume};
+use crate::{DeviceFailed, LONGEST_LOG, LogFile, LogStop, Sink, Source, Volume};
 use pg_base::{PAGE_SIZE, Page, PageNo};
 use std::alloc::{AllocError, Global};
-
-// The most bytes that a log may have when it is opened.
-const LONGEST_LOG: usize = 536_870_912;
 
 /// Where a data file in memory is to fail: the `nth` read, or write, of that page, from 1.
 #[derive(Clone, Copy, Debug, PartialEq, Eq)]
@@ -147,7 +144,7 @@ impl LogFile for MemLog {
             let _ = self.faults.failed();
             return Err(LogStop::Failed);
         }
-        if self.bytes.len() > LONGEST_LOG {
+        if self.bytes.len() as u64 > LONGEST_LOG {
             return Err(LogStop::TooLong);
         }
         match Vec::from_slice(*into.allocator(), &self.bytes) {

@@ -8,5 +8,5 @@ returns-in_default-clause-err c =
     let held = c.args.self.now.bytes.items in
     let taken = c.match-self.taken in
     let grown : c.extend_from_slice.new.self.items ≡ cond (is_ok c.extend_from_slice.result) (held ++ take taken c.args.bytes.now) held =
-        grind (arith, common_steps) in
+    grind (arith, common_steps) in
     front_if (is_ok c.extend_from_slice.result) held _ _ taken grown

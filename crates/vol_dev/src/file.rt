@@ -90,18 +90,14 @@ impl<F: Read + Write + Seek + Drop> LogFile for FileLog<F> {
 
     fn read_all(&mut self, into: &mut Vec<u8>) -> Result<(), LogStop> {
         let Some(size) = size_of_file(&mut self.file) else {
-            let _ = self.faults.failed();
-            return Err(LogStop::Failed);
+            return Err(self.faults.failed().into());
         };
         if size > LONGEST_LOG {
             return Err(LogStop::TooLong);
         }
-        let Ok(mut bytes) = vec![in *into.allocator(); 0u8; size as usize] else {
-            return Err(LogStop::NoMemory);
-        };
+        let mut bytes = vec![in *into.allocator(); 0; size as usize]?;
         let Some(()) = read_at(&mut self.file, 0, &mut bytes) else {
-            let _ = self.faults.failed();
-            return Err(LogStop::Failed);
+            return Err(self.faults.failed().into());
         };
         *into = bytes;
         Ok(())

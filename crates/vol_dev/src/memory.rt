@@ -1,4 +1,5 @@
-// The devices in memory. They tell what they hold, and fail where they were told to.
+// The devices in memory. They tell what they hold, and fail where they were told to. A write or append
+// that finds no memory to grow counts as a failure.
 ghost use Rattle.std.specs.Prelude.{◌≡◌, ◌+◌, ◌*◌, ◌≤◌, ◌<◌, min, length, [], ◌++◌, take, drop, vec_len, Some, OnOk, OnErr};
 ghost use Rattle.vol_dev.specs.Devices.{with_page};
 
@@ -141,19 +142,13 @@ impl LogFile for MemLog {
 
     fn read_all(&mut self, into: &mut Vec<u8>) -> Result<(), LogStop> {
         if self.fail_read {
-            let _ = self.faults.failed();
-            return Err(LogStop::Failed);
+            return Err(self.faults.failed().into());
         }
         if self.bytes.len() as u64 > LONGEST_LOG {
             return Err(LogStop::TooLong);
         }
-        match Vec::from_slice(*into.allocator(), &self.bytes) {
-            Ok(bytes) => {
-                *into = bytes;
-                Ok(())
-            }
-            Err(_) => Err(LogStop::NoMemory),
-        }
+        *into = Vec::from_slice(*into.allocator(), &self.bytes)?;
+        Ok(())
     }
 
     fn append(&mut self, bytes: &[u8]) -> Result<(), DeviceFailed> {

@@ -3,10 +3,6 @@ use Rattle.std.specs.Prelude.{◌≡◌, ◌⊎◌, ℕ, ◌+◌, ◌*◌, ◌�
 use Rattle.std.specs.Io.KnownBytes.{append_known}
 use Rattle.spec_file.specs.Image.{page_size}
 
--- bytes that a log may have when it is opened (this project's own)
-abbrev pub longest_log : ℕ
-longest_log = 536870912
-
 -- told bytes have grown by a front of these
 pub record WroteFront (old new : Option (List ℕ)) (bytes : List ℕ) : Type 0 where
   pub front : List ℕ

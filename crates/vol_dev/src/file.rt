@@ -4,14 +4,11 @@ ghost use Rattle.std.specs.Prelude.{◌≡◌, ◌≤◌, length, drop, None, If
 
 use crate::count::FaultCount;
 use crate::pieces::copy_front;
-use crate::{DeviceFailed, LogFile, LogStop, Sink, Source, Volume};
+use crate::{DeviceFailed, LONGEST_LOG, LogFile, LogStop, Sink, Source, Volume};
 use pg_base::{PAGE_SIZE, Page, PageNo};
 use std::fs::OpenOptions;
 use std::io::{Read, Seek, SeekFrom, Write};
 use std::rt::Files;
-
-// The most bytes that a log may have when it is opened.
-const LONGEST_LOG: u64 = 536_870_912;
 
 // The most bytes that a source reads at a time.
 const PIECE: usize = 4096;
@@ -93,18 +90,14 @@ impl<F: Read + Write + Seek + Drop> LogFile for FileLog<F> {
 
     fn read_all(&mut self, into: &mut Vec<u8>) -> Result<(), LogStop> {
         let Some(size) = size_of_file(&mut self.file) else {
-            let _ = self.faults.failed();
-            return Err(LogStop::Failed);
+            return Err(self.faults.failed().into());
         };
         if size > LONGEST_LOG {
             return Err(LogStop::TooLong);
         }
-        let Ok(mut bytes) = vec![in *into.allocator(); 0u8; size as usize] else {
-            return Err(LogStop::NoMemory);
-        };
+        let mut bytes = vec![in *into.allocator(); 0; size as usize]?;
         let Some(()) = read_at(&mut self.file, 0, &mut bytes) else {
-            let _ = self.faults.failed();
-            return Err(LogStop::Failed);
+            return Err(self.faults.failed().into());
         };
         *into = bytes;
         Ok(())

@@ -1,15 +1,13 @@
-// The devices in memory. They tell what they hold, and fail where they were told to.
+// The devices in memory. They tell what they hold, and fail where they were told to. A write or append
+// that finds no memory to grow counts as a failure.
 ghost use Rattle.std.specs.Prelude.{◌≡◌, ◌+◌, ◌*◌, ◌≤◌, ◌<◌, min, length, [], ◌++◌, take, drop, vec_len, Some, OnOk, OnErr};
 ghost use Rattle.vol_dev.specs.Devices.{with_page};
 
 use crate::count::FaultCount;
 use crate::pieces::copy_front;
-use crate::{DeviceFailed, LogFile, LogStop, Sink, Source, Volume};
+use crate::{DeviceFailed, LONGEST_LOG, LogFile, LogStop, Sink, Source, Volume};
 use pg_base::{PAGE_SIZE, Page, PageNo};
 use std::alloc::{AllocError, Global};
-
-// The most bytes that a log may have when it is opened.
-const LONGEST_LOG: usize = 536_870_912;
 
 /// Where a data file in memory is to fail: the `nth` read, or write, of that page, from 1.
 #[derive(Clone, Copy, Debug, PartialEq, Eq)]
@@ -144,19 +142,13 @@ impl LogFile for MemLog {
 
     fn read_all(&mut self, into: &mut Vec<u8>) -> Result<(), LogStop> {
         if self.fail_read {
-            let _ = self.faults.failed();
-            return Err(LogStop::Failed);
+            return Err(self.faults.failed().into());
         }
-        if self.bytes.len() > LONGEST_LOG {
+        if self.bytes.len() as u64 > LONGEST_LOG {
             return Err(LogStop::TooLong);
         }
-        match Vec::from_slice(*into.allocator(), &self.bytes) {
-            Ok(bytes) => {
-                *into = bytes;
-                Ok(())
-            }
-            Err(_) => Err(LogStop::NoMemory),
-        }
+        *into = Vec::from_slice(*into.allocator(), &self.bytes)?;
+        Ok(())
     }
 
     fn append(&mut self, bytes: &[u8]) -> Result<(), DeviceFailed> {
@@ -164,13 +156,10 @@ impl LogFile for MemLog {
             Some(most) => bytes.len().min(most as usize),
             None => bytes.len(),
         };
-        if self.bytes.extend_from_slice(&bytes[..taken]).is_err() {
-            return Err(self.faults.failed());
+        match self.bytes.extend_from_slice(&bytes[..taken]) {
+            Ok(()) if taken == bytes.len() => Ok(()),
+            _ => Err(self.faults.failed()),
         }
-        if taken < bytes.len() {
-            return Err(self.faults.failed());
-        }
-        Ok(())
     }
 }
 

@@ -1,10 +1,12 @@
-use Rattle.std.proofs.Common.{◌≡◌, ◌++◌, take, arith}
+use Rattle.std.proofs.Common.{◌≡◌, ◌++◌, take, is_ok, cond, arith}
 use Rattle.std.proofs.lemmas.Grind.{common_steps}
-use Rattle.vol_dev.specs.DeviceLaws.{WroteFront-take}
+use Rattle.vol_dev.proofs.Moves.{front_if}
 use Rattle.vol_dev.proofs.memory.MemLogLogFile.append.Goals as goal
 
-pub returns-then-taken-bytes-clause-err : goal.returns-then-taken-bytes-clause-err
-returns-then-taken-bytes-clause-err c =
+pub returns-in_default-clause-err : goal.returns-in_default-clause-err
+returns-in_default-clause-err c =
+    let held = c.args.self.now.bytes.items in
     let taken = c.match-self.taken in
-    let grown : c.extend_from_slice.new.self.items ≡ c.args.self.now.bytes.items ++ take taken c.args.bytes.now = grind (arith, common_steps) in
-    WroteFront-take _ _ _ taken grown
+    let grown : c.extend_from_slice.new.self.items ≡ cond (is_ok c.extend_from_slice.result) (held ++ take taken c.args.bytes.now) held =
+    grind (arith, common_steps) in
+    front_if (is_ok c.extend_from_slice.result) held _ _ taken grown

@@ -4,7 +4,8 @@ ghost use Rattle.spec_file.specs.declared.geometry.Geometry.TheVariants.{Small};
 ghost use Rattle.spec_file.specs.FileForm.{size_passes, header_passes, version_passes, geometry_of, count_passes};
 ghost use Rattle.checkdb_top.specs.Form.{Opens, HasTables};
 
-use ck_alloc::{has_table, is_page_of, passes_catalog};
+use ck_alloc::is_page_of;
+use db_cat::{catalog_passes, has_table};
 use pg_base::{Geometry, Page, u16_at, u32_at};
 
 const MAGIC: [u8; 8] = *b"PGCHKDB1";
@@ -59,7 +60,7 @@ fn opens_small(first: &Page, pages: u32) -> bool
 fn has_tables(boot: &Page) -> bool
     ensures { IsTrue result ↔ HasTables boot.now.bytes }
 {
-    is_page_of(boot, 13, 9) && passes_catalog(boot) && has_table(boot)
+    is_page_of(boot, 13, 9) && catalog_passes(boot) && has_table(boot)
 }
 
 /// Whether pages 0 and 9 are those of a small file without tables, or of one whose system pages are

@@ -1,4 +1,3 @@
-pub mod Catalogs
 pub mod Gathering
 pub mod Together
 pub mod Images

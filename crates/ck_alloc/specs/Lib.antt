@@ -1,4 +1,3 @@
-pub mod CatalogParts
 pub mod Gathered
 pub mod MapParts
 pub mod SystemParts

@@ -2,14 +2,12 @@
 //! the report.
 #![tactic(auto)]
 
-mod catalog;
 mod check;
 mod maps;
 mod order;
 mod system;
 mod text;
 
-pub use catalog::{has_table, passes_catalog};
 pub use check::check_still;
 pub use spec_check::{CheckError, CheckReport, TableLine};
 pub use system::is_page_of;

@@ -1,29 +1,20 @@
 // The bits of map pages, and the errors that they show.
 ghost use Rattle.std.specs.Prelude.{◌≡◌, ◌+◌, ◌*◌, ◌/◌, ◌<◌, ◌≤◌, ◌&&◌, IfOk};
-ghost use Rattle.spec_file.specs.Image.{bit};
+ghost use Rattle.spec_file.specs.Image.{bit as bit_of};
 ghost use Rattle.spec_check.specs.Maps.{both_maps};
 ghost use Rattle.ck_alloc.specs.Gathered.{Gathers};
 ghost use Rattle.ck_alloc.specs.MapParts.{HasBothBits};
 
 use pg_base::{NoMemory, Page};
+use pg_maps::bit;
 use spec_check::CheckError;
 use std::alloc::Global;
 
-const BITS_START: usize = 96;
-
-fn is_bit_set(page: &Page, n: u32) -> bool
-    requires { n < 63904 }
-    ensures { result ≡ bit page.now.bytes n }
-{
-    let byte = page.bytes[BITS_START + n as usize / 8];
-    (byte >> (n % 8)) & 1 == 1
-}
-
 fn is_in_both(gam: &Page, sgam: &Page, extent: u32) -> bool
     requires { extent < 63904 }
-    ensures { result ≡ (bit gam.now.bytes extent && bit sgam.now.bytes extent) }
+    ensures { result ≡ (bit_of gam.now.bytes extent && bit_of sgam.now.bytes extent) }
 {
-    is_bit_set(gam, extent) && is_bit_set(sgam, extent)
+    bit(gam, extent) && bit(sgam, extent)
 }
 
 fn both_maps_error(extent: u32) -> CheckError

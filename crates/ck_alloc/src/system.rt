@@ -7,7 +7,7 @@ ghost use Rattle.spec_check.specs.System.{IsWrong, IsErrorOf, wrong_page, wrong_
 ghost use Rattle.ck_alloc.specs.Gathered.{Gathers, Adds};
 ghost use Rattle.ck_alloc.specs.SystemParts.{GivesError, IsErrorOfPages};
 
-use crate::catalog::passes_catalog;
+use db_cat::catalog_passes;
 use pg_base::{NoMemory, Page, read_header};
 use spec_check::CheckError;
 use std::alloc::Global;
@@ -40,7 +40,7 @@ fn is_wrong_map(page: &Page, page_type: u8, p: u32) -> bool
 fn is_wrong_boot(page: &Page) -> bool
     ensures { IsTrue result ↔ IsWrong Small 9 page.now.bytes }
 {
-    !(is_page_of(page, 13, 9) && passes_catalog(page))
+    !(is_page_of(page, 13, 9) && catalog_passes(page))
 }
 
 fn wrong_page_error(p: u32, page_type: u8) -> CheckError

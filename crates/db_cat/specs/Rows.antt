@@ -1,5 +1,5 @@
 -- The rows of a catalog as its reader gives them.
-use Rattle.std.specs.Prelude.{ℕ, Result, Ok, Err, List, ⊤, string_bytes}
+use Rattle.std.specs.Prelude.{ℕ, Result, Ok, Err, List, string_bytes}
 use Rattle.spec_file.specs.Catalog.{PassesCatalog}
 use Rattle.spec_file.specs.CatalogRows.{CatalogRow}
 use Rattle.db_cat.specs.declared.rows.CatRow.{CatRow}
@@ -16,8 +16,8 @@ row_of row = record {
   root = row.root.0;
 }
 
--- the catalog is called bad only where it fails its test
+-- the catalog is called bad where it fails its test, and only there: want of memory comes after it passed
 abbrev pub BadExactly : {T : Type 0} → List ℕ → Result T CatStop → Type 0
 BadExactly boot (Err Bad) = ¬ (PassesCatalog boot)
-BadExactly boot (Err NoMemory) = ⊤
-BadExactly boot (Ok rows) = ⊤
+BadExactly boot (Err NoMemory) = PassesCatalog boot
+BadExactly boot (Ok rows) = PassesCatalog boot

@@ -1,5 +1,5 @@
 // One entry of the catalog: 40 bytes.
-ghost use Rattle.std.specs.Prelude.{◌≡◌, ◌==◌, ◌&&◌, ◌<◌, ◌+◌, drop, length, nat_le, not, slice_range};
+ghost use Rattle.std.specs.Prelude.{◌≡◌, ◌==◌, ◌<◌, ◌+◌, length, not, slice_range};
 ghost use Rattle.std.specs.List.{list_all};
 ghost use Rattle.spec_file.specs.Catalog as spec;
 
@@ -39,15 +39,21 @@ pub(crate) fn is_row(entry: &[u8]) -> bool
     requires { length entry.now ≡ 40 }
     ensures { result ≡ spec.is_row entry.now }
 {
-    has_id_kind_and_name(entry) && is_padded(entry) && ends_in_zeros(entry)
+    has_id(entry) && has_kind(entry) && has_name(entry) && is_zeros(&entry[32..40])
 }
 
-fn has_id_kind_and_name(entry: &[u8]) -> bool
+fn has_id(entry: &[u8]) -> bool
     requires { length entry.now ≡ 40 }
-    ensures { result ≡ (not (spec.entry_id entry.now == 0) && spec.has_kind entry.now
-        && nat_le (spec.name_length entry.now) 16 && spec.is_name (spec.entry_name entry.now)) }
+    ensures { result ≡ not (spec.entry_id entry.now == 0) }
 {
-    u32_at(entry, 0) != 0 && has_kind(entry) && entry[5] <= 16 && is_name(name_of(entry))
+    u32_at(entry, 0) != 0
+}
+
+fn has_name(entry: &[u8]) -> bool
+    requires { length entry.now ≡ 40 }
+    ensures { result ≡ spec.has_name entry.now }
+{
+    entry[5] <= 16 && is_name(name_of(entry)) && is_padded(entry)
 }
 
 // The name is followed by zeros.
@@ -57,14 +63,6 @@ fn is_padded(entry: &[u8]) -> bool
 {
     let end = 6 + entry[5] as usize;
     end >= 24 || is_zeros(&entry[end..24])
-}
-
-// Nothing stands behind the root.
-fn ends_in_zeros(entry: &[u8]) -> bool
-    requires { length entry.now ≡ 40 }
-    ensures { result ≡ spec.is_zeros (drop 32 entry.now) }
-{
-    is_zeros(&entry[32..])
 }
 
 fn has_kind(entry: &[u8]) -> bool

@@ -31,7 +31,6 @@ pub enum CatStop {
 
 /// The objects of page 9, in the order of their entries.
 pub fn read_catalog(alloc: Global, page: &Page) -> Result<Vec<CatRow>, CatStop>
-    ensures passes { OnOk result (spec.PassesCatalog page.now.bytes) }
     ensures rows { IfOk result (λ rows. map row_of rows.items ≡ rows_of page.now.bytes) }
     ensures bad { BadExactly page.now.bytes result }
 {

@@ -1,3 +1,4 @@
 pub mod Atoms
 pub mod Holders
 pub mod LawAtAtom
+pub mod LawSteps

@@ -2,3 +2,5 @@ pub mod Atoms
 pub mod Holders
 pub mod LawAtAtom
 pub mod LawSteps
+pub mod Reading
+pub mod ReadLogs

@@ -4,3 +4,5 @@ pub mod LawAtAtom
 pub mod LawSteps
 pub mod Reading
 pub mod ReadLogs
+pub mod Guards
+pub mod Views

@@ -219,7 +219,7 @@ start_step k b opened h session index tran number changes size takes r follows l
     ]
 
 -- who took the guard is a transaction
-taken_above : (k : Atom) (g : List Record) (t : ℕ) → RulesAt k g → has_taken g t k.guard ≡ true → ltb 0 t ≡ true
+pub taken_above : (k : Atom) (g : List Record) (t : ℕ) → RulesAt k g → has_taken g t k.guard ≡ true → ltb 0 t ≡ true
 taken_above k [] t r e = absurd (false≢true e)
 taken_above k (x ∷ g) t r e =
     elim (or_cases (takes_it t k.guard x) (has_taken g t k.guard) e) [ inl a ↦ (taken_free k x g t r.0 a).0 | inr a ↦ taken_above k g t r.1 a ]

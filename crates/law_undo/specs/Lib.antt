@@ -6,3 +6,6 @@ pub mod Reading
 pub mod ReadLogs
 pub mod Guards
 pub mod Views
+pub mod Laws
+pub mod CellAtoms
+pub mod Law

@@ -1,0 +1,118 @@
+-- The laws on whole images, atom by atom.
+use Rattle.std.proofs.Common.{◌≡◌, ℕ, zero, suc, ◌+◌, ◌-◌, ◌*◌, ◌/◌, ◌%◌, ◌<◌, ◌≤◌, get_or, Bool, true, false, cond, eqb, ltb, leb, not, ◌&&◌, ◌||◌, List, [], ◌∷◌, ◌++◌, length, Option, Some, None, ◌⊎◌, inl, inr, refl, sym, ap, ◌∙◌, subst, arith, rules}
+use Rattle.std.specs.Prelude.{if◌then◌else◌, MatchOption, slice_index}
+use Rattle.std.specs.List.{list_any}
+use Rattle.std.specs.Int.{bit_at}
+use Rattle.std.proofs.lemmas.Bool.{true≢false, false≢true, cases_Bool, or_cases, and_parts, and_from, eqb-true, eqb-false, eq-eqb, both_ways, cond_both, or_left, or_right, ltb-true, ltb-false}
+use Rattle.std.proofs.lemmas.Nat.Bits.{same_from_bits}
+use Rattle.spec_file.specs.declared.data.Resource.{Resource}
+use Rattle.spec_file.specs.declared.data.Tran.{Tran}
+use Rattle.spec_file.specs.declared.geometry.Geometry.{Geometry}
+use Rattle.spec_file.specs.Image.{Image, page, bit, maps_start}
+use Rattle.spec_log.specs.declared.item.Cell.{Cell}
+use Rattle.spec_log.specs.declared.item.Cell.TheVariants.{Bytes, Bit}
+use Rattle.spec_log.specs.declared.item.Record.{Record}
+use Rattle.spec_log.specs.declared.item.Record.TheVariants.{Start, Change, Undo, Commit, Abort, Snap, Failed, CheckEnd}
+use Rattle.spec_log.specs.Items.{tran_of}
+use Rattle.spec_log.specs.Log.{has_ended, has_committed, has_taken, is_unfinished, IsFreeFor, left_of, holds}
+use Rattle.spec_log.specs.Cover.{byte_guard, bit_guard}
+use Rattle.spec_log.specs.Cells.{read_cell, map_bit}
+use Rattle.spec_log.specs.Rules.{HaveForm}
+use Rattle.spec_log.specs.Images.{applied, taken_back, start_image, final_image, committed_image, undone_image, view_of}
+use Rattle.spec_log.specs.Sound.{IsSound, Fits, is_old}
+use Rattle.law_undo.specs.Atoms.{Atom, read, has_atom, bit_in, over, applied_at, taken_back_at, IsQuiet, applied_at-same}
+use Rattle.law_undo.specs.Holders.{FollowsAt, RulesAt, holds_parts, unfinished_parts, one_holder, quiet_without_take}
+use Rattle.law_undo.specs.LawAtAtom.{start_at, committed_at, final_at, view_at, Chain, LawAt, not_true, quiet_or_holds}
+use Rattle.law_undo.specs.LawSteps.{FitsAt, law_step, opened_law, taken_above}
+use Rattle.law_undo.specs.Reading.{IsInside, SameShape, inside_shape, shape_trans}
+use Rattle.law_undo.specs.ReadLogs.{CellForm, cell_form, read_applied, read_taken_back, shape_applied, shape_taken_back, same_images}
+use Rattle.law_undo.specs.Guards.{atom, guard_of, first_guard, rules_at, follows_at}
+use Rattle.law_undo.specs.Views.{sound_rules, sound_forms, sound_commits, read_committed, read_view, shape_committed, shape_view, quiet_applied, NoneUndone}
+use Rattle.law_undo.specs.Laws.{UndoGivesCommitted, FileShowsBytes, FileShowsBits, UndosBringBack, NobodySeesCommitted, CommitShowsView, IsOngoing}
+use Rattle.law_undo.specs.CellAtoms.{cell_atom}
+
+-- what a Change found is what its transaction saw at each atom of the cell
+fits_at : (g : Geometry) (opened log : List Record) (b : Image) (p i j : ℕ) (x : Record) → IsInside (atom g (length b) p i j) b → IsSound g (length b) opened b (x ∷ log) →
+    FitsAt (atom g (length b) p i j) opened log (read b (atom g (length b) p i j)) x
+fits_at g opened log b p i j (Start session index tran number changes size takes) inside s = s.2
+fits_at g opened log b p i j (Change tran cell before after) inside s = (
+  s.2.0,
+  λ e.
+      let k = atom g (length b) p i j in
+      let form = cell_form cell before after s.0 in
+      sym (read_view tran.0 opened log b k (rules_at g (length b) p i j (log ++ opened) (sound_rules g (length b) opened b log s.3))
+        (sound_forms g (length b) opened b log s.3) (sound_commits g (length b) opened b log s.3) inside
+        (not_true (has_ended (log ++ opened) tran.0) (unfinished_parts (log ++ opened) tran.0 s.1.0).not_ended))
+      ∙ cell_atom (view_of tran.0 opened log b) cell before (length after) k form.as_long s.2.1 e,
+)
+fits_at g opened log b p i j (Undo tran change) inside s = s.2
+fits_at g opened log b p i j (Commit tran) inside s = s.2.0
+fits_at g opened log b p i j (Abort tran) inside s = s.2
+fits_at g opened log b p i j (Snap session index) inside s = tt
+fits_at g opened log b p i j (Failed session index page) inside s = tt
+fits_at g opened log b p i j (CheckEnd session index outcome) inside s = tt
+
+pub law_at : (g : Geometry) (opened log : List Record) (b : Image) (p i j : ℕ) → IsInside (atom g (length b) p i j) b → IsSound g (length b) opened b log →
+    LawAt (atom g (length b) p i j) (read b (atom g (length b) p i j)) opened log
+law_at g opened [] b p i j inside s = opened_law (atom g (length b) p i j) (read b (atom g (length b) p i j)) opened (rules_at g (length b) p i j opened s.1)
+law_at g opened (x ∷ log) b p i j inside s =
+    law_step (atom g (length b) p i j) (read b (atom g (length b) p i j)) opened log x
+    (rules_at g (length b) p i j (log ++ opened) (sound_rules g (length b) opened b log s.3)) (follows_at g (length b) p i j (log ++ opened) x s.1)
+    (fits_at g opened log b p i j x inside s) (law_at g opened log b p i j inside s.3)
+
+pub undo_gives_committed : UndoGivesCommitted
+undo_gives_committed g opened log b s =
+    let file = final_image opened log b in
+    let same_file : SameShape b file = shape_applied (λ t. true) opened log b in
+    let forms = sound_forms g (length b) opened b log s in
+    let none = sound_commits g (length b) opened b log s in
+    same_images (guard_of g (length b)) b (undone_image opened log b) (committed_image opened log b)
+    (shape_trans b file (undone_image opened log b) same_file (shape_taken_back (is_unfinished (log ++ opened)) (log ++ opened) file))
+    (shape_committed opened log b none)
+    (λ p i j inside.
+      let k = atom g (length b) p i j in
+      read_taken_back (is_unfinished (log ++ opened)) (log ++ opened) file k forms (inside_shape k b file same_file inside)
+      ∙ ap (taken_back_at (is_unfinished (log ++ opened)) k (log ++ opened)) (read_applied (λ t. true) opened log b k forms inside)
+      ∙ (law_at g opened log b p i j inside s).undone
+      ∙ sym (read_committed opened log b k forms none inside))
+
+-- at an atom whose guard nobody else holds
+pub shows_at : (g : Geometry) (opened log : List Record) (b : Image) (t p i j : ℕ) → IsInside (atom g (length b) p i j) b → IsSound g (length b) opened b log →
+    IsOngoing opened log t → IsFreeFor (log ++ opened) t (guard_of g (length b) p i j) →
+    read (view_of t opened log b) (atom g (length b) p i j) ≡ read (final_image opened log b) (atom g (length b) p i j)
+shows_at g opened log b t p i j inside s ongoing free =
+    let k = atom g (length b) p i j in
+    let forms = sound_forms g (length b) opened b log s in
+    read_view t opened log b k (rules_at g (length b) p i j (log ++ opened) (sound_rules g (length b) opened b log s)) forms (sound_commits g (length b) opened b log s) inside ongoing.1
+    ∙ (law_at g opened log b p i j inside s).seen t ongoing.0 ongoing.1 free
+    ∙ sym (read_applied (λ t. true) opened log b k forms inside)
+
+-- past the end of a list there is its default
+pub past_end : {X : Type 0} (xs : List X) (i : ℕ) (d : X) → length xs ≤ i → get_or xs i d ≡ d
+past_end [] i d h = refl
+past_end (x ∷ xs) zero d h = absurd (omega arith)
+past_end (x ∷ xs) (suc i) d h = past_end xs i d (omega arith)
+
+-- two images of one shape agree at a byte where they agree at its bits, if it is there
+pub same_byte : (b x y : Image) (p at : ℕ) → SameShape b x → SameShape b y →
+    ((j : ℕ) → p < length b → at < length (page b p) → bit_at (slice_index (page x p) at) j ≡ bit_at (slice_index (page y p) at) j) →
+    slice_index (page x p) at ≡ slice_index (page y p) at
+same_byte b x y p at sx sy same = elim (cases_Bool (ltb p (length b))) [
+  | inr past ↦
+      let over_x : length x ≤ p = subst (λ n. n ≤ p) (sym sx.pages) (ltb-false p (length b) past) in
+      let over_y : length y ≤ p = subst (λ n. n ≤ p) (sym sy.pages) (ltb-false p (length b) past) in
+      ap (λ bytes. slice_index bytes at) (past_end x p [] over_x ∙ sym (past_end y p [] over_y))
+  | inl lt ↦ elim (cases_Bool (ltb at (length (page b p)))) [
+    | inr past ↦
+        let over_x : length (page x p) ≤ at = subst (λ n. n ≤ at) (sym (sx.bytes p)) (ltb-false at (length (page b p)) past) in
+        let over_y : length (page y p) ≤ at = subst (λ n. n ≤ at) (sym (sy.bytes p)) (ltb-false at (length (page b p)) past) in
+        past_end (page x p) at 0 over_x ∙ sym (past_end (page y p) at 0 over_y)
+    | inl lt2 ↦ same_from_bits (slice_index (page x p) at) (slice_index (page y p) at) (λ j. same j (ltb-true p (length b) lt) (ltb-true at (length (page b p)) lt2))
+  ]
+]
+
+pub file_shows_bytes : FileShowsBytes
+file_shows_bytes g opened log b t p at r s ongoing guarded free =
+    same_byte b (view_of t opened log b) (final_image opened log b) p at (shape_view t opened log b (sound_commits g (length b) opened b log s)) (shape_applied (λ t. true) opened log b)
+    (λ j lt lt2. shows_at g opened log b t p at j (record { page_in = lt; byte_in = lt2 }) s ongoing
+      (subst (IsFreeFor (log ++ opened) t) (sym (ap (λ o. first_guard o (bit_guard g (length b) p (8 * (at - maps_start) + j))) guarded)) free))

@@ -57,6 +57,24 @@ bits_alone Reserved g pages p n i log t h = refl
 bits_alone Boot g pages p n i log t h = absurd h
 bits_alone Ordinary g pages p n i log t h = absurd h
 
+pub no_byte_guard : (role : Role) (g : Geometry) (pages p n i : ℕ) (r : Resource) → bit_guard_by role g pages p n ≡ Some r → byte_guard_by role g pages p i ≡ None
+no_byte_guard FileHeader g pages p n i r h = refl
+no_byte_guard Pfs g pages p n i r h = absurd (none_some r h)
+  where
+    none_some : (r : Resource) → None ≡ Some r → ⊥
+    none_some r e = cc
+no_byte_guard Gam g pages p n i r h = refl
+no_byte_guard Sgam g pages p n i r h = refl
+no_byte_guard Reserved g pages p n i r h = refl
+no_byte_guard Boot g pages p n i r h = absurd (none_some r h)
+  where
+    none_some : (r : Resource) → None ≡ Some r → ⊥
+    none_some r e = cc
+no_byte_guard Ordinary g pages p n i r h = absurd (none_some r h)
+  where
+    none_some : (r : Resource) → None ≡ Some r → ⊥
+    none_some r e = cc
+
 place_in : (off i : ℕ) → off ≤ i → off + (i - off) ≡ i
 place_in off i h = omega arith
 

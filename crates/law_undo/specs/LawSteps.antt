@@ -230,13 +230,13 @@ taken_holds k g t r open_now taken =
     and_from (is_unfinished g t) (has_taken g t k.guard)
     (unfinished_from g t (record { above = taken_above k g t r taken; started = taken_started g t k.guard taken; not_ended = ap not open_now })) taken
 
-eqb_sym : (a b : ℕ) → eqb a b ≡ eqb b a
+pub eqb_sym : (a b : ℕ) → eqb a b ≡ eqb b a
 eqb_sym a b = elim (cases_Bool (eqb a b)) [
   | inl e ↦ e ∙ sym (eq-eqb b a (sym (eqb-true a b e)))
   | inr e ↦ e ∙ sym (ne_eqb b a (λ s. eqb-false a b e (sym s)))
 ]
 
-or_swap : (b c : Bool) → (b || c) ≡ (c || b)
+pub or_swap : (b c : Bool) → (b || c) ≡ (c || b)
 or_swap true true = refl
 or_swap true false = refl
 or_swap false true = refl

@@ -9,3 +9,5 @@ pub mod Views
 pub mod Laws
 pub mod CellAtoms
 pub mod Law
+pub mod Commits
+pub mod Unguarded

@@ -2,7 +2,7 @@
 use Rattle.std.proofs.Common.{◌≡◌, ℕ, zero, suc, ◌+◌, ◌-◌, ◌*◌, ◌/◌, ◌%◌, ◌<◌, ◌≤◌, Bool, true, false, cond, eqb, ltb, leb, not, ◌&&◌, ◌||◌, List, [], ◌∷◌, ◌++◌, length, Option, Some, None, ◌⊎◌, inl, inr, refl, sym, ap, ◌∙◌, subst, arith, rules}
 use Rattle.std.specs.Prelude.{if◌then◌else◌, MatchOption, IsSomeAnd}
 use Rattle.std.specs.List.{list_any}
-use Rattle.std.proofs.lemmas.Bool.{true≢false, false≢true, cases_Bool, and_parts, and_from, eqb-true, eqb-false, leb-true, ltb-true, lt-ltb}
+use Rattle.std.proofs.lemmas.Bool.{true≢false, false≢true, cases_Bool, and_parts, and_from, eqb-true, eqb-false, leb-true, ltb-true, lt-ltb, cond_both}
 use Rattle.spec_file.specs.declared.data.Resource.{Resource}
 use Rattle.spec_file.specs.declared.data.Resource.TheVariants as resource
 use Rattle.spec_file.specs.declared.data.Tran.{Tran}
@@ -17,7 +17,7 @@ use Rattle.spec_log.specs.declared.item.Record.{Record}
 use Rattle.spec_log.specs.declared.item.Record.TheVariants.{Start, Change, Undo, Commit, Abort, Snap, Failed, CheckEnd}
 use Rattle.spec_log.specs.Items.{is_same}
 use Rattle.spec_log.specs.Log.{is_unfinished, holds, IsFreeFor, greatest_of}
-use Rattle.spec_log.specs.Cover.{bit_guard, bit_guard_by, byte_guard, byte_guard_by, HoldsGuard, IsCovered}
+use Rattle.spec_log.specs.Cover.{bit_guard, bit_guard_by, in_file, byte_guard, byte_guard_by, HoldsGuard, IsCovered}
 use Rattle.spec_log.specs.Rules.{MayStart, AreFreeFor, Follows, KeepsRules}
 use Rattle.law_undo.specs.Atoms.{Atom, has_atom}
 use Rattle.law_undo.specs.Holders.{FollowsAt, RulesAt, unfinished_parts}
@@ -48,32 +48,53 @@ holds_second log t (Some r) b e h = absurd (some_none r e)
     some_none r e = cc
 
 -- a page with bits that have guards has no bytes with guards
-bits_alone : (role : Role) (g : Geometry) (pages p n i : ℕ) (log : List Record) (t : ℕ) → HoldsGuard log t (bit_guard_by role g pages p n) → byte_guard_by role g pages p i ≡ None
-bits_alone FileHeader g pages p n i log t h = refl
-bits_alone Pfs g pages p n i log t h = absurd h
-bits_alone Gam g pages p n i log t h = refl
-bits_alone Sgam g pages p n i log t h = refl
-bits_alone Reserved g pages p n i log t h = refl
-bits_alone Boot g pages p n i log t h = absurd h
-bits_alone Ordinary g pages p n i log t h = absurd h
+by_role : (role : Role) (g : Geometry) (pages p n i : ℕ) (log : List Record) (t : ℕ) → HoldsGuard log t (bit_guard_by role g pages p n) → byte_guard_by role g pages p i ≡ None
+by_role FileHeader g pages p n i log t h = refl
+by_role Pfs g pages p n i log t h = absurd h
+by_role Gam g pages p n i log t h = refl
+by_role Sgam g pages p n i log t h = refl
+by_role Reserved g pages p n i log t h = refl
+by_role Boot g pages p n i log t h = absurd h
+by_role Ordinary g pages p n i log t h = absurd h
 
-pub no_byte_guard : (role : Role) (g : Geometry) (pages p n i : ℕ) (r : Resource) → bit_guard_by role g pages p n ≡ Some r → byte_guard_by role g pages p i ≡ None
-no_byte_guard FileHeader g pages p n i r h = refl
-no_byte_guard Pfs g pages p n i r h = absurd (none_some r h)
+-- what is guarded lies in the file
+pub guarded_inside : (log : List Record) (t pages p : ℕ) (guard : Option Resource) → HoldsGuard log t (in_file pages p guard) → (p < pages) × HoldsGuard log t guard
+guarded_inside log t pages p guard h = elim (cases_Bool (ltb p pages)) [
+  | inl e ↦ (ltb-true p pages e, subst (λ s. HoldsGuard log t (if s then guard else None)) e h)
+  | inr e ↦ absurd (subst (λ s. HoldsGuard log t (if s then guard else None)) e h)
+]
+
+in_file_none : (pages p : ℕ) (guard : Option Resource) → guard ≡ None → in_file pages p guard ≡ None
+in_file_none pages p guard e = cond_both (ltb p pages) guard None (λ o. o ≡ None) (λ s. e) (λ s. refl)
+
+bits_alone : (g : Geometry) (pages p n i : ℕ) (log : List Record) (t : ℕ) → HoldsGuard log t (bit_guard g pages p n) → byte_guard g pages p i ≡ None
+bits_alone g pages p n i log t h =
+    in_file_none pages p (byte_guard_by (role_of g p) g pages p i) (by_role (role_of g p) g pages p n i log t (guarded_inside log t pages p (bit_guard_by (role_of g p) g pages p n) h).1)
+
+no_byte_guard_by : (role : Role) (g : Geometry) (pages p n i : ℕ) (r : Resource) → bit_guard_by role g pages p n ≡ Some r → byte_guard_by role g pages p i ≡ None
+no_byte_guard_by FileHeader g pages p n i r h = refl
+no_byte_guard_by Pfs g pages p n i r h = absurd (none_some r h)
   where
     none_some : (r : Resource) → None ≡ Some r → ⊥
     none_some r e = cc
-no_byte_guard Gam g pages p n i r h = refl
-no_byte_guard Sgam g pages p n i r h = refl
-no_byte_guard Reserved g pages p n i r h = refl
-no_byte_guard Boot g pages p n i r h = absurd (none_some r h)
+no_byte_guard_by Gam g pages p n i r h = refl
+no_byte_guard_by Sgam g pages p n i r h = refl
+no_byte_guard_by Reserved g pages p n i r h = refl
+no_byte_guard_by Boot g pages p n i r h = absurd (none_some r h)
   where
     none_some : (r : Resource) → None ≡ Some r → ⊥
     none_some r e = cc
-no_byte_guard Ordinary g pages p n i r h = absurd (none_some r h)
+no_byte_guard_by Ordinary g pages p n i r h = absurd (none_some r h)
   where
     none_some : (r : Resource) → None ≡ Some r → ⊥
     none_some r e = cc
+
+pub no_byte_guard : (g : Geometry) (pages p n i : ℕ) (r : Resource) → bit_guard g pages p n ≡ Some r → byte_guard g pages p i ≡ None
+no_byte_guard g pages p n i r e = elim (cases_Bool (ltb p pages)) [
+  | inl inside ↦ in_file_none pages p (byte_guard_by (role_of g p) g pages p i)
+      (no_byte_guard_by (role_of g p) g pages p n i r (sym (ap (λ s. if s then bit_guard_by (role_of g p) g pages p n else None) inside) ∙ e))
+  | inr outside ↦ ap (λ s. if s then byte_guard_by (role_of g p) g pages p i else None) outside
+]
 
 place_in : (off i : ℕ) → off ≤ i → off + (i - off) ≡ i
 place_in off i h = omega arith
@@ -102,7 +123,7 @@ covered_at g pages log t (Bit q n) size p i j covered h =
     let same : n ≡ 8 * (i - maps_start) + j = bit_place n i j (eqb-true (maps_start + n / 8) i b.0) (eqb-true (n % 8) j b.1) in
     let here : HoldsGuard log t (bit_guard g pages p (8 * (i - maps_start) + j)) =
       subst (λ m. HoldsGuard log t (bit_guard g pages p m)) same (subst (λ r. HoldsGuard log t (bit_guard g pages r n)) (eqb-true q.0 p a.0) covered) in
-    holds_second log t (byte_guard g pages p i) (bit_guard g pages p (8 * (i - maps_start) + j)) (bits_alone (role_of g p) g pages p (8 * (i - maps_start) + j) i log t here) here
+    holds_second log t (byte_guard g pages p i) (bit_guard g pages p (8 * (i - maps_start) + j)) (bits_alone g pages p (8 * (i - maps_start) + j) i log t here) here
 
 -- who takes something is a transaction
 takes_above : (log : List Record) (t : ℕ) (takes : List Resource) (r : Resource) → MayStart log t takes → list_any (is_same r) takes ≡ true → ltb 0 t ≡ true

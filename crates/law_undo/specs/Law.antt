@@ -123,7 +123,7 @@ file_shows_bytes g opened log b t p at r s ongoing guarded free =
 bit_guarded : (g : Geometry) (pages p n : ℕ) (r : Resource) → bit_guard g pages p n ≡ Some r → guard_of g pages p (maps_start + n / 8) (n % 8) ≡ r
 bit_guarded g pages p n r e =
     let place : 8 * (maps_start + n / 8 - maps_start) + n % 8 ≡ n = same_place n in
-    ap (λ o. first_guard o (bit_guard g pages p (8 * (maps_start + n / 8 - maps_start) + n % 8))) (no_byte_guard (role_of g p) g pages p n (maps_start + n / 8) r e)
+    ap (λ o. first_guard o (bit_guard g pages p (8 * (maps_start + n / 8 - maps_start) + n % 8))) (no_byte_guard g pages p n (maps_start + n / 8) r e)
     ∙ ap (λ m. first_guard None (bit_guard g pages p m)) place ∙ ap (first_guard None) e
   where
     same_place : (n : ℕ) → 8 * (maps_start + n / 8 - maps_start) + n % 8 ≡ n

@@ -38,19 +38,23 @@ bit_guard_by Gam g pages p n = extent_guard g pages p n
 bit_guard_by Sgam g pages p n = extent_guard g pages p n
 bit_guard_by other g pages p n = None
 
+-- nothing outside the file has a guard
+abbrev pub in_file : ℕ → ℕ → Option Resource → Option Resource
+in_file pages p guard = if nat_lt p pages then guard else None
+
 -- the guard of bit n of page p, of a file with so many pages
 abbrev pub bit_guard : Geometry → ℕ → ℕ → ℕ → Option Resource
-bit_guard g pages p n = bit_guard_by (role_of g p) g pages p n
+bit_guard g pages p n = in_file pages p (bit_guard_by (role_of g p) g pages p n)
 
 abbrev pub byte_guard_by : Role → Geometry → ℕ → ℕ → ℕ → Option Resource
 byte_guard_by Pfs g pages p at = pfs_guard g pages p at
-byte_guard_by Boot g pages p at = if nat_lt p pages then Some resource.Catalog else None
-byte_guard_by Ordinary g pages p at = if nat_lt p pages then Some (resource.Page (record { 0 = p })) else None
+byte_guard_by Boot g pages p at = Some resource.Catalog
+byte_guard_by Ordinary g pages p at = Some (resource.Page (record { 0 = p }))
 byte_guard_by other g pages p at = None
 
 -- the guard of the byte at an offset of page p
 abbrev pub byte_guard : Geometry → ℕ → ℕ → ℕ → Option Resource
-byte_guard g pages p at = byte_guard_by (role_of g p) g pages p at
+byte_guard g pages p at = in_file pages p (byte_guard_by (role_of g p) g pages p at)
 
 -- the transaction holds the guard that stands there
 abbrev pub HoldsGuard : List Record → ℕ → Option Resource → Type 0

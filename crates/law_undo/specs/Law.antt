@@ -34,7 +34,7 @@ use Rattle.law_undo.specs.Laws.{UndoGivesCommitted, FileShowsBytes, FileShowsBit
 use Rattle.law_undo.specs.CellAtoms.{cell_atom}
 
 -- what a Change found is what its transaction saw at each atom of the cell
-fits_at : (g : Geometry) (opened log : List Record) (b : Image) (p i j : ℕ) (x : Record) → IsInside (atom g (length b) p i j) b → IsSound g (length b) opened b (x ∷ log) →
+pub fits_at : (g : Geometry) (opened log : List Record) (b : Image) (p i j : ℕ) (x : Record) → IsInside (atom g (length b) p i j) b → IsSound g (length b) opened b (x ∷ log) →
     FitsAt (atom g (length b) p i j) opened log (read b (atom g (length b) p i j)) x
 fits_at g opened log b p i j (Start session index tran number changes size takes) inside s = s.2
 fits_at g opened log b p i j (Change tran cell before after) inside s = (

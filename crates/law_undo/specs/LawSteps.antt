@@ -414,6 +414,21 @@ opened_law k b opened r = record {
     unfinished_old : (opened : List Record) (t : ℕ) → is_unfinished opened t ≡ true → is_old opened t ≡ true
     unfinished_old opened t a = let f = unfinished_parts opened t a in and_from (ltb 0 t) (has_started opened t) f.above f.started
 
+-- what an item writes was held, and is what the file had
+pub item_writes : (k : Atom) (b : ℕ) (opened h : List Record) (x : Record) → RulesAt k (h ++ opened) → FollowsAt k (h ++ opened) x → FitsAt k opened h b x → LawAt k b opened h →
+    MatchOption (write_on (h ++ opened) k x) (Unit {0}) (Writes k b opened h (tran_of x))
+item_writes k b opened h (Start session index tran number changes size takes) r f fits law = tt
+item_writes k b opened h (Change tran cell before after) r f fits law =
+    writes_if k b opened h tran.0 (bit_in cell before k) (bit_in cell after k) (has_atom cell (length after) k) (change_writes k b opened h tran cell before after r f.1 fits law)
+item_writes k b opened h (Undo tran change) r f fits law =
+    subst (λ w. MatchOption w (Unit {0}) (Writes k b opened h tran.0)) (sym (ap (λ o. turned (named_on k o)) f.1.is_named))
+    (undo_writes k b opened h tran change r f.0 f.1 fits law (change_on k f.1.change) refl)
+item_writes k b opened h (Commit tran) r f fits law = tt
+item_writes k b opened h (Abort tran) r f fits law = tt
+item_writes k b opened h (Snap session index) r f fits law = tt
+item_writes k b opened h (Failed session index page) r f fits law = tt
+item_writes k b opened h (CheckEnd session index outcome) r f fits law = tt
+
 -- one more item
 pub law_step : (k : Atom) (b : ℕ) (opened h : List Record) (x : Record) → RulesAt k (h ++ opened) → FollowsAt k (h ++ opened) x → FitsAt k opened h b x → LawAt k b opened h → LawAt k b opened (x ∷ h)
 law_step k b opened h (Start session index tran number changes size takes) r f fits law = start_step k b opened h session index tran number changes size takes r f law

@@ -11,3 +11,4 @@ pub mod CellAtoms
 pub mod Law
 pub mod Commits
 pub mod Unguarded
+pub mod TakenParts

@@ -1,6 +1,6 @@
 -- What holds of every log that a run may make. `opened` is the log as it was found, `log` what the run
 -- has appended, and b the file as it was found.
-use Rattle.std.specs.Prelude.{◌≡◌, ℕ, ◌+◌, ◌/◌, ◌<◌, ◌==◌, ◌&&◌, Bool, true, false, nat_le, nat_lt, List, [], ◌∷◌, ◌++◌, length, slice_index, Option, Some, None}
+use Rattle.std.specs.Prelude.{◌≡◌, ◌≢◌, MatchOption, ℕ, ◌+◌, ◌/◌, ◌<◌, ◌==◌, ◌&&◌, Bool, true, false, nat_le, nat_lt, List, [], ◌∷◌, ◌++◌, length, slice_index, Option, Some, None}
 use Rattle.std.specs.List.{list_any}
 use Rattle.spec_file.specs.declared.data.Resource.{Resource}
 use Rattle.spec_file.specs.declared.data.Tran.{Tran}
@@ -10,11 +10,23 @@ use Rattle.spec_log.specs.declared.item.Cell.{Cell}
 use Rattle.spec_log.specs.declared.item.Cell.TheVariants.{Bytes, Bit}
 use Rattle.spec_log.specs.declared.item.Record.{Record}
 use Rattle.spec_log.specs.declared.item.Record.TheVariants.{Start, Change, Undo, Commit, Abort, Snap, Failed, CheckEnd}
-use Rattle.spec_log.specs.Log.{has_ended, is_unfinished, IsFreeFor, left_of}
+use Rattle.spec_log.specs.Log.{has_ended, is_unfinished, holds, holder_of, IsFreeFor, left_of}
+use Rattle.spec_log.specs.Rules.{KeepsRules}
 use Rattle.spec_log.specs.Cover.{byte_guard, bit_guard}
 use Rattle.spec_log.specs.Cells.{HasWholePages}
 use Rattle.spec_log.specs.Images.{final_image, committed_image, undone_image, view_of, damage_of, damaged_page}
 use Rattle.spec_log.specs.Sound.{IsSound, is_old}
+
+-- the one whom the log names as another holder of a resource holds it, and isn't t; where it names none,
+-- nobody but t holds it
+abbrev pub HolderIsOther : Type 0
+HolderIsOther = (log : List Record) (r : Resource) (t : ℕ) →
+    MatchOption (holder_of log r t) (IsFreeFor log t r) (λ u. (holds log u r ≡ true) × (u ≢ t))
+
+-- a resource has at most one holder
+abbrev pub HoldersAreOne : Type 0
+HoldersAreOne = (g : Geometry) (pages : ℕ) (log : List Record) (r : Resource) (t u : ℕ) → KeepsRules g pages log →
+    holds log t r ≡ true → holds log u r ≡ true → t ≡ u
 
 -- taking back what is unfinished, from the file as it stands, gives what was committed
 abbrev pub UndoGivesCommitted : Type 0

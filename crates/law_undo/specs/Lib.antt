@@ -12,3 +12,5 @@ pub mod Law
 pub mod Commits
 pub mod Unguarded
 pub mod TakenParts
+pub mod Damage
+pub mod HolderLaws

@@ -1,7 +1,13 @@
 //! Laws of the log and its images.
 #![tactic(auto)]
 
-ghost use Rattle.law_undo.specs.Laws.{UndoGivesCommitted, FileShowsBytes, FileShowsBits, UnguardedStay, UndosBringBack, NobodySeesCommitted, CommitShowsView, CommitChangesOwn, SilentItemsChangeNothing};
+ghost use Rattle.law_undo.specs.Laws.{HolderIsOther, HoldersAreOne, DamageIsOld, UndoGivesCommitted, FileShowsBytes, FileShowsBits, UnguardedStay, UndosBringBack, NobodySeesCommitted, CommitShowsView, CommitChangesOwn, SilentItemsChangeNothing};
+
+/// A resource has at most one holder, and `holder_of` names it unless it is the asker's own.
+pub fn holder_laws()
+    ensures other { HolderIsOther }
+    ensures one { HoldersAreOne }
+{}
 
 /// Taking back what is unfinished, from the file as it stands, gives the committed image.
 pub fn undo_law()
@@ -24,4 +30,10 @@ pub fn commit_laws()
     ensures view { CommitShowsView }
     ensures own { CommitChangesOwn }
     ensures silent { SilentItemsChangeNothing }
+{}
+
+/// Taking back what is unfinished meets a damaged cell exactly where the opened log's own items do, and
+/// then the same page. No item of this run does.
+pub fn damage_law()
+    ensures { DamageIsOld }
 {}

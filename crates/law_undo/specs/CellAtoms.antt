@@ -1,5 +1,5 @@
 -- What stands in a cell, atom by atom.
-use Rattle.std.proofs.Common.{◌≡◌, ℕ, zero, suc, ◌+◌, ◌-◌, ◌*◌, ◌/◌, ◌%◌, ◌<◌, ◌≤◌, min, get_or, get_or-take, get_or-drop, ext_get_or, length-take, length-drop, take, drop, inl, inr, Bool, true, false, eqb, ltb, leb, ◌&&◌, List, [], ◌∷◌, length, refl, sym, ap, ◌∙◌, subst, arith}
+use Rattle.std.proofs.Common.{◌≡◌, ℕ, ◌+◌, ◌-◌, ◌/◌, ◌%◌, ◌<◌, ◌≤◌, min, get_or, get_or-take, get_or-drop, ext_get_or, length-take, length-drop, take, drop, inl, inr, true, eqb, ltb, leb, ◌&&◌, List, [], ◌∷◌, length, refl, sym, ap, ◌∙◌, subst, arith}
 use Rattle.std.specs.Prelude.{slice_index}
 use Rattle.std.specs.Int.{bit_at}
 use Rattle.std.proofs.lemmas.Bool.{and_parts, and_from, eqb-true, eq-eqb, leb-true, le-leb, ltb-true, ltb-false, lt-ltb, cases_Bool}
@@ -10,7 +10,7 @@ use Rattle.spec_file.specs.Image.{Image, page, page_size, maps_start}
 use Rattle.spec_log.specs.declared.item.Cell.{Cell}
 use Rattle.spec_log.specs.declared.item.Cell.TheVariants.{Bytes, Bit}
 use Rattle.spec_log.specs.Items.{has_cell_form}
-use Rattle.spec_log.specs.Cells.{read_cell, map_bit}
+use Rattle.spec_log.specs.Cells.{read_cell}
 use Rattle.spec_log.specs.Images.{page_of_cell}
 use Rattle.law_undo.specs.Reading.{IsInside, SameShape}
 use Rattle.law_undo.specs.Atoms.{Atom, read, has_atom, bit_in}
@@ -76,7 +76,7 @@ in_atom q off size i low high =
 -- two images of one shape that have the same at each atom of a cell have the same in the cell
 pub same_cell : (x y : Image) (cell : Cell) (size : ℕ) (guard : ℕ → ℕ → ℕ → Resource) → SameShape x y →
     ((p i j : ℕ) → IsInside (record { page = p; byte = i; bit = j; guard = guard p i j }) x → has_atom cell size (record { page = p; byte = i; bit = j; guard = guard p i j }) ≡ true →
-        read x (record { page = p; byte = i; bit = j; guard = guard p i j }) ≡ read y (record { page = p; byte = i; bit = j; guard = guard p i j })) →
+    read x (record { page = p; byte = i; bit = j; guard = guard p i j }) ≡ read y (record { page = p; byte = i; bit = j; guard = guard p i j })) →
     read_cell x cell size ≡ read_cell y cell size
 same_cell x y (Bytes q off) size guard shape same =
     let xs = page x q.0 in
@@ -85,20 +85,20 @@ same_cell x y (Bytes q off) size guard shape same =
     ext_get_or 0 (take (off + size - off) (drop off xs)) (take (off + size - off) (drop off ys))
     (part_length xs off size ∙ ap (λ n. min size (n - off)) (sym as_long) ∙ sym (part_length ys off size))
     (λ i lt.
-      let within : i < min size (length xs - off) = subst (λ n. i < n) (part_length xs off size) lt in
-      let less : i < size = omega arith in
-      let inside : off + i < length xs = omega arith in
-      part_get xs off size i less
-      ∙ same_from_bits (get_or xs (off + i) 0) (get_or ys (off + i) 0) (λ j.
-        same q.0 (off + i) j (record { page_in = page_inside x q.0 (off + i) inside; byte_in = inside })
-          (in_atom q.0 off size (off + i) (omega arith) (omega arith)))
-      ∙ sym (part_get ys off size i less))
+    let within : i < min size (length xs - off) = subst (λ n. i < n) (part_length xs off size) lt in
+    let less : i < size = omega arith in
+    let inside : off + i < length xs = omega arith in
+    part_get xs off size i less
+    ∙ same_from_bits (get_or xs (off + i) 0) (get_or ys (off + i) 0) (λ j.
+    same q.0 (off + i) j (record { page_in = page_inside x q.0 (off + i) inside; byte_in = inside })
+    (in_atom q.0 off size (off + i) (omega arith) (omega arith)))
+    ∙ sym (part_get ys off size i less))
 same_cell x y (Bit q n) size guard shape same = ap (λ v. v ∷ []) (elim (cases_Bool (ltb (maps_start + n / 8) (length (page x q.0)))) [
   | inl e ↦
       let inside : maps_start + n / 8 < length (page x q.0) = ltb-true (maps_start + n / 8) (length (page x q.0)) e in
       same q.0 (maps_start + n / 8) (n % 8) (record { page_in = page_inside x q.0 (maps_start + n / 8) inside; byte_in = inside })
       (and_from (eqb q.0 q.0) (eqb (maps_start + n / 8) (maps_start + n / 8) && eqb (n % 8) (n % 8)) (eq-eqb q.0 q.0 refl)
-        (and_from (eqb (maps_start + n / 8) (maps_start + n / 8)) (eqb (n % 8) (n % 8)) (eq-eqb (maps_start + n / 8) (maps_start + n / 8) refl) (eq-eqb (n % 8) (n % 8) refl)))
+      (and_from (eqb (maps_start + n / 8) (maps_start + n / 8)) (eqb (n % 8) (n % 8)) (eq-eqb (maps_start + n / 8) (maps_start + n / 8) refl) (eq-eqb (n % 8) (n % 8) refl)))
   | inr e ↦
       let past_x : length (page x q.0) ≤ maps_start + n / 8 = ltb-false (maps_start + n / 8) (length (page x q.0)) e in
       let past_y : length (page y q.0) ≤ maps_start + n / 8 = subst (λ m. m ≤ maps_start + n / 8) (sym (shape.bytes q.0)) past_x in
@@ -108,9 +108,9 @@ same_cell x y (Bit q n) size guard shape same = ap (λ v. v ∷ []) (elim (cases
 -- a cell of a whole page holds the bytes of which each of its atoms holds its bit
 pub cell_shows : (image : Image) (cell : Cell) (before after : List ℕ) (guard : ℕ → ℕ → ℕ → Resource) → has_cell_form cell before after ≡ true →
     page_of_cell cell < length image → length (page image (page_of_cell cell)) ≡ page_size →
-    (bytes : List ℕ) → length bytes ≡ length after → 
+    (bytes : List ℕ) → length bytes ≡ length after →
     ((p i j : ℕ) → IsInside (record { page = p; byte = i; bit = j; guard = guard p i j }) image → has_atom cell (length after) (record { page = p; byte = i; bit = j; guard = guard p i j }) ≡ true →
-        read image (record { page = p; byte = i; bit = j; guard = guard p i j }) ≡ bit_in cell bytes (record { page = p; byte = i; bit = j; guard = guard p i j })) →
+    read image (record { page = p; byte = i; bit = j; guard = guard p i j }) ≡ bit_in cell bytes (record { page = p; byte = i; bit = j; guard = guard p i j })) →
     read_cell image cell (length bytes) ≡ bytes
 cell_shows image (Bytes q off) before after guard form page_in whole bytes long same =
     let xs = page image q.0 in
@@ -121,12 +121,12 @@ cell_shows image (Bytes q off) before after guard form page_in whole bytes long 
     let full : length (take (off + length bytes - off) (drop off xs)) ≡ length bytes = part_length xs off (length bytes) ∙ omega arith in
     ext_get_or 0 (take (off + length bytes - off) (drop off xs)) bytes full
     (λ i lt.
-      let less : i < length bytes = subst (λ n. i < n) full lt in
-      let inside : off + i < length xs = omega arith in
-      part_get xs off (length bytes) i less
-      ∙ same_from_bits (get_or xs (off + i) 0) (get_or bytes i 0) (λ j.
-        same q.0 (off + i) j (record { page_in = page_in; byte_in = inside }) (in_atom q.0 off (length after) (off + i) (omega arith) (omega arith))
-        ∙ ap (λ m. bit_at (get_or bytes m 0) j) (part_index off i)))
+    let less : i < length bytes = subst (λ n. i < n) full lt in
+    let inside : off + i < length xs = omega arith in
+    part_get xs off (length bytes) i less
+    ∙ same_from_bits (get_or xs (off + i) 0) (get_or bytes i 0) (λ j.
+    same q.0 (off + i) j (record { page_in = page_in; byte_in = inside }) (in_atom q.0 off (length after) (off + i) (omega arith) (omega arith))
+    ∙ ap (λ m. bit_at (get_or bytes m 0) j) (part_index off i)))
 cell_shows image (Bit q n) before after guard form page_in whole bytes long same =
     let a = and_parts (ltb n 63904 && eqb (length before) 1 && eqb (length after) 1) (eqb (slice_index before 0 + slice_index after 0) 1) form in
     let b = and_parts (ltb n 63904 && eqb (length before) 1) (eqb (length after) 1) a.0 in
@@ -135,8 +135,8 @@ cell_shows image (Bit q n) before after guard form page_in whole bytes long same
     let one : length bytes ≡ 1 = long ∙ eqb-true (length after) 1 b.1 in
     let inside : maps_start + n / 8 < length (page image q.0) = subst (λ m. maps_start + n / 8 < m) (sym whole) (bit_room n low) in
     ap (λ v. v ∷ []) (same q.0 (maps_start + n / 8) (n % 8) (record { page_in = page_in; byte_in = inside })
-      (and_from (eqb q.0 q.0) (eqb (maps_start + n / 8) (maps_start + n / 8) && eqb (n % 8) (n % 8)) (eq-eqb q.0 q.0 refl)
-        (and_from (eqb (maps_start + n / 8) (maps_start + n / 8)) (eqb (n % 8) (n % 8)) (eq-eqb (maps_start + n / 8) (maps_start + n / 8) refl) (eq-eqb (n % 8) (n % 8) refl))))
+    (and_from (eqb q.0 q.0) (eqb (maps_start + n / 8) (maps_start + n / 8) && eqb (n % 8) (n % 8)) (eq-eqb q.0 q.0 refl)
+    (and_from (eqb (maps_start + n / 8) (maps_start + n / 8)) (eqb (n % 8) (n % 8)) (eq-eqb (maps_start + n / 8) (maps_start + n / 8) refl) (eq-eqb (n % 8) (n % 8) refl))))
     ∙ lone bytes one
   where
     bit_room : (n : ℕ) → n < 63904 → maps_start + n / 8 < page_size

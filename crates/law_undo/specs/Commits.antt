@@ -1,29 +1,24 @@
 -- What a Commit changes, and what changes no image.
-use Rattle.std.proofs.Common.{◌≡◌, ℕ, zero, suc, ◌+◌, ◌-◌, ◌*◌, ◌/◌, ◌%◌, ◌<◌, ◌≤◌, get_or, Bool, true, false, cond, eqb, ltb, leb, not, ◌&&◌, ◌||◌, List, [], ◌∷◌, ◌++◌, length, Option, Some, None, ◌⊎◌, inl, inr, refl, sym, ap, ◌∙◌, subst, arith, rules}
-use Rattle.std.specs.Prelude.{if◌then◌else◌, MatchOption, slice_index}
+use Rattle.std.proofs.Common.{◌≡◌, ℕ, ◌+◌, ◌/◌, ◌%◌, Bool, true, false, eqb, ◌&&◌, ◌||◌, List, [], ◌∷◌, ◌++◌, length, Some, None, inl, refl, sym, ap, ◌∙◌}
+use Rattle.std.specs.Prelude.{if◌then◌else◌, slice_index}
 use Rattle.std.specs.List.{list_any}
-use Rattle.std.specs.Int.{bit_at}
-use Rattle.std.proofs.lemmas.Bool.{true≢false, false≢true, cases_Bool, or_cases, and_parts, and_from, eqb-true, eqb-false, eq-eqb, both_ways, cond_both, or_left, or_right, or_parts, false_from_ne_true}
-use Rattle.spec_file.specs.declared.data.Tran.{Tran}
-use Rattle.spec_file.specs.Image.{Image, page, maps_start}
+use Rattle.std.proofs.lemmas.Bool.{false≢true, and_parts, and_from, both_ways, or_parts}
+use Rattle.spec_file.specs.Image.{page, maps_start}
 use Rattle.spec_log.specs.declared.item.Cell.{Cell}
 use Rattle.spec_log.specs.declared.item.Cell.TheVariants.{Bytes, Bit}
 use Rattle.spec_log.specs.declared.item.Record.{Record}
 use Rattle.spec_log.specs.declared.item.Record.TheVariants.{Start, Change, Undo, Commit, Abort, Snap, Failed, CheckEnd}
-use Rattle.spec_log.specs.Items.{tran_of}
-use Rattle.spec_log.specs.Log.{has_ended, has_committed, has_undone, is_unfinished}
-use Rattle.spec_log.specs.Rules.{HaveForm, KeepsRules}
-use Rattle.spec_log.specs.Images.{apply, applied, changed, start_image, final_image, committed_image, view_of}
-use Rattle.spec_log.specs.Sound.{IsSound}
+use Rattle.spec_log.specs.Log.{has_ended, has_committed, has_undone}
+use Rattle.spec_log.specs.Images.{committed_image, view_of}
 use Rattle.law_undo.specs.Atoms.{Atom, read, has_atom, bit_in, over, write_on, applied_at, applied_at-same}
 use Rattle.law_undo.specs.Holders.{unfinished_parts}
-use Rattle.law_undo.specs.LawAtAtom.{start_at, committed_at, view_at, not_true, applied_still}
+use Rattle.law_undo.specs.LawAtAtom.{start_at, not_true, applied_still}
 use Rattle.law_undo.specs.LawSteps.{eqb_sym, or_swap}
-use Rattle.law_undo.specs.Reading.{IsInside, SameShape, inside_shape}
-use Rattle.law_undo.specs.ReadLogs.{read_applied, shape_applied, same_images}
+use Rattle.law_undo.specs.Reading.{inside_shape}
+use Rattle.law_undo.specs.ReadLogs.{read_applied, same_images}
 use Rattle.law_undo.specs.Guards.{atom, guard_of, rules_at}
 use Rattle.law_undo.specs.Views.{sound_rules, sound_forms, sound_commits, read_committed, read_view, shape_committed, shape_view}
-use Rattle.law_undo.specs.Laws.{CommitShowsView, CommitChangesOwn, SilentItemsChangeNothing, SameImages, has_byte, puts_byte, is_silent}
+use Rattle.law_undo.specs.Laws.{CommitShowsView, CommitChangesOwn, SilentItemsChangeNothing, has_byte, puts_byte}
 use Rattle.law_undo.specs.Law.{same_byte}
 
 pub commit_shows_view : CommitShowsView
@@ -36,14 +31,14 @@ commit_shows_view g opened log b tran s =
     same_images (guard_of g (length b)) b (committed_image opened whole b) (view_of tran.0 opened log b)
     (shape_committed opened whole b none) (shape_view tran.0 opened log b none_before)
     (λ p i j inside.
-      let k = atom g (length b) p i j in
-      let v = start_at k opened (read b k) in
-      read_committed opened whole b k forms none inside
-      ∙ applied_still (has_committed whole) k opened log (Commit tran) v refl
-      ∙ applied_at-same (has_committed whole) (λ u. has_committed log u || eqb u tran.0) k opened log v
-        (λ u. inl (or_swap (eqb tran.0 u) (has_committed log u) ∙ ap (λ c. has_committed log u || c) (eqb_sym tran.0 u)))
-      ∙ sym (read_view tran.0 opened log b k (rules_at g (length b) p i j (log ++ opened) (sound_rules g (length b) opened b log s.3))
-        (sound_forms g (length b) opened b log s.3) none_before inside not_ended))
+    let k = atom g (length b) p i j in
+    let v = start_at k opened (read b k) in
+    read_committed opened whole b k forms none inside
+    ∙ applied_still (has_committed whole) k opened log (Commit tran) v refl
+    ∙ applied_at-same (has_committed whole) (λ u. has_committed log u || eqb u tran.0) k opened log v
+    (λ u. inl (or_swap (eqb tran.0 u) (has_committed log u) ∙ ap (λ c. has_committed log u || c) (eqb_sym tran.0 u)))
+    ∙ sym (read_view tran.0 opened log b k (rules_at g (length b) p i j (log ++ opened) (sound_rules g (length b) opened b log s.3))
+    (sound_forms g (length b) opened b log s.3) none_before inside not_ended))
 
 -- a cell with an atom has its byte
 atom_byte : (cell : Cell) (size : ℕ) (k : Atom) → has_atom cell size k ≡ true → has_byte cell size k.page k.byte ≡ true
@@ -91,9 +86,9 @@ commit_changes_own g opened log b tran p at s puts =
     ap (λ image. slice_index (page image p) at) (commit_shows_view g opened log b tran s)
     ∙ same_byte b (view_of tran.0 opened log b) before p at (shape_view tran.0 opened log b none) shape_before
     (λ j lt lt2.
-      let k = atom g (length b) p at j in
-      read_applied (λ u. eqb u tran.0) opened log before k (sound_forms g (length b) opened b log s.3) (inside_shape k b before shape_before (record { page_in = lt; byte_in = lt2 }))
-      ∙ untouched k opened log tran.0 (read before k) puts s.2.1)
+    let k = atom g (length b) p at j in
+    read_applied (λ u. eqb u tran.0) opened log before k (sound_forms g (length b) opened b log s.3) (inside_shape k b before shape_before (record { page_in = lt; byte_in = lt2 }))
+    ∙ untouched k opened log tran.0 (read before k) puts s.2.1)
 
 pub silent_items_change_nothing : SilentItemsChangeNothing
 silent_items_change_nothing opened log b (Start session index tran number changes size takes) h =

@@ -1,20 +1,19 @@
 -- Damage is met exactly where the opened log's own items meet it.
-use Rattle.std.proofs.Common.{◌≡◌, ℕ, zero, suc, ◌+◌, ◌-◌, ◌*◌, ◌/◌, ◌%◌, ◌<◌, ◌≤◌, Bool, true, false, cond, eqb, ltb, leb, not, ◌&&◌, ◌||◌, List, [], ◌∷◌, ◌++◌, length, Option, Some, None, ◌⊎◌, inl, inr, refl, sym, ap, ◌∙◌, subst, arith, rules}
+use Rattle.std.proofs.Common.{◌≡◌, ℕ, ◌<◌, Bool, true, false, eqb, ltb, not, ◌&&◌, ◌||◌, List, [], ◌∷◌, ◌++◌, length, Option, Some, None, ◌⊎◌, inl, inr, refl, sym, ap, ◌∙◌, subst}
 use Rattle.std.specs.Prelude.{if◌then◌else◌, MatchOption, bytes_eq}
-use Rattle.std.proofs.lemmas.Bool.{true≢false, false≢true, cases_Bool, or_cases, and_parts, and_from, eqb-true, eqb-false, eq-eqb, ne_eqb, both_ways, cond_both, or_left, or_right, or_parts, ltb-true, true_from_ne_false, false_from_ne_true}
+use Rattle.std.proofs.lemmas.Bool.{cases_Bool, and_parts, and_from, eq-eqb, ne_eqb, both_ways, or_left, or_right, true_from_ne_false}
 use Rattle.spec_file.specs.declared.geometry.Geometry.{Geometry}
-use Rattle.spec_file.specs.Image.{Image, page, page_size}
+use Rattle.spec_file.specs.Image.{Image}
 use Rattle.spec_log.specs.declared.item.Record.{Record}
 use Rattle.spec_log.specs.declared.item.Record.TheVariants.{Start, Change, Undo, Commit, Abort, Snap, Failed, CheckEnd}
 use Rattle.spec_log.specs.Items.{tran_of}
-use Rattle.spec_log.specs.Log.{starts, ends, takes_it, has_started, has_ended, has_taken, is_unfinished, holds, item_at}
-use Rattle.spec_log.specs.Rules.{HaveForm, KeepsRules, Follows}
-use Rattle.spec_log.specs.Cells.{HasWholePages, read_cell}
-use Rattle.spec_log.specs.Images.{take_back, shows_before, shows, page_of_item, damage_of, damaged_page, final_image}
+use Rattle.spec_log.specs.Log.{starts, takes_it, has_started, has_ended, has_taken, is_unfinished, holds, item_at}
+use Rattle.spec_log.specs.Rules.{HaveForm, KeepsRules}
+use Rattle.spec_log.specs.Images.{take_back, shows_before, shows, page_of_item, damage_of, final_image}
 use Rattle.spec_log.specs.Sound.{IsSound, Fits, is_old}
 use Rattle.law_undo.specs.Atoms.{Atom, read, has_atom, bit_in, turned, named_on, write_on, over, under, applied_at, IsQuiet}
-use Rattle.law_undo.specs.Holders.{RulesAt, unfinished_parts, unfinished_from, one_holder, quiet_without_take, taken_started}
-use Rattle.law_undo.specs.LawAtAtom.{final_at, not_true}
+use Rattle.law_undo.specs.Holders.{unfinished_parts, one_holder, quiet_without_take}
+use Rattle.law_undo.specs.LawAtAtom.{not_true}
 use Rattle.law_undo.specs.Reading.{IsInside, SameShape, shape_trans, inside_shape}
 use Rattle.law_undo.specs.ReadLogs.{cell_form, FormOf, form_at, read_applied, read_take_back, shape_applied, shape_take_back, older_forms}
 use Rattle.law_undo.specs.Guards.{atom, guard_of, rules_at, follows_at}
@@ -39,7 +38,7 @@ same_equal c k [] m v e = tt
 same_equal c k (x ∷ older) m v e = (
   (λ h. if_some (write_on older k x) (m ≡ v) e),
   same_equal c k older (if c (tran_of x) then under (write_on older k x) m else m) (if c (tran_of x) then under (write_on older k x) v else v)
-  (ap (λ n. if c (tran_of x) then under (write_on older k x) n else n) e),
+      (ap (λ n. if c (tran_of x) then under (write_on older k x) n else n) e),
 )
 
 same_quiet : (c : ℕ → Bool) (k : Atom) (log : List Record) (m v : ℕ) → ((t : ℕ) → c t ≡ true → IsQuiet t k log) → SameAt c k log m v
@@ -78,8 +77,8 @@ same_shows_named g pages None x y form shape same = refl
 same_shows_named g pages (Some (Start session index tran number changes size takes)) x y form shape same = refl
 same_shows_named g pages (Some (Change tran cell before after)) x y form shape same =
     ap (λ bytes. bytes_eq bytes before) (same_cell x y cell (length before) (guard_of g pages) shape (λ p i j inside h.
-      let here : has_atom cell (length after) (atom g pages p i j) ≡ true = subst (λ n. has_atom cell n (atom g pages p i j) ≡ true) (cell_form cell before after form).as_long h in
-      subst (λ s. MatchOption {T = ℕ × ℕ} (turned (if s then Some (bit_in cell before (atom g pages p i j), bit_in cell after (atom g pages p i j)) else None)) (Unit {0}) (λ q. read x (atom g pages p i j) ≡ read y (atom g pages p i j))) here (same p i j inside)))
+    let here : has_atom cell (length after) (atom g pages p i j) ≡ true = subst (λ n. has_atom cell n (atom g pages p i j) ≡ true) (cell_form cell before after form).as_long h in
+    subst (λ s. MatchOption {T = ℕ × ℕ} (turned (if s then Some (bit_in cell before (atom g pages p i j), bit_in cell after (atom g pages p i j)) else None)) (Unit {0}) (λ q. read x (atom g pages p i j) ≡ read y (atom g pages p i j))) here (same p i j inside)))
 same_shows_named g pages (Some (Undo tran change)) x y form shape same = refl
 same_shows_named g pages (Some (Commit tran)) x y form shape same = refl
 same_shows_named g pages (Some (Abort tran)) x y form shape same = refl
@@ -93,7 +92,7 @@ same_shows : (g : Geometry) (pages : ℕ) (older : List Record) (z : Record) (x 
 same_shows g pages older (Start session index tran number changes size takes) x y form shape same = refl
 same_shows g pages older (Change tran cell before after) x y form shape same =
     ap (λ bytes. bytes_eq bytes after) (same_cell x y cell (length after) (guard_of g pages) shape (λ p i j inside h.
-      subst (λ s. MatchOption {T = ℕ × ℕ} (if s then Some (bit_in cell before (atom g pages p i j), bit_in cell after (atom g pages p i j)) else None) (Unit {0}) (λ q. read x (atom g pages p i j) ≡ read y (atom g pages p i j))) h (same p i j inside)))
+    subst (λ s. MatchOption {T = ℕ × ℕ} (if s then Some (bit_in cell before (atom g pages p i j), bit_in cell after (atom g pages p i j)) else None) (Unit {0}) (λ q. read x (atom g pages p i j) ≡ read y (atom g pages p i j))) h (same p i j inside)))
 same_shows g pages older (Undo tran change) x y form shape same = same_shows_named g pages (item_at older change.0) x y (form_at older change.0 form.1) shape same
 same_shows g pages older (Commit tran) x y form shape same = refl
 same_shows g pages older (Abort tran) x y form shape same = refl
@@ -117,21 +116,21 @@ same_damage c g pages (z ∷ older) x y form shape same =
   where
     by_choice : (chosen : Bool) → c (tran_of z) ≡ chosen →
         ((u w : Image) → SameShape u w → ((p i j : ℕ) → IsInside (atom g pages p i j) u → SameAt c (atom g pages p i j) older (read u (atom g pages p i j)) (read w (atom g pages p i j))) →
-          damage_of c older u ≡ damage_of c older w) →
+        damage_of c older u ≡ damage_of c older w) →
         (if chosen then (if shows older z x then damage_of c older (take_back older z x) else Some (page_of_item older z)) else damage_of c older x)
         ≡ (if chosen then (if shows older z y then damage_of c older (take_back older z y) else Some (page_of_item older z)) else damage_of c older y)
     by_choice true e ih =
         ap (λ s. if s then damage_of c older (take_back older z x) else Some (page_of_item older z)) (same_shows g pages older z x y form shape (λ p i j inside. (same p i j inside).0 e))
         ∙ ap (λ d. if shows older z y then d else Some (page_of_item older z)) (ih (take_back older z x) (take_back older z y) (shape_both older z x y shape) (λ p i j inside.
-          let k = atom g pages p i j in
-          let a = shape_take_back older z x in
-          let before : IsInside k x = record { page_in = subst (λ n. k.page < n) a.pages inside.page_in; byte_in = subst (λ n. k.byte < n) (a.bytes k.page) inside.byte_in } in
-          subst (λ m. SameAt c k older m (read (take_back older z y) k)) (sym (read_take_back older z x k form before))
-          (subst (SameAt c k older (under (write_on older k z) (read x k))) (sym (read_take_back older z y k form (inside_shape k x y shape before)))
-          (subst (λ s. SameAt c k older (if s then under (write_on older k z) (read x k) else read x k) (if s then under (write_on older k z) (read y k) else read y k)) e (same p i j before).1))))
+        let k = atom g pages p i j in
+        let a = shape_take_back older z x in
+        let before : IsInside k x = record { page_in = subst (λ n. k.page < n) a.pages inside.page_in; byte_in = subst (λ n. k.byte < n) (a.bytes k.page) inside.byte_in } in
+        subst (λ m. SameAt c k older m (read (take_back older z y) k)) (sym (read_take_back older z x k form before))
+        (subst (SameAt c k older (under (write_on older k z) (read x k))) (sym (read_take_back older z y k form (inside_shape k x y shape before)))
+        (subst (λ s. SameAt c k older (if s then under (write_on older k z) (read x k) else read x k) (if s then under (write_on older k z) (read y k) else read y k)) e (same p i j before).1))))
     by_choice false e ih = ih x y shape (λ p i j inside.
-      let k = atom g pages p i j in
-      subst (λ s. SameAt c k older (if s then under (write_on older k z) (read x k) else read x k) (if s then under (write_on older k z) (read y k) else read y k)) e (same p i j inside).1)
+        let k = atom g pages p i j in
+        subst (λ s. SameAt c k older (if s then under (write_on older k z) (read x k) else read x k) (if s then under (write_on older k z) (read y k) else read y k)) e (same p i j inside).1)
 
 -- an old transaction stands after the run as it stood before
 ended_same : (g : Geometry) (pages : ℕ) (opened : List Record) (b : Image) (log : List Record) (t : ℕ) → IsSound g pages opened b log → is_old opened t ≡ true → has_ended (log ++ opened) t ≡ has_ended opened t
@@ -217,7 +216,7 @@ part_unwritten g opened (x ∷ log) b p i j t s open_now taken c m v =
     let k = atom g (length b) p i j in
     let old = unfinished_old opened t open_now in
     let held : holds (log ++ opened) t k.guard ≡ true = and_from (is_unfinished (log ++ opened) t) (has_taken (log ++ opened) t k.guard)
-      (old_unfinished g (length b) opened b log t s.3 old ∙ open_now) (taken_more log opened t k taken) in
+    (old_unfinished g (length b) opened b log t s.3 old ∙ open_now) (taken_more log opened t k taken) in
     let ih = part_unwritten g opened log b p i j t s.3 open_now taken c m v in
     let none : write_on (log ++ opened) k x ≡ None = by_write (write_on (log ++ opened) k x) refl held old in (
       ap (λ w. if c (tran_of x) then over w (applied_at c k opened log v) else applied_at c k opened log v) none ∙ same_both (c (tran_of x)) (applied_at c k opened log v) ∙ ih.0,
@@ -252,27 +251,27 @@ damage_is_old g opened log b whole s =
     let forms_before = older_forms log opened forms in
     let rules_before = older_rules g (length b) log opened rules_now in
     part_undamaged now g (length b) opened log file forms rules_now (file_shape (length b) b file same_file as_file) (λ p i j inside.
-      let k = atom g (length b) p i j in
-      let here : IsInside k b = record { page_in = subst (λ n. k.page < n) same_file.pages inside.page_in; byte_in = subst (λ n. k.byte < n) (same_file.bytes k.page) inside.byte_in } in
-      subst (TellsAt now k opened log) (sym (read_applied (λ t. true) opened log b k forms here))
-      (tells_final now g opened log b p i j here s (λ t h. not_true (has_ended (log ++ opened) t) (unfinished_parts (log ++ opened) t h).not_ended)))
+    let k = atom g (length b) p i j in
+    let here : IsInside k b = record { page_in = subst (λ n. k.page < n) same_file.pages inside.page_in; byte_in = subst (λ n. k.byte < n) (same_file.bytes k.page) inside.byte_in } in
+    subst (TellsAt now k opened log) (sym (read_applied (λ t. true) opened log b k forms here))
+    (tells_final now g opened log b p i j here s (λ t h. not_true (has_ended (log ++ opened) t) (unfinished_parts (log ++ opened) t h).not_ended)))
     ∙ damage_chosen now before opened rest (are_started g (length b) opened rules_before) refl (λ t started.
-      elim (cases_Bool (ltb 0 t)) [
-        | inl above ↦ old_unfinished g (length b) opened b log t s (and_from (ltb 0 t) (has_started opened t) above started)
-        | inr zero_t ↦ ap (λ a. a && (has_started (log ++ opened) t && not (has_ended (log ++ opened) t))) zero_t ∙ sym (ap (λ a. a && (has_started opened t && not (has_ended opened t))) zero_t)
-      ])
+    elim (cases_Bool (ltb 0 t)) [
+      | inl above ↦ old_unfinished g (length b) opened b log t s (and_from (ltb 0 t) (has_started opened t) above started)
+      | inr zero_t ↦ ap (λ a. a && (has_started (log ++ opened) t && not (has_ended (log ++ opened) t))) zero_t ∙ sym (ap (λ a. a && (has_started opened t && not (has_ended opened t))) zero_t)
+    ])
     ∙ same_damage before g (length b) opened rest b forms_before (record { pages = sym same_rest.pages; bytes = λ p. sym (same_rest.bytes p) }) (λ p i j inside.
-      let k = atom g (length b) p i j in
-      let here : IsInside k b = record { page_in = subst (λ n. k.page < n) same_rest.pages inside.page_in; byte_in = subst (λ n. k.byte < n) (same_rest.bytes k.page) inside.byte_in } in
-      elim (quiet_or_writer before k opened) [
-        | inl quiet ↦ same_quiet before k opened (read rest k) (read b k) quiet
-        | inr writer ↦
-            let taken : has_taken opened writer.tran k.guard ≡ true = true_from_ne_false (has_taken opened writer.tran k.guard) (λ none. writer.writes (quiet_without_take writer.tran k opened (rules_at g (length b) p i j opened rules_before) none)) in
-            same_equal before k opened (read rest k) (read b k)
-            (read_taken_part now opened log file k forms (inside_shape k b file same_file here)
-            ∙ ap (taken_part_at now k opened log) (read_applied (λ t. true) opened log b k forms here ∙ (part_unwritten g opened log b p i j writer.tran s writer.chosen taken (λ t. true) (read b k) (read b k)).0)
-            ∙ (part_unwritten g opened log b p i j writer.tran s writer.chosen taken now (read b k) (read b k)).1)
-      ])
+    let k = atom g (length b) p i j in
+    let here : IsInside k b = record { page_in = subst (λ n. k.page < n) same_rest.pages inside.page_in; byte_in = subst (λ n. k.byte < n) (same_rest.bytes k.page) inside.byte_in } in
+    elim (quiet_or_writer before k opened) [
+      | inl quiet ↦ same_quiet before k opened (read rest k) (read b k) quiet
+      | inr writer ↦
+          let taken : has_taken opened writer.tran k.guard ≡ true = true_from_ne_false (has_taken opened writer.tran k.guard) (λ none. writer.writes (quiet_without_take writer.tran k opened (rules_at g (length b) p i j opened rules_before) none)) in
+          same_equal before k opened (read rest k) (read b k)
+          (read_taken_part now opened log file k forms (inside_shape k b file same_file here)
+          ∙ ap (taken_part_at now k opened log) (read_applied (λ t. true) opened log b k forms here ∙ (part_unwritten g opened log b p i j writer.tran s writer.chosen taken (λ t. true) (read b k) (read b k)).0)
+          ∙ (part_unwritten g opened log b p i j writer.tran s writer.chosen taken now (read b k) (read b k)).1)
+    ])
   where
     older_rules : (g : Geometry) (pages : ℕ) (log opened : List Record) → KeepsRules g pages (log ++ opened) → KeepsRules g pages opened
     older_rules g pages [] opened r = r

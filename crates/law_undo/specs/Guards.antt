@@ -1,11 +1,10 @@
 -- The guard of each atom, and that the rules of a log keep it.
-use Rattle.std.proofs.Common.{◌≡◌, ℕ, zero, suc, ◌+◌, ◌-◌, ◌*◌, ◌/◌, ◌%◌, ◌<◌, ◌≤◌, Bool, true, false, cond, eqb, ltb, leb, not, ◌&&◌, ◌||◌, List, [], ◌∷◌, ◌++◌, length, Option, Some, None, ◌⊎◌, inl, inr, refl, sym, ap, ◌∙◌, subst, arith, rules}
-use Rattle.std.specs.Prelude.{if◌then◌else◌, MatchOption, IsSomeAnd}
+use Rattle.std.proofs.Common.{◌≡◌, ℕ, ◌+◌, ◌-◌, ◌*◌, ◌/◌, ◌%◌, ◌<◌, ◌≤◌, true, eqb, ltb, leb, ◌&&◌, List, [], ◌∷◌, length, Option, Some, None, inl, inr, refl, sym, ap, ◌∙◌, subst, arith}
+use Rattle.std.specs.Prelude.{if◌then◌else◌}
 use Rattle.std.specs.List.{list_any}
-use Rattle.std.proofs.lemmas.Bool.{true≢false, false≢true, cases_Bool, and_parts, and_from, eqb-true, eqb-false, leb-true, ltb-true, lt-ltb, cond_both}
+use Rattle.std.proofs.lemmas.Bool.{false≢true, cases_Bool, and_parts, eqb-true, leb-true, ltb-true, lt-ltb, cond_both}
 use Rattle.spec_file.specs.declared.data.Resource.{Resource}
 use Rattle.spec_file.specs.declared.data.Resource.TheVariants as resource
-use Rattle.spec_file.specs.declared.data.Tran.{Tran}
 use Rattle.spec_file.specs.declared.geometry.Geometry.{Geometry}
 use Rattle.spec_file.specs.declared.role.Role.{Role}
 use Rattle.spec_file.specs.declared.role.Role.TheVariants.{FileHeader, Pfs, Gam, Sgam, Reserved, Boot, Ordinary}
@@ -16,9 +15,9 @@ use Rattle.spec_log.specs.declared.item.Cell.TheVariants.{Bytes, Bit}
 use Rattle.spec_log.specs.declared.item.Record.{Record}
 use Rattle.spec_log.specs.declared.item.Record.TheVariants.{Start, Change, Undo, Commit, Abort, Snap, Failed, CheckEnd}
 use Rattle.spec_log.specs.Items.{is_same}
-use Rattle.spec_log.specs.Log.{is_unfinished, holds, IsFreeFor, greatest_of}
+use Rattle.spec_log.specs.Log.{holds, greatest_of}
 use Rattle.spec_log.specs.Cover.{bit_guard, bit_guard_by, in_file, byte_guard, byte_guard_by, HoldsGuard, IsCovered}
-use Rattle.spec_log.specs.Rules.{MayStart, AreFreeFor, Follows, KeepsRules}
+use Rattle.spec_log.specs.Rules.{MayStart, Follows, KeepsRules}
 use Rattle.law_undo.specs.Atoms.{Atom, has_atom}
 use Rattle.law_undo.specs.Holders.{FollowsAt, RulesAt, unfinished_parts}
 
@@ -115,14 +114,14 @@ covered_at g pages log t (Bytes q off) size p i j covered h =
     let high : i < off + size = ltb-true i (off + size) b.1 in
     let there : HoldsGuard log t (byte_guard g pages q.0 (off + (i - off))) = covered.0 (i - off) (inside_size off i size low high) in
     let here : HoldsGuard log t (byte_guard g pages p i) =
-      subst (λ at. HoldsGuard log t (byte_guard g pages p at)) (place_in off i low) (subst (λ r. HoldsGuard log t (byte_guard g pages r (off + (i - off)))) (eqb-true q.0 p a.0) there) in
+    subst (λ at. HoldsGuard log t (byte_guard g pages p at)) (place_in off i low) (subst (λ r. HoldsGuard log t (byte_guard g pages r (off + (i - off)))) (eqb-true q.0 p a.0) there) in
     holds_first log t (byte_guard g pages p i) (bit_guard g pages p (8 * (i - maps_start) + j)) here
 covered_at g pages log t (Bit q n) size p i j covered h =
     let a = and_parts (eqb q.0 p) (eqb (maps_start + n / 8) i && eqb (n % 8) j) h in
     let b = and_parts (eqb (maps_start + n / 8) i) (eqb (n % 8) j) a.1 in
     let same : n ≡ 8 * (i - maps_start) + j = bit_place n i j (eqb-true (maps_start + n / 8) i b.0) (eqb-true (n % 8) j b.1) in
     let here : HoldsGuard log t (bit_guard g pages p (8 * (i - maps_start) + j)) =
-      subst (λ m. HoldsGuard log t (bit_guard g pages p m)) same (subst (λ r. HoldsGuard log t (bit_guard g pages r n)) (eqb-true q.0 p a.0) covered) in
+    subst (λ m. HoldsGuard log t (bit_guard g pages p m)) same (subst (λ r. HoldsGuard log t (bit_guard g pages r n)) (eqb-true q.0 p a.0) covered) in
     holds_second log t (byte_guard g pages p i) (bit_guard g pages p (8 * (i - maps_start) + j)) (bits_alone g pages p (8 * (i - maps_start) + j) i log t here) here
 
 -- who takes something is a transaction

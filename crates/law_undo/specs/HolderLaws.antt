@@ -1,16 +1,15 @@
 -- Who holds a resource.
-use Rattle.std.proofs.Common.{◌≡◌, ◌≢◌, ℕ, ◌+◌, ◌<◌, Bool, true, false, cond, eqb, ltb, not, ◌&&◌, ◌||◌, List, [], ◌∷◌, length, Option, Some, None, ◌⊎◌, inl, inr, refl, sym, ap, ◌∙◌, subst, arith}
-use Rattle.std.specs.Prelude.{if◌then◌else◌, MatchOption}
+use Rattle.std.proofs.Common.{◌≡◌, ◌≢◌, ℕ, true, false, eqb, not, ◌&&◌, List, [], ◌∷◌, Option, Some, None, inl, inr, sym, ap, ◌∙◌, subst}
+use Rattle.std.specs.Prelude.{MatchOption}
 use Rattle.std.specs.List.{list_any}
-use Rattle.std.proofs.lemmas.Bool.{true≢false, false≢true, cases_Bool, or_cases, and_parts, and_from, eqb-true, eqb-false, both_ways, cond_both, not-false, not-true}
+use Rattle.std.proofs.lemmas.Bool.{false≢true, cases_Bool, or_cases, and_parts, and_from, eqb-true, eqb-false, both_ways, cond_both, not-true}
 use Rattle.spec_file.specs.declared.data.Resource.{Resource}
 use Rattle.spec_file.specs.declared.geometry.Geometry.{Geometry}
 use Rattle.spec_log.specs.declared.item.Record.{Record}
 use Rattle.spec_log.specs.declared.item.Record.TheVariants.{Start, Change, Undo, Commit, Abort, Snap, Failed, CheckEnd}
 use Rattle.spec_log.specs.Items.{tran_of, is_same}
-use Rattle.spec_log.specs.Log.{starts, takes_it, has_started, has_taken, is_unfinished, holds, IsFreeFor, holder_among, holder_of}
-use Rattle.spec_log.specs.Rules.{Follows, KeepsRules}
-use Rattle.law_undo.specs.Atoms.{Atom}
+use Rattle.spec_log.specs.Log.{starts, takes_it, has_started, holds, IsFreeFor, holder_among, holder_of}
+use Rattle.spec_log.specs.Rules.{Follows}
 use Rattle.law_undo.specs.Holders.{holds_parts, taken_started, holds_older}
 use Rattle.law_undo.specs.Laws.{HolderIsOther, HoldersAreOne}
 
@@ -37,7 +36,7 @@ found log [] r t = λ u h held. absurd (false≢true h)
 found log (x ∷ part) r t =
     cond_both (holds log (tran_of x) r && not (eqb (tran_of x) t)) (Some (tran_of x)) (holder_among log part r t) (Found log (x ∷ part) r t)
     (λ e. let a = and_parts (holds log (tran_of x) r) (not (eqb (tran_of x) t)) e in
-      (a.0, λ same. eqb-false (tran_of x) t (not-true (eqb (tran_of x) t) a.1) same))
+    (a.0, λ same. eqb-false (tran_of x) t (not-true (eqb (tran_of x) t) a.1) same))
     (λ e. by_rest (holder_among log part r t) e (found log part r t))
   where
     own : (holds log (tran_of x) r && not (eqb (tran_of x) t)) ≡ false → holds log (tran_of x) r ≡ true → tran_of x ≡ t

@@ -1,15 +1,14 @@
 -- Who holds the guard of an atom, and who can have written there.
-use Rattle.std.proofs.Common.{◌≡◌, ℕ, ◌+◌, ◌<◌, Bool, true, false, cond, eqb, ltb, not, ◌&&◌, ◌||◌, List, [], ◌∷◌, ◌++◌, length, Option, Some, None, ◌⊎◌, inl, inr, refl, sym, ap, ◌∙◌, subst, arith, rules}
-use Rattle.std.specs.Prelude.{if◌then◌else◌}
+use Rattle.std.proofs.Common.{◌≡◌, ℕ, ◌+◌, Bool, true, false, eqb, ltb, not, ◌&&◌, ◌||◌, List, [], ◌∷◌, length, Some, None, ◌⊎◌, inl, inr, refl, sym, ap, ◌∙◌, subst}
 use Rattle.std.specs.List.{list_any}
-use Rattle.std.proofs.lemmas.Bool.{true≢false, false≢true, cases_Bool, or_cases, and_parts, and_from, eqb-true, eqb-false, eq-eqb, ne_eqb, cases_eq, both_ways, cond_both, or_left, or_right}
+use Rattle.std.proofs.lemmas.Bool.{true≢false, false≢true, or_cases, and_parts, and_from, eqb-true, both_ways, cond_both, or_left, or_right}
 use Rattle.spec_file.specs.declared.data.Resource.{Resource}
 use Rattle.spec_log.specs.declared.item.Record.{Record}
 use Rattle.spec_log.specs.declared.item.Record.TheVariants.{Start, Change, Undo, Commit, Abort, Snap, Failed, CheckEnd}
-use Rattle.spec_log.specs.Items.{tran_of, is_same}
-use Rattle.spec_log.specs.Log.{starts, commits, ends, takes_it, has_started, has_ended, has_committed, has_taken, is_unfinished, holds, IsFreeFor, item_at, rest_of, left_of}
+use Rattle.spec_log.specs.Items.{is_same}
+use Rattle.spec_log.specs.Log.{starts, ends, takes_it, has_started, has_ended, has_taken, is_unfinished, holds, IsFreeFor, rest_of, left_of}
 use Rattle.spec_log.specs.Rules.{IsLastLeft}
-use Rattle.law_undo.specs.Atoms.{Atom, has_atom, bit_in, change_on, turned, named_on, write_on, IsQuiet}
+use Rattle.law_undo.specs.Atoms.{Atom, has_atom, bit_in, change_on, turned, named_on, IsQuiet}
 
 -- what the rules of a log ask of an item, as far as one atom is concerned
 abbrev pub FollowsAt : Atom → List Record → Record → Type 0

@@ -1,36 +1,29 @@
 -- The laws on whole images, atom by atom.
-use Rattle.std.proofs.Common.{◌≡◌, ℕ, zero, suc, ◌+◌, ◌-◌, ◌*◌, ◌/◌, ◌%◌, ◌<◌, ◌≤◌, get_or, Bool, true, false, cond, eqb, ltb, leb, not, ◌&&◌, ◌||◌, List, [], ◌∷◌, ◌++◌, length, Option, Some, None, ◌⊎◌, inl, inr, refl, sym, ap, ◌∙◌, subst, arith, rules}
-use Rattle.std.specs.Prelude.{if◌then◌else◌, MatchOption, slice_index}
-use Rattle.std.specs.List.{list_any}
+use Rattle.std.proofs.Common.{◌≡◌, ℕ, ◌+◌, ◌-◌, ◌*◌, ◌/◌, ◌%◌, ◌<◌, ◌≤◌, Bool, true, false, eqb, ltb, ◌||◌, List, [], ◌∷◌, ◌++◌, length, Some, None, inl, inr, refl, sym, ap, ◌∙◌, subst, arith}
+use Rattle.std.specs.Prelude.{slice_index}
 use Rattle.std.specs.Int.{bit_at}
-use Rattle.std.proofs.lemmas.Bool.{true≢false, false≢true, cases_Bool, or_cases, and_parts, and_from, eqb-true, eqb-false, eq-eqb, both_ways, cond_both, or_left, or_right, or_from, ne_eqb, false_from_ne_true, ltb-true, ltb-false}
+use Rattle.std.proofs.lemmas.Bool.{false≢true, cases_Bool, eqb-true, or_from, ne_eqb, false_from_ne_true, ltb-true, ltb-false}
 use Rattle.std.proofs.lemmas.Nat.Bits.{same_from_bits}
 use Rattle.std.proofs.lemmas.List.{get_or_past}
-use Rattle.spec_file.specs.Roles.{role_of}
 use Rattle.spec_file.specs.declared.data.Resource.{Resource}
-use Rattle.spec_file.specs.declared.data.Tran.{Tran}
 use Rattle.spec_file.specs.declared.geometry.Geometry.{Geometry}
-use Rattle.spec_file.specs.Image.{Image, page, bit, maps_start}
-use Rattle.spec_log.specs.declared.item.Cell.{Cell}
-use Rattle.spec_log.specs.declared.item.Cell.TheVariants.{Bytes, Bit}
+use Rattle.spec_file.specs.Image.{Image, page, maps_start}
 use Rattle.spec_log.specs.declared.item.Record.{Record}
 use Rattle.spec_log.specs.declared.item.Record.TheVariants.{Start, Change, Undo, Commit, Abort, Snap, Failed, CheckEnd}
-use Rattle.spec_log.specs.Items.{tran_of}
-use Rattle.spec_log.specs.Log.{has_ended, has_committed, has_taken, is_unfinished, IsFreeFor, left_of, holds}
-use Rattle.spec_log.specs.Cover.{byte_guard, bit_guard}
-use Rattle.spec_log.specs.Cells.{read_cell, map_bit}
-use Rattle.spec_log.specs.Rules.{HaveForm, KeepsRules}
-use Rattle.spec_log.specs.Images.{applied, taken_back, start_image, final_image, committed_image, undone_image, view_of}
-use Rattle.spec_log.specs.Sound.{IsSound, Fits, is_old}
-use Rattle.law_undo.specs.Atoms.{Atom, read, has_atom, bit_in, over, applied_at, taken_back_at, IsQuiet, applied_at-same}
-use Rattle.law_undo.specs.Holders.{FollowsAt, RulesAt, holds_parts, unfinished_parts, one_holder, quiet_without_take}
+use Rattle.spec_log.specs.Log.{has_ended, has_committed, has_taken, is_unfinished, IsFreeFor}
+use Rattle.spec_log.specs.Cover.{bit_guard}
+use Rattle.spec_log.specs.Rules.{KeepsRules}
+use Rattle.spec_log.specs.Images.{final_image, committed_image, undone_image, view_of}
+use Rattle.spec_log.specs.Sound.{IsSound}
+use Rattle.law_undo.specs.Atoms.{Atom, read, taken_back_at, IsQuiet, applied_at-same}
+use Rattle.law_undo.specs.Holders.{unfinished_parts, one_holder, quiet_without_take}
 use Rattle.law_undo.specs.LawAtAtom.{start_at, committed_at, final_at, view_at, Chain, LawAt, not_true, quiet_or_holds}
 use Rattle.law_undo.specs.LawSteps.{FitsAt, law_step, opened_law, taken_above}
 use Rattle.law_undo.specs.Reading.{IsInside, SameShape, inside_shape, shape_trans}
-use Rattle.law_undo.specs.ReadLogs.{CellForm, cell_form, read_applied, read_taken_back, shape_applied, shape_taken_back, same_images}
+use Rattle.law_undo.specs.ReadLogs.{cell_form, read_applied, read_taken_back, shape_applied, shape_taken_back, same_images}
 use Rattle.law_undo.specs.Guards.{no_byte_guard, atom, guard_of, first_guard, rules_at, follows_at}
-use Rattle.law_undo.specs.Views.{sound_rules, sound_forms, sound_commits, read_committed, read_view, shape_committed, shape_view, quiet_applied, NoneUndone}
-use Rattle.law_undo.specs.Laws.{UndoGivesCommitted, FileShowsBytes, FileShowsBits, UndosBringBack, NobodySeesCommitted, CommitShowsView, IsOngoing}
+use Rattle.law_undo.specs.Views.{sound_rules, sound_forms, sound_commits, read_committed, read_view, shape_committed, shape_view}
+use Rattle.law_undo.specs.Laws.{UndoGivesCommitted, FileShowsBytes, FileShowsBits, UndosBringBack, NobodySeesCommitted, IsOngoing}
 use Rattle.law_undo.specs.CellAtoms.{cell_atom}
 
 -- what a Change found is what its transaction saw at each atom of the cell
@@ -43,8 +36,8 @@ fits_at g opened log b p i j (Change tran cell before after) inside s = (
       let k = atom g (length b) p i j in
       let form = cell_form cell before after s.0 in
       sym (read_view tran.0 opened log b k (rules_at g (length b) p i j (log ++ opened) (sound_rules g (length b) opened b log s.3))
-        (sound_forms g (length b) opened b log s.3) (sound_commits g (length b) opened b log s.3) inside
-        (not_true (has_ended (log ++ opened) tran.0) (unfinished_parts (log ++ opened) tran.0 s.1.0).not_ended))
+      (sound_forms g (length b) opened b log s.3) (sound_commits g (length b) opened b log s.3) inside
+      (not_true (has_ended (log ++ opened) tran.0) (unfinished_parts (log ++ opened) tran.0 s.1.0).not_ended))
       ∙ cell_atom (view_of tran.0 opened log b) cell before (length after) k form.as_long s.2.1 e,
 )
 fits_at g opened log b p i j (Undo tran change) inside s = s.2
@@ -72,11 +65,11 @@ undo_gives_committed g opened log b s =
     (shape_trans b file (undone_image opened log b) same_file (shape_taken_back (is_unfinished (log ++ opened)) (log ++ opened) file))
     (shape_committed opened log b none)
     (λ p i j inside.
-      let k = atom g (length b) p i j in
-      read_taken_back (is_unfinished (log ++ opened)) (log ++ opened) file k forms (inside_shape k b file same_file inside)
-      ∙ ap (taken_back_at (is_unfinished (log ++ opened)) k (log ++ opened)) (read_applied (λ t. true) opened log b k forms inside)
-      ∙ (law_at g opened log b p i j inside s).undone
-      ∙ sym (read_committed opened log b k forms none inside))
+    let k = atom g (length b) p i j in
+    read_taken_back (is_unfinished (log ++ opened)) (log ++ opened) file k forms (inside_shape k b file same_file inside)
+    ∙ ap (taken_back_at (is_unfinished (log ++ opened)) k (log ++ opened)) (read_applied (λ t. true) opened log b k forms inside)
+    ∙ (law_at g opened log b p i j inside s).undone
+    ∙ sym (read_committed opened log b k forms none inside))
 
 -- at an atom whose guard nobody else holds
 pub shows_at : (g : Geometry) (opened log : List Record) (b : Image) (t p i j : ℕ) → IsInside (atom g (length b) p i j) b → IsSound g (length b) opened b log →
@@ -117,7 +110,7 @@ pub file_shows_bytes : FileShowsBytes
 file_shows_bytes g opened log b t p at r s ongoing guarded free =
     same_byte b (view_of t opened log b) (final_image opened log b) p at (shape_view t opened log b (sound_commits g (length b) opened b log s)) (shape_applied (λ t. true) opened log b)
     (λ j lt lt2. shows_at g opened log b t p at j (record { page_in = lt; byte_in = lt2 }) s ongoing
-      (subst (IsFreeFor (log ++ opened) t) (sym (ap (λ o. first_guard o (bit_guard g (length b) p (8 * (at - maps_start) + j))) guarded)) free))
+    (subst (IsFreeFor (log ++ opened) t) (sym (ap (λ o. first_guard o (bit_guard g (length b) p (8 * (at - maps_start) + j))) guarded)) free))
 
 -- the guard of a bit of a map page, found at its byte
 bit_guarded : (g : Geometry) (pages p n : ℕ) (r : Resource) → bit_guard g pages p n ≡ Some r → guard_of g pages p (maps_start + n / 8) (n % 8) ≡ r
@@ -135,7 +128,7 @@ file_shows_bits g opened log b t p n r s ongoing guarded free =
     let j = n % 8 in
     ap (λ v. eqb v 1) (same_bit b (view_of t opened log b) (final_image opened log b) p i j (shape_view t opened log b (sound_commits g (length b) opened b log s)) (shape_applied (λ t. true) opened log b)
     (λ lt lt2. shows_at g opened log b t p i j (record { page_in = lt; byte_in = lt2 }) s ongoing
-      (subst (IsFreeFor (log ++ opened) t) (sym (bit_guarded g (length b) p n r guarded)) free)))
+    (subst (IsFreeFor (log ++ opened) t) (sym (bit_guarded g (length b) p n r guarded)) free)))
 
 or_no : (b c : Bool) → c ≡ false → (b || c) ≡ b
 or_no true c e = refl
@@ -158,23 +151,23 @@ seen_as_committed g opened log b t s open_now same =
     let none = sound_commits g (length b) opened b log s in
     same_images (guard_of g (length b)) b (view_of t opened log b) (committed_image opened log b) (shape_view t opened log b none) (shape_committed opened log b none)
     (λ p i j inside.
-      let k = atom g (length b) p i j in
-      read_view t opened log b k (rules_at g (length b) p i j (log ++ opened) (sound_rules g (length b) opened b log s)) forms none inside open_now
-      ∙ same p i j inside ∙ sym (read_committed opened log b k forms none inside))
+    let k = atom g (length b) p i j in
+    read_view t opened log b k (rules_at g (length b) p i j (log ++ opened) (sound_rules g (length b) opened b log s)) forms none inside open_now
+    ∙ same p i j inside ∙ sym (read_committed opened log b k forms none inside))
 
 pub undos_bring_back : UndosBringBack
 undos_bring_back g opened log b t s new open_now none_left =
     let not_ended = not_true (has_ended (log ++ opened) t) (unfinished_parts (log ++ opened) t open_now).not_ended in
     seen_as_committed g opened log b t s not_ended (λ p i j inside.
-      let k = atom g (length b) p i j in
-      let rules_here = rules_at g (length b) p i j (log ++ opened) (sound_rules g (length b) opened b log s) in
-      let law = law_at g opened log b p i j inside s in
-      elim (quiet_or_holds (log ++ opened) t k rules_here open_now) [
-        | inl quiet ↦ quiet_view k opened log t (read b k) quiet
-        | inr held ↦
-            law.seen t new not_ended (λ u h. one_holder k (log ++ opened) u t rules_here h held)
-            ∙ sym (subst (λ ps. Chain k ps (committed_at k opened log (read b k)) (final_at k opened log (read b k))) none_left (law.chained t new held))
-      ])
+    let k = atom g (length b) p i j in
+    let rules_here = rules_at g (length b) p i j (log ++ opened) (sound_rules g (length b) opened b log s) in
+    let law = law_at g opened log b p i j inside s in
+    elim (quiet_or_holds (log ++ opened) t k rules_here open_now) [
+      | inl quiet ↦ quiet_view k opened log t (read b k) quiet
+      | inr held ↦
+          law.seen t new not_ended (λ u h. one_holder k (log ++ opened) u t rules_here h held)
+          ∙ sym (subst (λ ps. Chain k ps (committed_at k opened log (read b k)) (final_at k opened log (read b k))) none_left (law.chained t new held))
+    ])
 
 -- transaction 0 holds nothing, and never ends
 zero_open : (g : Geometry) (pages : ℕ) (log : List Record) → KeepsRules g pages log → has_ended log 0 ≡ false
@@ -198,10 +191,10 @@ pub nobody_sees_committed : NobodySeesCommitted
 nobody_sees_committed g opened log b s =
     let rules_now = sound_rules g (length b) opened b log s in
     seen_as_committed g opened log b 0 s (zero_open g (length b) (log ++ opened) rules_now) (λ p i j inside.
-      let k = atom g (length b) p i j in
-      let rules_here = rules_at g (length b) p i j (log ++ opened) rules_now in
-      quiet_view k opened log 0 (read b k) (quiet_without_take 0 k (log ++ opened) rules_here
-        (false_from_ne_true (has_taken (log ++ opened) 0 k.guard) (λ h. no_zero (taken_above k (log ++ opened) 0 rules_here h)))))
+    let k = atom g (length b) p i j in
+    let rules_here = rules_at g (length b) p i j (log ++ opened) rules_now in
+    quiet_view k opened log 0 (read b k) (quiet_without_take 0 k (log ++ opened) rules_here
+    (false_from_ne_true (has_taken (log ++ opened) 0 k.guard) (λ h. no_zero (taken_above k (log ++ opened) 0 rules_here h)))))
   where
     no_zero : ltb 0 0 ≡ true → ⊥
     no_zero h = false≢true h

@@ -1,21 +1,20 @@
 -- Each item keeps the law at one atom.
-use Rattle.std.proofs.Common.{◌≡◌, ℕ, ◌+◌, ◌<◌, Bool, true, false, cond, eqb, ltb, not, ◌&&◌, ◌||◌, List, [], ◌∷◌, ◌++◌, length, Option, Some, None, ◌⊎◌, inl, inr, refl, sym, ap, ◌∙◌, subst, arith, rules}
+use Rattle.std.proofs.Common.{◌≡◌, ℕ, ◌+◌, Bool, true, false, eqb, ltb, not, ◌&&◌, ◌||◌, List, [], ◌∷◌, ◌++◌, length, Option, Some, None, ◌⊎◌, inl, inr, refl, sym, ap, ◌∙◌, subst}
 use Rattle.std.specs.Prelude.{if◌then◌else◌, MatchOption}
-use Rattle.std.specs.List.{list_any}
-use Rattle.std.proofs.lemmas.Bool.{true≢false, false≢true, cases_Bool, or_cases, and_parts, and_from, eqb-true, eqb-false, eq-eqb, ne_eqb, cases_eq, both_ways, cond_both, or_left, or_right}
+use Rattle.std.proofs.lemmas.Bool.{false≢true, cases_Bool, or_cases, and_from, eqb-true, eqb-false, eq-eqb, ne_eqb, both_ways, cond_both, or_right}
 use Rattle.spec_file.specs.declared.data.Resource.{Resource}
 use Rattle.spec_file.specs.declared.data.Tran.{Tran}
 use Rattle.spec_file.specs.declared.data.Lsn.{Lsn}
 use Rattle.spec_log.specs.declared.item.Cell.{Cell}
 use Rattle.spec_log.specs.declared.item.Record.{Record}
 use Rattle.spec_log.specs.declared.item.Record.TheVariants.{Start, Change, Undo, Commit, Abort, Snap, Failed, CheckEnd}
-use Rattle.spec_log.specs.Items.{tran_of, is_same}
-use Rattle.spec_log.specs.Log.{starts, commits, ends, takes_it, has_started, has_ended, has_committed, has_taken, is_unfinished, holds, IsFreeFor, item_at, rest_of, left_of}
+use Rattle.spec_log.specs.Items.{tran_of}
+use Rattle.spec_log.specs.Log.{starts, commits, ends, takes_it, has_started, has_ended, has_committed, has_taken, is_unfinished, holds, IsFreeFor, rest_of, left_of}
 use Rattle.spec_log.specs.Rules.{IsLastLeft}
 use Rattle.spec_log.specs.Sound.{is_old}
-use Rattle.law_undo.specs.Atoms.{Atom, has_atom, bit_in, change_on, turned, named_on, write_on, over, under, applied_at, taken_back_at, IsQuiet, taken_back_at-same, applied_at-same}
-use Rattle.law_undo.specs.Holders.{FollowsAt, RulesAt, or_false, not_or, Unfinished, unfinished_parts, unfinished_from, holds_parts, taken_started, holds_older, taken_free, one_holder, AreQuiet, left_quiet, quiet_without_take}
-use Rattle.law_undo.specs.LawAtAtom.{start_at, final_at, committed_at, view_at, Chain, LawAt, applied_still, taken_back_still, taken_back_none, Chain-quiet, committed_ended, not_true, not_committed, quiet_or_holds, Writes, undone_step, committed_step, seen_step}
+use Rattle.law_undo.specs.Atoms.{Atom, has_atom, bit_in, change_on, turned, named_on, write_on, over, taken_back_at, IsQuiet, taken_back_at-same, applied_at-same}
+use Rattle.law_undo.specs.Holders.{FollowsAt, RulesAt, or_false, not_or, unfinished_parts, unfinished_from, holds_parts, taken_started, holds_older, taken_free, one_holder, AreQuiet, left_quiet, quiet_without_take}
+use Rattle.law_undo.specs.LawAtAtom.{start_at, final_at, committed_at, view_at, Chain, LawAt, applied_still, taken_back_still, taken_back_none, Chain-quiet, not_true, quiet_or_holds, Writes, undone_step, committed_step, seen_step}
 
 -- a change puts itself on what is left
 Chain-change : (k : Atom) (tran : Tran) (cell : Cell) (before after : List ℕ) (number : ℕ) (ps : List (ℕ × Record)) (v w : ℕ) → (has_atom cell (length after) k ≡ true → bit_in cell before k ≡ w) → Chain k ps v w →

@@ -1,21 +1,20 @@
 -- What an image has at an atom after the items of a log were applied or taken back.
-use Rattle.std.proofs.Common.{◌≡◌, ℕ, zero, suc, ◌+◌, ◌-◌, ◌*◌, ◌/◌, ◌%◌, ◌<◌, ◌≤◌, get_or, ext_get_or, Bool, true, false, cond, eqb, ltb, leb, not, ◌&&◌, ◌||◌, List, [], ◌∷◌, ◌++◌, length, Option, Some, None, ◌⊎◌, inl, inr, refl, sym, ap, ◌∙◌, subst, arith, rules}
-use Rattle.std.specs.Prelude.{if◌then◌else◌, MatchOption, slice_index}
-use Rattle.std.specs.Int.{bit_at}
-use Rattle.std.proofs.lemmas.Bool.{true≢false, false≢true, cases_Bool, and_parts, and_from, eqb-true, eqb-false, eq-eqb, ne_eqb, cond_both, ltb-true, ltb-false}
+use Rattle.std.proofs.Common.{◌≡◌, ℕ, ◌+◌, ◌<◌, ext_get_or, Bool, true, false, eqb, ltb, leb, ◌&&◌, List, [], ◌∷◌, ◌++◌, length, Option, Some, None, refl, sym, ap, ◌∙◌, subst, arith}
+use Rattle.std.specs.Prelude.{if◌then◌else◌, slice_index}
+use Rattle.std.proofs.lemmas.Bool.{and_parts, eqb-true, cond_both}
 use Rattle.std.proofs.lemmas.Nat.Bits.{same_from_bits}
 use Rattle.spec_file.specs.declared.data.Resource.{Resource}
-use Rattle.spec_file.specs.Image.{Image, page, maps_start}
+use Rattle.spec_file.specs.Image.{Image, page}
 use Rattle.spec_log.specs.declared.item.Cell.{Cell}
 use Rattle.spec_log.specs.declared.item.Cell.TheVariants.{Bytes, Bit}
 use Rattle.spec_log.specs.declared.item.Record.{Record}
 use Rattle.spec_log.specs.declared.item.Record.TheVariants.{Start, Change, Undo, Commit, Abort, Snap, Failed, CheckEnd}
 use Rattle.spec_log.specs.Items.{tran_of, has_form, has_cell_form}
-use Rattle.spec_log.specs.Log.{is_unfinished, item_at, has_committed}
+use Rattle.spec_log.specs.Log.{is_unfinished, item_at}
 use Rattle.spec_log.specs.Rules.{HaveForm}
 use Rattle.spec_log.specs.Cells.{put}
-use Rattle.spec_log.specs.Images.{put_before, put_after, apply, take_back, applied, changed, taken_back, start_image}
-use Rattle.law_undo.specs.Atoms.{Atom, read, has_atom, bit_in, change_on, turned, named_on, write_on, over, under, applied_at, taken_back_at}
+use Rattle.spec_log.specs.Images.{put_before, put_after, apply, take_back, applied, taken_back, start_image}
+use Rattle.law_undo.specs.Atoms.{Atom, read, has_atom, bit_in, turned, named_on, write_on, over, under, applied_at, taken_back_at}
 use Rattle.law_undo.specs.LawAtAtom.{start_at}
 use Rattle.law_undo.specs.Reading.{IsInside, SameShape, shape_refl, shape_trans, inside_shape, shape_put, MayPut, read_put}
 
@@ -234,10 +233,10 @@ read_from_start c opened log b k f inside =
 -- two images of one shape that have the same at each atom are one. The guard of an atom is given by its place
 pub same_images : (guard : ℕ → ℕ → ℕ → Resource) (b x y : Image) → SameShape b x → SameShape b y →
     ((p i j : ℕ) → IsInside (record { page = p; byte = i; bit = j; guard = guard p i j }) b →
-        read x (record { page = p; byte = i; bit = j; guard = guard p i j }) ≡ read y (record { page = p; byte = i; bit = j; guard = guard p i j })) →
+    read x (record { page = p; byte = i; bit = j; guard = guard p i j }) ≡ read y (record { page = p; byte = i; bit = j; guard = guard p i j })) →
     x ≡ y
 same_images guard b x y sx sy same =
     ext_get_or [] x y (sx.pages ∙ sym sy.pages) (λ p lt.
-      ext_get_or 0 (page x p) (page y p) (sx.bytes p ∙ sym (sy.bytes p)) (λ i lt2.
-        same_from_bits (slice_index (page x p) i) (slice_index (page y p) i) (λ j.
-          same p i j (record { page_in = subst (λ n. p < n) sx.pages lt; byte_in = subst (λ n. i < n) (sx.bytes p) lt2 }))))
+    ext_get_or 0 (page x p) (page y p) (sx.bytes p ∙ sym (sy.bytes p)) (λ i lt2.
+    same_from_bits (slice_index (page x p) i) (slice_index (page y p) i) (λ j.
+    same p i j (record { page_in = subst (λ n. p < n) sx.pages lt; byte_in = subst (λ n. i < n) (sx.bytes p) lt2 }))))

@@ -1,23 +1,15 @@
 -- What an image has at an atom after items were applied or taken back.
-use Rattle.std.proofs.Common.{◌≡◌, ◌≢◌, ℕ, zero, suc, ◌+◌, ◌-◌, ◌*◌, ◌/◌, ◌%◌, ◌^◌, ◌<◌, ◌≤◌, get_or, get_or-set_same, get_or-set_other, get_or-take, get_or-drop, ext_get_or, set, take, drop, map, Bool, true, false, cond, eqb, ltb, leb, not, ◌&&◌, ◌||◌, bit_xor, List, [], ◌∷◌, ◌++◌, length, length-set, Option, Some, None, ◌⊎◌, inl, inr, refl, sym, ap, ◌∙◌, subst, arith, rules}
-use Rattle.std.specs.Prelude.{if◌then◌else◌, MatchOption, slice_index}
-use Rattle.std.specs.List.{range_with_len}
+use Rattle.std.proofs.Common.{◌≡◌, ℕ, zero, suc, ◌+◌, ◌-◌, ◌/◌, ◌%◌, ◌^◌, ◌<◌, ◌≤◌, get_or, get_or-set_same, get_or-set_other, set, Bool, true, false, eqb, ltb, leb, ◌&&◌, bit_xor, List, [], ◌∷◌, length, length-set, inl, inr, refl, sym, ap, ◌∙◌, subst, arith}
+use Rattle.std.specs.Prelude.{if◌then◌else◌, slice_index}
 use Rattle.std.specs.Int.{bit_at}
-use Rattle.std.proofs.lemmas.Bool.{true≢false, false≢true, cases_Bool, and_parts, and_from, and_left, eqb-true, eqb-false, eq-eqb, ne_eqb, cond_both, ltb-true, ltb-false}
+use Rattle.std.proofs.lemmas.Bool.{true≢false, false≢true, cases_Bool, eqb-true, eqb-false, cond_both, ltb-true, ltb-false}
 use Rattle.std.proofs.lemmas.List.FromFn.{length-map-range_with_len, get_or-map-range_with_len}
-use Rattle.std.proofs.lemmas.Nat.Bits.{bit_at_xor, bit_at-pow_same, bit_at-pow_other, bit_at-lt, same_from_bits}
-use Rattle.spec_file.specs.declared.data.Resource.{Resource}
+use Rattle.std.proofs.lemmas.Nat.Bits.{bit_at_xor, bit_at-pow_same, bit_at-pow_other, bit_at-lt}
 use Rattle.spec_file.specs.Image.{Image, page, maps_start}
 use Rattle.spec_log.specs.declared.item.Cell.{Cell}
 use Rattle.spec_log.specs.declared.item.Cell.TheVariants.{Bytes, Bit}
-use Rattle.spec_log.specs.declared.item.Record.{Record}
-use Rattle.spec_log.specs.declared.item.Record.TheVariants.{Start, Change, Undo, Commit, Abort, Snap, Failed, CheckEnd}
-use Rattle.spec_log.specs.Items.{tran_of, has_form, has_cell_form}
-use Rattle.spec_log.specs.Log.{item_at}
-use Rattle.spec_log.specs.Rules.{HaveForm}
 use Rattle.spec_log.specs.Cells.{byte_with, with_bytes, with_bit, with_map_bit, put}
-use Rattle.spec_log.specs.Images.{put_before, put_after, apply, take_back, applied, changed, taken_back}
-use Rattle.law_undo.specs.Atoms.{Atom, read, has_atom, bit_in, change_on, turned, named_on, write_on, over, under, applied_at, taken_back_at}
+use Rattle.law_undo.specs.Atoms.{Atom, read, has_atom, bit_in}
 
 -- the atom lies inside the image
 pub record IsInside (k : Atom) (image : Image) : Type 0 where
@@ -77,11 +69,11 @@ bit_with : (byte i v j : ℕ) → v < 2 → bit_at (with_bit byte i v) j ≡ (if
 bit_with byte i v j lt =
     cond_both (eqb (bit_at byte i) v) byte (bit_xor byte (2 ^ i)) (λ w. bit_at w j ≡ (if eqb i j then v else bit_at byte j))
     (λ e. cond_both (eqb i j) v (bit_at byte j) (λ r. bit_at byte j ≡ r)
-      (λ same. subst (λ m. bit_at byte m ≡ v) (eqb-true i j same) (eqb-true (bit_at byte i) v e)) (λ other. refl))
+    (λ same. subst (λ m. bit_at byte m ≡ v) (eqb-true i j same) (eqb-true (bit_at byte i) v e)) (λ other. refl))
     (λ e. bit_at_xor byte (2 ^ i) j ∙ cond_both (eqb i j) v (bit_at byte j) (λ r. (bit_at byte j + bit_at (2 ^ i) j) % 2 ≡ r)
-      (λ same. subst (λ m. (bit_at byte m + bit_at (2 ^ i) m) % 2 ≡ v) (eqb-true i j same)
-        (ap (λ o. (bit_at byte i + o) % 2) (bit_at-pow_same i) ∙ flipped (bit_at byte i) v (bit_at-lt byte i) lt (eqb-false (bit_at byte i) v e)))
-      (λ other. ap (λ o. (bit_at byte j + o) % 2) (bit_at-pow_other i j (λ s. eqb-false i j other (sym s))) ∙ kept (bit_at byte j) (bit_at-lt byte j)))
+    (λ same. subst (λ m. (bit_at byte m + bit_at (2 ^ i) m) % 2 ≡ v) (eqb-true i j same)
+    (ap (λ o. (bit_at byte i + o) % 2) (bit_at-pow_same i) ∙ flipped (bit_at byte i) v (bit_at-lt byte i) lt (eqb-false (bit_at byte i) v e)))
+    (λ other. ap (λ o. (bit_at byte j + o) % 2) (bit_at-pow_other i j (λ s. eqb-false i j other (sym s))) ∙ kept (bit_at byte j) (bit_at-lt byte j)))
 
 -- choices
 if_left : (b c : Bool) (u v : ℕ) → b ≡ true → (if c then u else v) ≡ (if b && c then u else v)

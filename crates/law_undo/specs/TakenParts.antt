@@ -1,8 +1,8 @@
 -- Taking back the newest part of a log, and what its items meet at each atom.
-use Rattle.std.proofs.Common.{◌≡◌, ℕ, zero, suc, ◌+◌, ◌-◌, ◌*◌, ◌/◌, ◌%◌, ◌<◌, ◌≤◌, Bool, true, false, cond, eqb, ltb, leb, not, ◌&&◌, ◌||◌, List, [], ◌∷◌, ◌++◌, length, Option, Some, None, ◌⊎◌, inl, inr, refl, sym, ap, ◌∙◌, subst, arith, rules}
-use Rattle.std.specs.Prelude.{if◌then◌else◌, MatchOption, slice_index, bytes_eq}
+use Rattle.std.proofs.Common.{◌≡◌, ℕ, ◌+◌, ◌<◌, Bool, true, false, eqb, ltb, leb, ◌&&◌, List, [], ◌∷◌, ◌++◌, length, Option, Some, None, inl, inr, refl, sym, ap, ◌∙◌, subst}
+use Rattle.std.specs.Prelude.{if◌then◌else◌, MatchOption}
 use lib.Pointwise.{bytes_decides}
-use Rattle.std.proofs.lemmas.Bool.{true≢false, false≢true, cases_Bool, or_cases, and_parts, and_from, eqb-true, eqb-false, both_ways, cond_both, or_left, or_right, or_parts, ltb-true}
+use Rattle.std.proofs.lemmas.Bool.{false≢true, cases_Bool, and_parts, eqb-true, both_ways, cond_both, or_parts, ltb-true}
 use Rattle.spec_file.specs.declared.geometry.Geometry.{Geometry}
 use Rattle.spec_file.specs.Image.{Image, page, page_size}
 use Rattle.spec_log.specs.declared.item.Cell.{Cell}
@@ -11,19 +11,19 @@ use Rattle.spec_log.specs.declared.item.Record.{Record}
 use Rattle.spec_log.specs.declared.item.Record.TheVariants.{Start, Change, Undo, Commit, Abort, Snap, Failed, CheckEnd}
 use Rattle.spec_log.specs.Items.{tran_of, has_cell_form}
 use Rattle.spec_log.specs.Log.{ends, has_ended, item_at}
-use Rattle.spec_log.specs.Cover.{byte_guard_by, bit_guard_by, byte_guard, bit_guard, IsCovered}
+use Rattle.spec_log.specs.Cover.{byte_guard_by, bit_guard_by, IsCovered}
 use Rattle.spec_file.specs.Roles.{role_of}
 use Rattle.spec_log.specs.Rules.{HaveForm, KeepsRules, Follows}
 use Rattle.spec_log.specs.Cells.{read_cell}
 use Rattle.spec_log.specs.Images.{take_back, shows_before, shows, page_of_cell, page_of_item, damage_of}
 use Rattle.spec_log.specs.Sound.{IsSound}
-use Rattle.law_undo.specs.Atoms.{Atom, read, has_atom, bit_in, change_on, turned, named_on, write_on, over, under, applied_at, IsQuiet}
+use Rattle.law_undo.specs.Atoms.{Atom, read, bit_in, turned, named_on, write_on, over, under, IsQuiet}
 use Rattle.law_undo.specs.LawAtAtom.{final_at, Writes}
 use Rattle.law_undo.specs.LawSteps.{item_writes}
 use Rattle.law_undo.specs.Reading.{IsInside, SameShape, shape_refl, shape_trans, inside_shape}
 use Rattle.law_undo.specs.ReadLogs.{cell_form, FormOf, form_at, read_take_back, shape_take_back}
 use Rattle.law_undo.specs.Guards.{atom, guard_of, guarded_inside, rules_at, follows_at}
-use Rattle.law_undo.specs.Views.{sound_rules, sound_forms, others_quiet}
+use Rattle.law_undo.specs.Views.{sound_rules, others_quiet}
 use Rattle.law_undo.specs.CellAtoms.{cell_shows}
 use Rattle.law_undo.specs.Law.{law_at, fits_at}
 
@@ -96,15 +96,15 @@ tells_final c g opened (x ∷ log) b p i j inside s open_now =
         TellsAt c (atom g (length b) p i j) opened log (final_at (atom g (length b) p i j) opened log (read b (atom g (length b) p i j))) →
         (chosen ≡ true → MatchOption w (Unit {0}) (λ q. over w (final_at (atom g (length b) p i j) opened log (read b (atom g (length b) p i j))) ≡ q.1))
         × TellsAt c (atom g (length b) p i j) opened log
-            (if chosen then under w (over w (final_at (atom g (length b) p i j) opened log (read b (atom g (length b) p i j)))) else over w (final_at (atom g (length b) p i j) opened log (read b (atom g (length b) p i j))))
+        (if chosen then under w (over w (final_at (atom g (length b) p i j) opened log (read b (atom g (length b) p i j)))) else over w (final_at (atom g (length b) p i j) opened log (read b (atom g (length b) p i j))))
     by_write None true e written ih = ((λ h. tt), ih)
     by_write None false e written ih = ((λ h. tt), ih)
     by_write (Some q) true e written ih = ((λ h. refl), subst (TellsAt c (atom g (length b) p i j) opened log) (sym written.finds) ih)
     by_write (Some q) false e written ih = (
       (λ h. absurd (false≢true h)),
       tells_quiet c (atom g (length b) p i j) opened log q.1 (λ t so.
-        others_quiet (atom g (length b) p i j) (log ++ opened) (tran_of x) t (rules_at g (length b) p i j (log ++ opened) (sound_rules g (length b) opened b log s.3))
-        written.holder (other (tran_of x) t e so) (or_parts (ends t x) (has_ended (log ++ opened) t) (open_now t so)).1),
+          others_quiet (atom g (length b) p i j) (log ++ opened) (tran_of x) t (rules_at g (length b) p i j (log ++ opened) (sound_rules g (length b) opened b log s.3))
+          written.holder (other (tran_of x) t e so) (or_parts (ends t x) (has_ended (log ++ opened) t) (open_now t so)).1),
     )
 
 -- the cell of a Change lies in the file
@@ -164,7 +164,7 @@ shows_named g pages (Some (Start session index tran number changes size takes)) 
 shows_named g pages (Some (Change tran cell before after)) image form inside file tells =
     (bytes_decides (read_cell image cell (length before)) before).1
     (cell_shows image cell before after (guard_of g pages) form (subst (λ n. page_of_cell cell < n) (sym file.as_many) inside) (file.whole (page_of_cell cell) inside) before (cell_form cell before after form).as_long
-      (λ p i j within h. subst (λ s. MatchOption {T = ℕ × ℕ} (turned (if s then Some (bit_in cell before (atom g pages p i j), bit_in cell after (atom g pages p i j)) else None)) (Unit {0}) (λ q. read image (atom g pages p i j) ≡ q.1)) h (tells p i j within)))
+    (λ p i j within h. subst (λ s. MatchOption {T = ℕ × ℕ} (turned (if s then Some (bit_in cell before (atom g pages p i j), bit_in cell after (atom g pages p i j)) else None)) (Unit {0}) (λ q. read image (atom g pages p i j) ≡ q.1)) h (tells p i j within)))
 shows_named g pages (Some (Undo tran change)) image form inside file tells = refl
 shows_named g pages (Some (Commit tran)) image form inside file tells = refl
 shows_named g pages (Some (Abort tran)) image form inside file tells = refl
@@ -179,7 +179,7 @@ shows_item g pages older (Change tran cell before after) image f r rs file tells
     let inside = covered_inside g pages older tran.0 cell before after f.0 r.1 in
     (bytes_decides (read_cell image cell (length after)) after).1
     (cell_shows image cell before after (guard_of g pages) f.0 (subst (λ n. page_of_cell cell < n) (sym file.as_many) inside) (file.whole (page_of_cell cell) inside) after refl
-      (λ p i j within h. subst (λ s. MatchOption {T = ℕ × ℕ} (if s then Some (bit_in cell before (atom g pages p i j), bit_in cell after (atom g pages p i j)) else None) (Unit {0}) (λ q. read image (atom g pages p i j) ≡ q.1)) h (tells p i j within)))
+    (λ p i j within h. subst (λ s. MatchOption {T = ℕ × ℕ} (if s then Some (bit_in cell before (atom g pages p i j), bit_in cell after (atom g pages p i j)) else None) (Unit {0}) (λ q. read image (atom g pages p i j) ≡ q.1)) h (tells p i j within)))
 shows_item g pages older (Undo tran change) image f r rs file tells =
     shows_named g pages (item_at older change.0) image (form_at older change.0 f.1) (named_inside g pages older change.0 f.1 rs) file tells
 shows_item g pages older (Commit tran) image f r rs file tells = refl
@@ -198,20 +198,20 @@ part_undamaged c g pages opened (x ∷ log) image f r file tells =
   where
     by_choice : (chosen : Bool) → c (tran_of x) ≡ chosen →
         ((next : Image) → IsFile pages next → ((p i j : ℕ) → IsInside (atom g pages p i j) next → TellsAt c (atom g pages p i j) opened log (read next (atom g pages p i j))) →
-          damage_of c (log ++ opened) next ≡ damage_of c opened (taken_part c opened log next)) →
+        damage_of c (log ++ opened) next ≡ damage_of c opened (taken_part c opened log next)) →
         (if chosen then (if shows (log ++ opened) x image then damage_of c (log ++ opened) (take_back (log ++ opened) x image) else Some (page_of_item (log ++ opened) x)) else damage_of c (log ++ opened) image)
         ≡ damage_of c opened (taken_part c opened log (if chosen then take_back (log ++ opened) x image else image))
     by_choice true e ih =
         let next = take_back (log ++ opened) x image in
         let shape = shape_take_back (log ++ opened) x image in
         ap (λ s. if s then damage_of c (log ++ opened) next else Some (page_of_item (log ++ opened) x))
-          (shows_item g pages (log ++ opened) x image f r.0 r.1 file (λ p i j inside. (tells p i j inside).0 e))
+        (shows_item g pages (log ++ opened) x image f r.0 r.1 file (λ p i j inside. (tells p i j inside).0 e))
         ∙ ih next (file_shape pages image next shape file) (λ p i j inside.
-          let k = atom g pages p i j in
-          let before : IsInside k image = record { page_in = subst (λ n. k.page < n) shape.pages inside.page_in; byte_in = subst (λ n. k.byte < n) (shape.bytes k.page) inside.byte_in } in
-          subst (TellsAt c k opened log) (sym (read_take_back (log ++ opened) x image k f before))
-          (subst (λ s. TellsAt c k opened log (if s then under (write_on (log ++ opened) k x) (read image k) else read image k)) e (tells p i j before).1))
+        let k = atom g pages p i j in
+        let before : IsInside k image = record { page_in = subst (λ n. k.page < n) shape.pages inside.page_in; byte_in = subst (λ n. k.byte < n) (shape.bytes k.page) inside.byte_in } in
+        subst (TellsAt c k opened log) (sym (read_take_back (log ++ opened) x image k f before))
+        (subst (λ s. TellsAt c k opened log (if s then under (write_on (log ++ opened) k x) (read image k) else read image k)) e (tells p i j before).1))
     by_choice false e ih =
         ih image file (λ p i j inside.
-          let k = atom g pages p i j in
-          subst (λ s. TellsAt c k opened log (if s then under (write_on (log ++ opened) k x) (read image k) else read image k)) e (tells p i j inside).1)
+        let k = atom g pages p i j in
+        subst (λ s. TellsAt c k opened log (if s then under (write_on (log ++ opened) k x) (read image k) else read image k)) e (tells p i j inside).1)

@@ -1,9 +1,9 @@
 -- Bytes without a guard stay as they were opened.
-use Rattle.std.proofs.Common.{◌≡◌, ℕ, zero, suc, ◌+◌, ◌-◌, ◌*◌, ◌/◌, ◌%◌, ◌<◌, ◌≤◌, Bool, true, false, cond, eqb, ltb, leb, not, ◌&&◌, ◌||◌, List, [], ◌∷◌, ◌++◌, length, Option, Some, None, ◌⊎◌, inl, inr, refl, sym, ap, ◌∙◌, subst, arith, rules}
-use Rattle.std.specs.Prelude.{if◌then◌else◌, MatchOption, slice_index}
-use Rattle.std.proofs.lemmas.Bool.{true≢false, false≢true, cases_Bool, and_parts, eqb-true, leb-true, ltb-true, cond_both, false_from_ne_true}
+use Rattle.std.proofs.Common.{◌≡◌, ℕ, ◌+◌, ◌-◌, ◌/◌, ◌%◌, ◌<◌, ◌≤◌, Bool, true, false, eqb, ltb, leb, ◌&&◌, List, [], ◌∷◌, ◌++◌, length, Some, None, refl, ap, ◌∙◌, subst, arith}
+use Rattle.std.specs.Prelude.{if◌then◌else◌}
+use Rattle.std.proofs.lemmas.Bool.{and_parts, eqb-true, leb-true, ltb-true, cond_both, false_from_ne_true}
 use Rattle.spec_file.specs.declared.geometry.Geometry.{Geometry}
-use Rattle.spec_file.specs.Image.{Image, page, maps_start}
+use Rattle.spec_file.specs.Image.{page, maps_start}
 use Rattle.spec_log.specs.declared.item.Cell.{Cell}
 use Rattle.spec_log.specs.declared.item.Cell.TheVariants.{Bytes, Bit}
 use Rattle.spec_log.specs.declared.item.Record.{Record}
@@ -13,7 +13,6 @@ use Rattle.spec_log.specs.Log.{item_at, has_committed, is_unfinished}
 use Rattle.spec_log.specs.Cover.{byte_guard, bit_guard, HoldsGuard, IsCovered}
 use Rattle.spec_log.specs.Rules.{KeepsRules}
 use Rattle.spec_log.specs.Images.{final_image, committed_image, view_of}
-use Rattle.spec_log.specs.Sound.{IsSound}
 use Rattle.law_undo.specs.Atoms.{Atom, read, has_atom, bit_in, change_on, turned, named_on, write_on, over, under, applied_at, taken_back_at}
 use Rattle.law_undo.specs.LawAtAtom.{start_at}
 use Rattle.law_undo.specs.Reading.{IsInside, inside_shape, shape_refl}
@@ -85,7 +84,7 @@ unwritten g pages [] p i j r none none_bits = tt
 unwritten g pages (Start session index tran number changes size takes ∷ log) p i j r none none_bits = (refl, unwritten g pages log p i j r.1 none none_bits)
 unwritten g pages (Change tran cell before after ∷ log) p i j r none none_bits = (
   ap (λ s. if s then Some (bit_in cell before (atom g pages p i j), bit_in cell after (atom g pages p i j)) else None)
-  (false_from_ne_true (has_atom cell (length after) (atom g pages p i j)) (none_held g pages log tran.0 cell (length after) p i j r.0.1 none none_bits)),
+      (false_from_ne_true (has_atom cell (length after) (atom g pages p i j)) (none_held g pages log tran.0 cell (length after) p i j r.0.1 none none_bits)),
   unwritten g pages log p i j r.1 none none_bits,
 )
 unwritten g pages (Undo tran change ∷ log) p i j r none none_bits =
@@ -107,16 +106,16 @@ unguarded_stay g opened log b t p at s none none_bits =
     let commits_kept = sound_commits g (length b) opened b log s in
     let committed = committed_image opened log b in (
       same_byte b (view_of t opened log b) b p at (shape_view t opened log b commits_kept) (shape_refl b) (λ j lt lt2.
-        let k = atom g (length b) p at j in
-        let inside : IsInside k b = record { page_in = lt; byte_in = lt2 } in
-        let u = unwritten g (length b) (log ++ opened) p at j (sound_rules g (length b) opened b log s) none none_bits in
-        read_applied (λ v. eqb v t) opened log committed k forms (inside_shape k b committed (shape_committed opened log b commits_kept) inside)
-        ∙ applied_unwritten (λ v. eqb v t) k opened log (read committed k) u
-        ∙ read_committed opened log b k forms commits_kept inside
-        ∙ applied_unwritten (has_committed log) k opened log (start_at k opened (read b k)) u
-        ∙ taken_back_unwritten (is_unfinished opened) k opened (read b k) (older_unwritten k opened log u)),
+          let k = atom g (length b) p at j in
+          let inside : IsInside k b = record { page_in = lt; byte_in = lt2 } in
+          let u = unwritten g (length b) (log ++ opened) p at j (sound_rules g (length b) opened b log s) none none_bits in
+          read_applied (λ v. eqb v t) opened log committed k forms (inside_shape k b committed (shape_committed opened log b commits_kept) inside)
+          ∙ applied_unwritten (λ v. eqb v t) k opened log (read committed k) u
+          ∙ read_committed opened log b k forms commits_kept inside
+          ∙ applied_unwritten (has_committed log) k opened log (start_at k opened (read b k)) u
+          ∙ taken_back_unwritten (is_unfinished opened) k opened (read b k) (older_unwritten k opened log u)),
       same_byte b (final_image opened log b) b p at (shape_applied (λ v. true) opened log b) (shape_refl b) (λ j lt lt2.
-        let k = atom g (length b) p at j in
-        read_applied (λ v. true) opened log b k forms (record { page_in = lt; byte_in = lt2 })
-        ∙ applied_unwritten (λ v. true) k opened log (read b k) (unwritten g (length b) (log ++ opened) p at j (sound_rules g (length b) opened b log s) none none_bits)),
+          let k = atom g (length b) p at j in
+          read_applied (λ v. true) opened log b k forms (record { page_in = lt; byte_in = lt2 })
+          ∙ applied_unwritten (λ v. true) k opened log (read b k) (unwritten g (length b) (log ++ opened) p at j (sound_rules g (length b) opened b log s) none none_bits)),
     )

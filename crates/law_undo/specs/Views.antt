@@ -1,20 +1,19 @@
 -- A transaction's view and the committed image, applied in one go.
-use Rattle.std.proofs.Common.{◌≡◌, ℕ, zero, suc, ◌+◌, ◌-◌, ◌<◌, ◌≤◌, Bool, true, false, cond, eqb, ltb, leb, not, ◌&&◌, ◌||◌, List, [], ◌∷◌, ◌++◌, length, Option, Some, None, ◌⊎◌, inl, inr, refl, sym, ap, ◌∙◌, subst, arith, rules}
-use Rattle.std.specs.Prelude.{if◌then◌else◌, MatchOption}
-use Rattle.std.specs.List.{list_any}
-use Rattle.std.proofs.lemmas.Bool.{true≢false, false≢true, cases_Bool, or_cases, and_parts, and_from, eqb-true, eqb-false, eq-eqb, both_ways, cond_both, or_left, or_right}
+use Rattle.std.proofs.Common.{◌≡◌, ℕ, Bool, true, false, eqb, ◌||◌, List, [], ◌∷◌, ◌++◌, length, Option, Some, None, inl, inr, refl, sym, ap, ◌∙◌, subst}
+use Rattle.std.specs.Prelude.{if◌then◌else◌}
+use Rattle.std.proofs.lemmas.Bool.{false≢true, cases_Bool, or_cases, eqb-true, eqb-false, eq-eqb, both_ways, or_left}
 use Rattle.spec_file.specs.declared.geometry.Geometry.{Geometry}
 use Rattle.spec_file.specs.Image.{Image, page}
 use Rattle.spec_log.specs.declared.item.Record.{Record}
 use Rattle.spec_log.specs.declared.item.Record.TheVariants.{Start, Change, Undo, Commit, Abort, Snap, Failed, CheckEnd}
 use Rattle.spec_log.specs.Items.{tran_of}
-use Rattle.spec_log.specs.Log.{undoes, commits, ends, has_started, has_ended, has_committed, has_undone, has_taken, is_unfinished, holds, item_at, left_of}
-use Rattle.spec_log.specs.Rules.{HaveForm, KeepsRules, Follows}
+use Rattle.spec_log.specs.Log.{ends, has_ended, has_committed, has_undone, has_taken, holds}
+use Rattle.spec_log.specs.Rules.{HaveForm, KeepsRules}
 use Rattle.spec_log.specs.Cells.{put}
 use Rattle.spec_log.specs.Images.{apply, applied, changed, start_image, committed_image, view_of}
-use Rattle.spec_log.specs.Sound.{Fits, IsSound}
-use Rattle.law_undo.specs.Atoms.{Atom, read, has_atom, bit_in, change_on, turned, named_on, write_on, over, applied_at, IsQuiet, applied_at-same}
-use Rattle.law_undo.specs.Holders.{FollowsAt, RulesAt, or_false, holds_parts, unfinished_parts, one_holder, AreQuiet, left_quiet, quiet_without_take}
+use Rattle.spec_log.specs.Sound.{IsSound}
+use Rattle.law_undo.specs.Atoms.{Atom, read, has_atom, bit_in, turned, named_on, write_on, over, applied_at, IsQuiet, applied_at-same}
+use Rattle.law_undo.specs.Holders.{FollowsAt, RulesAt, or_false, unfinished_parts, one_holder, AreQuiet, left_quiet, quiet_without_take}
 use Rattle.law_undo.specs.LawAtAtom.{start_at, committed_at, view_at, not_true, quiet_or_holds, committed_ended}
 use Rattle.law_undo.specs.LawSteps.{taken_holds}
 use Rattle.law_undo.specs.Reading.{IsInside, SameShape, inside_shape}
@@ -171,7 +170,7 @@ view_same c k opened (x ∷ log) t v r open_now =
     by_write : (w : Option (ℕ × ℕ)) → write_on (log ++ opened) k x ≡ w → (chosen own : Bool) → c (tran_of x) ≡ chosen → eqb (tran_of x) t ≡ own →
         applied_at (λ u. eqb u t) k opened log (applied_at c k opened log v) ≡ applied_at (λ u. c u || eqb u t) k opened log v →
         (if own then over w (applied_at (λ u. eqb u t) k opened log (if chosen then over w (applied_at c k opened log v) else applied_at c k opened log v))
-          else applied_at (λ u. eqb u t) k opened log (if chosen then over w (applied_at c k opened log v) else applied_at c k opened log v))
+        else applied_at (λ u. eqb u t) k opened log (if chosen then over w (applied_at c k opened log v) else applied_at c k opened log v))
         ≡ (if chosen || own then over w (applied_at (λ u. c u || eqb u t) k opened log v) else applied_at (λ u. c u || eqb u t) k opened log v)
     by_write None e true true ec eo ih = ih
     by_write None e true false ec eo ih = ih
@@ -182,7 +181,7 @@ view_same c k opened (x ∷ log) t v r open_now =
     by_write (Some q) e false false ec eo ih = ih
     by_write (Some q) e true false ec eo ih =
         quiet_applied k opened log t q.1 (others_quiet k (log ++ opened) (tran_of x) t r.1 (writer_holds k (log ++ opened) x q r.1 r.0 e) eo
-          (or_false (ends t x) (has_ended (log ++ opened) t) open_now).1)
+        (or_false (ends t x) (has_ended (log ++ opened) t) open_now).1)
 
 -- the committed image and a view, read at an atom
 pub read_committed : (opened log : List Record) (b : Image) (k : Atom) → HaveForm (log ++ opened) → NoneUndone log → IsInside k b →
@@ -194,7 +193,7 @@ pub shape_committed : (opened log : List Record) (b : Image) → NoneUndone log 
 shape_committed opened log b n =
     subst (SameShape b) (sym (committed_applied opened log b n))
     (let s = shape_start opened b in let a = shape_applied (has_committed log) opened log (start_image opened b) in
-      record { pages = a.pages ∙ s.pages; bytes = λ p. a.bytes p ∙ s.bytes p })
+    record { pages = a.pages ∙ s.pages; bytes = λ p. a.bytes p ∙ s.bytes p })
 
 pub shape_view : (t : ℕ) (opened log : List Record) (b : Image) → NoneUndone log → SameShape b (view_of t opened log b)
 shape_view t opened log b n =

@@ -1,5 +1,6 @@
 pub mod Items
 pub mod Bytes
+pub mod BytesLaws
 pub mod Log
 pub mod Cover
 pub mod Rules

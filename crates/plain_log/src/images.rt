@@ -2,6 +2,7 @@
 ghost use Rattle.std.specs.Prelude.{slice_get, ◌≡◌, ◌+◌, ◌<◌, ◌≤◌, ◌^◌, ℕ, Some, take, drop, reverse, length, IfOk, OnOk};
 ghost use Rattle.std.specs.Option.{option_copied};
 ghost use Rattle.spec_file.specs.Image.{Image};
+ghost use Rattle.plain_log.specs.Steps.{with_committed};
 ghost use Rattle.spec_log.specs.Log.{item_at, is_unfinished as log_is_unfinished, has_committed as log_has_committed};
 ghost use Rattle.spec_log.specs.Images.{put_before, put_after, apply, take_back, taken_back, changed};
 ghost use Rattle.spec_log.specs.Images.{final_image as log_final_image, start_image as log_start_image, committed_image as log_committed_image};
@@ -110,4 +111,94 @@ fn take_item_back(
         Record::Undo { change, .. } => redo(alloc, older, *change, image),
         _ => Ok(()),
     }
+}
+
+/// The file as it stands after all items. The first `opened` of them are the log as it was found.
+pub fn final_image(
+    alloc: Global,
+    items: &[Record],
+    opened: usize,
+    b: PlainImage,
+) -> Result<PlainImage, NoMemory>
+    requires { opened ≤ length items.now }
+    ensures { IfOk result (λ image. image ≡ log_final_image (reverse (take opened items.now)) (reverse (drop opened items.now)) b) }
+{
+    let mut image = b;
+    for i in opened..items.len() {
+        apply_item(alloc, &items[..i], &items[i], &mut image)?;
+    }
+    Ok(image)
+}
+
+/// Takes item i back where its transaction is unfinished in the whole log: what is then left to take back
+/// gives the same image.
+fn take_unfinished_back(
+    alloc: Global,
+    items: &[Record],
+    i: usize,
+    image: &mut PlainImage,
+) -> Result<(), NoMemory>
+    requires { i < length items.now }
+    ensures { OnOk result (taken_back (log_is_unfinished (reverse items.now)) (reverse (take (i + 1) items.now)) image.old ≡ taken_back (log_is_unfinished (reverse items.now)) (reverse (take i items.now)) image.new) }
+{
+    let item = &items[i];
+    if !is_unfinished(items, tran_of_item(item)) {
+        return Ok(());
+    }
+    take_item_back(alloc, &items[..i], item, image)
+}
+
+/// The file as it was opened, without what was unfinished then.
+pub fn start_image(
+    alloc: Global,
+    opened: &[Record],
+    b: PlainImage,
+) -> Result<PlainImage, NoMemory>
+    ensures { IfOk result (λ image. image ≡ log_start_image (reverse opened.now) b) }
+{
+    let mut image = b;
+    let mut i = opened.len();
+    while i > 0 {
+        i -= 1;
+        take_unfinished_back(alloc, opened, i, &mut image)?;
+    }
+    Ok(image)
+}
+
+/// Puts what a Change left where its transaction has committed in the whole log.
+fn commit_change(
+    alloc: Global,
+    log: &[Record],
+    item: &Record,
+    image: &mut PlainImage,
+) -> Result<(), NoMemory>
+    ensures { OnOk result (image.new ≡ with_committed (reverse log.now) item.now image.old) }
+{
+    match item {
+        Record::Change {
+            tran, cell, after, ..
+        } => {
+            if !has_committed(log, tran.0) {
+                return Ok(());
+            }
+            put(alloc, image, *cell, after.as_slice())
+        }
+        _ => Ok(()),
+    }
+}
+
+/// What was committed: the start image with the Changes of the transactions that have committed since.
+pub fn committed_image(
+    alloc: Global,
+    opened: &[Record],
+    log: &[Record],
+    b: PlainImage,
+) -> Result<PlainImage, NoMemory>
+    ensures { IfOk result (λ image. image ≡ log_committed_image (reverse opened.now) (reverse log.now) b) }
+{
+    let mut image = start_image(alloc, opened, b)?;
+    for item in log {
+        commit_change(alloc, log, item, &mut image)?;
+    }
+    Ok(image)
 }

@@ -10,3 +10,6 @@ mod scan;
 pub use image::PlainImage;
 pub use images::{committed_image, final_image, start_image};
 pub use scan::{has_committed, has_ended, has_started, is_unfinished};
+
+#[cfg(test)]
+mod tests;

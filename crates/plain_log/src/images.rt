@@ -15,7 +15,7 @@ use spec_log::Record;
 use std::alloc::Global;
 
 /// The item with this LSN, none where there is none.
-fn item_with(items: &[Record], lsn: Lsn) -> Option<&Record>
+pub fn item_with(items: &[Record], lsn: Lsn) -> Option<&Record>
     ensures { option_copied result ≡ item_at (reverse items.now) lsn.0 }
 {
     if lsn.0 == 0 {

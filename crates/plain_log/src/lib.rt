@@ -2,6 +2,7 @@
 //! be read beside the definitions of `spec_log`.
 #![tactic(auto)]
 
+mod damage;
 mod image;
 mod images;
 mod put;

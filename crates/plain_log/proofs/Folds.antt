@@ -1,14 +1,14 @@
 -- One item more of a fold over a log, which stands in its own order.
-use Rattle.std.proofs.Common.{◌≡◌, ℕ, zero, suc, ◌+◌, ◌-◌, ◌<◌, ◌≤◌, Bool, true, false, List, [], ◌∷◌, ◌++◌, length, get_or, take, drop, take-add, get_or-drop, length-drop, reverse, take_all, refl, sym, ap, ◌∙◌, subst, arith}
-use Rattle.std.specs.Prelude.{if◌then◌else◌, Result, Ok, Err, OnOk}
+use Rattle.std.proofs.Common.{◌≡◌, ℕ, ◌+◌, ◌-◌, ◌<◌, ◌≤◌, Bool, true, false, List, ◌∷◌, ◌++◌, length, get_or, take, drop, take-add, get_or-drop, length-drop, reverse, take_all, refl, sym, ap, ◌∙◌, arith}
+use Rattle.std.specs.Prelude.{if◌then◌else◌, Some, Result, Ok, Err, OnOk}
 use Rattle.std.proofs.lemmas.List.{reverse-append}
 use Rattle.spec_file.specs.Image.{Image}
 use Rattle.spec_log.specs.declared.item.Record.{Record}
 use Rattle.spec_log.specs.declared.item.Record.TheVariants.{Start, Change, Undo, Commit, Abort, Snap, Failed, CheckEnd}
 use Rattle.spec_log.specs.Items.{tran_of}
-use Rattle.spec_log.specs.Log.{has_committed, is_unfinished}
+use Rattle.spec_log.specs.Log.{has_committed}
 use Rattle.spec_log.specs.Cells.{put}
-use Rattle.spec_log.specs.Images.{apply, take_back, applied, taken_back, changed}
+use Rattle.spec_log.specs.Images.{apply, take_back, applied, taken_back, changed, shows, page_of_item, damage_of}
 use Rattle.plain_log.specs.Steps.{with_committed}
 use Rattle.plain_log.proofs.Reverse.{reverse_take_more}
 
@@ -93,3 +93,32 @@ pub moved_back : (c : ℕ → Bool) (items : List Record) (i : ℕ) (x : Record)
 moved_back c items i x image next lt e h is_next =
     taken_more c items i x image lt e ∙ ap (λ s. taken_back c (reverse (take i items)) (if s then take_back (reverse (take i items)) x image else image)) h
     ∙ ap (taken_back c (reverse (take i items))) (sym is_next)
+
+-- one item more of the search for damage
+damage_more : (c : ℕ → Bool) (items : List Record) (i : ℕ) (x : Record) (image : Image) → i < length items → x ≡ get_or items i x →
+    damage_of c (reverse (take (i + 1) items)) image
+    ≡ (if c (tran_of x) then (if shows (reverse (take i items)) x image then damage_of c (reverse (take i items)) (take_back (reverse (take i items)) x image) else Some (page_of_item (reverse (take i items)) x)) else damage_of c (reverse (take i items)) image)
+damage_more c items i x image lt e =
+    ap (λ log. damage_of c log image) (reverse_take_more items i x lt ∙ ap (λ y. y ∷ reverse (take i items)) (sym e))
+
+pub damage_kept : (c : ℕ → Bool) (items : List Record) (at i : ℕ) (x : Record) (image : Image) → at ≡ i + 1 → i < length items → x ≡ get_or items i x → c (tran_of x) ≡ false →
+    damage_of c (reverse (take at items)) image ≡ damage_of c (reverse (take i items)) image
+damage_kept c items at i x image place lt e h =
+    ap (λ n. damage_of c (reverse (take n items)) image) place ∙ damage_more c items i x image lt e
+    ∙ ap (λ s. if s then (if shows (reverse (take i items)) x image then damage_of c (reverse (take i items)) (take_back (reverse (take i items)) x image) else Some (page_of_item (reverse (take i items)) x)) else damage_of c (reverse (take i items)) image) h
+
+pub damage_met : (c : ℕ → Bool) (items : List Record) (at i : ℕ) (x : Record) (image : Image) → at ≡ i + 1 → i < length items → x ≡ get_or items i x → c (tran_of x) ≡ true →
+    shows (reverse (take i items)) x image ≡ false → damage_of c (reverse (take at items)) image ≡ Some (page_of_item (reverse (take i items)) x)
+damage_met c items at i x image place lt e h s =
+    ap (λ n. damage_of c (reverse (take n items)) image) place ∙ damage_more c items i x image lt e
+    ∙ ap (λ s. if s then (if shows (reverse (take i items)) x image then damage_of c (reverse (take i items)) (take_back (reverse (take i items)) x image) else Some (page_of_item (reverse (take i items)) x)) else damage_of c (reverse (take i items)) image) h
+    ∙ ap (λ s. if s then damage_of c (reverse (take i items)) (take_back (reverse (take i items)) x image) else Some (page_of_item (reverse (take i items)) x)) s
+
+pub damage_moved : (c : ℕ → Bool) (items : List Record) (at i : ℕ) (x : Record) (image next : Image) → at ≡ i + 1 → i < length items → x ≡ get_or items i x → c (tran_of x) ≡ true →
+    shows (reverse (take i items)) x image ≡ true → next ≡ take_back (reverse (take i items)) x image →
+    damage_of c (reverse (take at items)) image ≡ damage_of c (reverse (take i items)) next
+damage_moved c items at i x image next place lt e h s is_next =
+    ap (λ n. damage_of c (reverse (take n items)) image) place ∙ damage_more c items i x image lt e
+    ∙ ap (λ s. if s then (if shows (reverse (take i items)) x image then damage_of c (reverse (take i items)) (take_back (reverse (take i items)) x image) else Some (page_of_item (reverse (take i items)) x)) else damage_of c (reverse (take i items)) image) h
+    ∙ ap (λ s. if s then damage_of c (reverse (take i items)) (take_back (reverse (take i items)) x image) else Some (page_of_item (reverse (take i items)) x)) s
+    ∙ ap (damage_of c (reverse (take i items))) (sym is_next)

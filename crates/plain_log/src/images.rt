@@ -7,9 +7,9 @@ ghost use Rattle.spec_log.specs.Log.{item_at, is_unfinished as log_is_unfinished
 ghost use Rattle.spec_log.specs.Images.{put_before, put_after, apply, take_back, taken_back, changed};
 ghost use Rattle.spec_log.specs.Images.{final_image as log_final_image, start_image as log_start_image, committed_image as log_committed_image};
 
+use crate::PlainImage;
 use crate::put::put;
 use crate::scan::{has_committed, is_unfinished, tran_of_item};
-use crate::PlainImage;
 use spec_file::{Lsn, NoMemory};
 use spec_log::Record;
 use std::alloc::Global;
@@ -98,7 +98,7 @@ fn apply_item(
 }
 
 /// Takes an item back, before the older ones.
-fn take_item_back(
+pub fn take_item_back(
     alloc: Global,
     older: &[Record],
     item: &Record,
@@ -149,11 +149,7 @@ fn take_unfinished_back(
 }
 
 /// The file as it was opened, without what was unfinished then.
-pub fn start_image(
-    alloc: Global,
-    opened: &[Record],
-    b: PlainImage,
-) -> Result<PlainImage, NoMemory>
+pub fn start_image(alloc: Global, opened: &[Record], b: PlainImage) -> Result<PlainImage, NoMemory>
     ensures { IfOk result (λ image. image ≡ log_start_image (reverse opened.now) b) }
 {
     let mut image = b;
@@ -176,7 +172,10 @@ fn commit_change(
 {
     match item {
         Record::Change {
-            tran, cell, after, ..
+            tran,
+            cell,
+            after,
+            ..
         } => {
             if !has_committed(log, tran.0) {
                 return Ok(());

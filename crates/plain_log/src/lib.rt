@@ -8,6 +8,7 @@ mod images;
 mod put;
 mod scan;
 
+pub use damage::damaged_page;
 pub use image::PlainImage;
 pub use images::{committed_image, final_image, start_image};
 pub use scan::{has_committed, has_ended, has_started, is_unfinished};

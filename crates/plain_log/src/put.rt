@@ -85,13 +85,7 @@ fn put_bytes(
 }
 
 /// Turns a bit of a map page to v.
-fn put_bit(
-    alloc: Global,
-    image: &mut PlainImage,
-    p: usize,
-    n: u32,
-    v: u8,
-) -> Result<(), NoMemory>
+fn put_bit(alloc: Global, image: &mut PlainImage, p: usize, n: u32, v: u8) -> Result<(), NoMemory>
     ensures ok { OnOk result (image.new ≡ slice_set image.old p (with_map_bit (page image.old p) n v)) }
     ensures err { OnErr result (image.new ≡ image.old) }
 {
@@ -111,12 +105,7 @@ fn first_byte(bytes: &[u8]) -> u8
 }
 
 /// Puts these bytes into a cell.
-pub fn put(
-    alloc: Global,
-    image: &mut PlainImage,
-    cell: Cell,
-    bytes: &[u8],
-) -> Result<(), NoMemory>
+pub fn put(alloc: Global, image: &mut PlainImage, cell: Cell, bytes: &[u8]) -> Result<(), NoMemory>
     ensures ok { OnOk result (image.new ≡ image_with image.old cell bytes.now) }
     ensures err { OnErr result (image.new ≡ image.old) }
 {

@@ -16,13 +16,7 @@ fn start(alloc: Global, tran: u64) -> Record {
     }
 }
 
-fn change(
-    alloc: Global,
-    tran: u64,
-    off: u32,
-    before: u8,
-    after: u8,
-) -> Result<Record, NoMemory> {
+fn change(alloc: Global, tran: u64, off: u32, before: u8, after: u8) -> Result<Record, NoMemory> {
     Ok(Record::Change {
         tran: Tran(tran),
         cell: Cell::Bytes {
@@ -54,10 +48,19 @@ fn first_page(image: &PlainImage) -> &[u8] {
 fn what_was_left_open_is_in_the_file_alone(rt: HostRuntime) -> Result<(), Fail> {
     let a = rt.alloc();
     let opened = vec![in a; start(a, 1), change(a, 1, 0, 0, 97)?]?;
-    let log = vec![in a; start(a, 2), change(a, 2, 1, 0, 98)?, Record::Commit { tran: Tran(2) }]?;
+    let log = vec![in a;
+        start(a, 2),
+        change(a, 2, 1, 0, 98)?,
+        Record::Commit { tran: Tran(2) },
+    ]?;
     let began = start_image(a, opened.as_slice(), one_page(a, &[97, 0, 7])?)?;
     assert_eq!(rt; first_page(&began), [0, 0, 7].as_slice());
-    let committed = committed_image(a, opened.as_slice(), log.as_slice(), one_page(a, &[97, 0, 7])?)?;
+    let committed = committed_image(
+        a,
+        opened.as_slice(),
+        log.as_slice(),
+        one_page(a, &[97, 0, 7])?,
+    )?;
     assert_eq!(rt; first_page(&committed), [0, 98, 7].as_slice());
     Ok(())
 }
@@ -69,7 +72,10 @@ fn a_rollback_half_done_is_half_in_the_file(rt: HostRuntime) -> Result<(), Fail>
         start(a, 1),
         change(a, 1, 0, 0, 1)?,
         change(a, 1, 1, 0, 2)?,
-        Record::Undo { tran: Tran(1), change: Lsn(3) },
+        Record::Undo {
+            tran: Tran(1),
+            change: Lsn(3)
+        },
     ]?;
     let file = final_image(a, items.as_slice(), 0, one_page(a, &[0, 0, 7])?)?;
     assert_eq!(rt; first_page(&file), [1, 0, 7].as_slice());
@@ -84,9 +90,15 @@ fn two_snaps_see_what_had_committed_before_each(rt: HostRuntime) -> Result<(), F
     let items = vec![in a;
         start(a, 1),
         change(a, 1, 0, 0, 1)?,
-        Record::Snap { session: 2, index: 1 },
+        Record::Snap {
+            session: 2,
+            index: 1
+        },
         Record::Commit { tran: Tran(1) },
-        Record::Snap { session: 2, index: 2 },
+        Record::Snap {
+            session: 2,
+            index: 2
+        },
     ]?;
     assert_eq!(rt; items.len(), 5);
     let first = committed_image(a, &[], &items[..2], one_page(a, &[0, 7])?)?;
@@ -115,5 +127,16 @@ fn a_bit_turns_alone(rt: HostRuntime) -> Result<(), Fail> {
     assert_eq!(rt; bytes[95], 5);
     assert_eq!(rt; bytes[96], 13);
     assert_eq!(rt; bytes[97], 5);
+    Ok(())
+}
+
+#[test]
+fn a_damaged_cell_is_named_by_its_page(rt: HostRuntime) -> Result<(), Fail> {
+    let a = rt.alloc();
+    let opened = vec![in a; start(a, 1), change(a, 1, 0, 0, 97)?]?;
+    let sound = damaged_page(a, opened.as_slice(), one_page(a, &[97, 7])?)?;
+    assert!(rt; sound.is_none());
+    let damaged = damaged_page(a, opened.as_slice(), one_page(a, &[98, 7])?)?;
+    assert_eq!(rt; damaged, Some(PageNo(0)));
     Ok(())
 }

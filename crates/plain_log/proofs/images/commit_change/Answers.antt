@@ -1,4 +1,4 @@
-use Rattle.std.proofs.Common.{◌≡◌, true, false, reverse, subst, sym, ap, ◌∙◌, OnOk}
+use Rattle.std.proofs.Common.{◌≡◌, reverse, subst, sym, ap, ◌∙◌}
 use Rattle.std.specs.Prelude.{if◌then◌else◌}
 use Rattle.spec_log.specs.Cells.{put}
 use Rattle.plain_log.specs.Steps.{with_committed}
@@ -16,4 +16,4 @@ returns-else-not-has_committed c =
     (c.put.new.image ≡ with_committed (reverse c.args.log.now) c.args.item.now c.args.image.now)
     c.put.ensures.ok
     (λ e. subst (λ item. c.put.new.image ≡ with_committed (reverse c.args.log.now) item c.args.image.now) (sym c.in-Change.is)
-      (e ∙ ap (put c.args.image.now c.in-Change.cell) c.as_slice.ensures ∙ sym (ap (λ s. if s then put c.args.image.now c.in-Change.cell c.in-Change.after else c.args.image.now) (sym c.has_committed.ensures ∙ c.if-not-has_committed.false))))
+    (e ∙ ap (put c.args.image.now c.in-Change.cell) c.as_slice.ensures ∙ sym (ap (λ s. if s then put c.args.image.now c.in-Change.cell c.in-Change.after else c.args.image.now) (sym c.has_committed.ensures ∙ c.if-not-has_committed.false))))

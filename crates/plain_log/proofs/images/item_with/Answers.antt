@@ -1,4 +1,4 @@
-use Rattle.std.proofs.Common.{◌≡◌, ◌<◌, ℕ, sym, ap, ◌∙◌, subst, reverse, arith}
+use Rattle.std.proofs.Common.{◌<◌, sym, ap, ◌∙◌, reverse, arith}
 use Rattle.spec_log.specs.Log.{item_at}
 use Rattle.plain_log.proofs.Named.{none_at_zero, got_at}
 use Rattle.plain_log.proofs.images.item_with.Goals as goal

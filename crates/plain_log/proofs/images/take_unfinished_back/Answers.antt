@@ -1,6 +1,4 @@
-use Rattle.std.proofs.Common.{◌≡◌, ◌+◌, Bool, true, false, reverse, take, sym, ap, ◌∙◌}
-use Rattle.std.proofs.lemmas.Bool.{not-true, not-false}
-use Rattle.spec_log.specs.Items.{tran_of}
+use Rattle.std.proofs.Common.{◌≡◌, ◌+◌, reverse, take, sym, ap, ◌∙◌}
 use Rattle.spec_log.specs.Log.{is_unfinished}
 use Rattle.spec_log.specs.Images.{take_back, taken_back}
 use Rattle.plain_log.proofs.Folds.{on_ok, kept_back, moved_back}
@@ -19,4 +17,4 @@ returns c =
     (taken_back chosen (reverse (take (c.args.i + 1) c.args.items.now)) c.args.image.now ≡ taken_back chosen (reverse (take c.args.i c.args.items.now)) c.take_item_back.new.image)
     c.take_item_back.ensures
     (moved_back chosen c.args.items.now c.args.i c.index-items-i.result c.args.image.now c.take_item_back.new.image c.requires c.index-items-i.is
-      (ap chosen (sym c.tran_of_item.ensures) ∙ sym c.is_unfinished.ensures ∙ c.if-not-is_unfinished.false))
+    (ap chosen (sym c.tran_of_item.ensures) ∙ sym c.is_unfinished.ensures ∙ c.if-not-is_unfinished.false))

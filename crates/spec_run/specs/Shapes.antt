@@ -1,6 +1,6 @@
 -- What a statement appends, the first item first. A record fixes the statement's place: its Start, or the
 -- Snap of a check.
-use Rattle.std.specs.Prelude.{◌≡◌, ℕ, ◌+◌, ◌<◌, ◌≤◌, ◌==◌, Bool, if◌then◌else◌, List, [], ◌∷◌, ◌++◌, length, map, sum_by}
+use Rattle.std.specs.Prelude.{◌≡◌, ◌≢◌, ℕ, ◌+◌, ◌<◌, ◌≤◌, ◌==◌, Bool, if◌then◌else◌, List, [], ◌∷◌, ◌++◌, length, map, sum_by}
 use Rattle.spec_file.specs.declared.data.Resource.{Resource}
 use Rattle.spec_log.specs.declared.item.Cell.{Cell}
 use Rattle.spec_log.specs.declared.item.Record.{Record}
@@ -20,9 +20,9 @@ planned_size changes = sum_by (λ (c : Planned). change_length (length c.after))
 
 -- what becomes of a statement
 pub data Shape : Type 0 where
-  -- refused, with a number that isn't 0
+  -- refused, with a number that isn't 0, nor 823
   Refused : (tran number : ℕ) → Shape
-  -- refused by a fault of the device at a page
+  -- refused with 823, by a fault of the device at a page
   Faulted : (tran page : ℕ) → Shape
   -- BEGIN: a new transaction
   Opening : (tran : ℕ) → Shape
@@ -66,7 +66,7 @@ tran_to_write log open_tran = if open_tran == 0 then greatest_of log + 1 else op
 
 -- what becomes of a statement fits the log before its record, and the session's open transaction
 abbrev pub FitsRecord : List Record → ℕ → Shape → Type 0
-FitsRecord log open_tran (Refused t number) = (t ≡ open_tran) × (0 < number)
+FitsRecord log open_tran (Refused t number) = (t ≡ open_tran) × (0 < number) × (number ≢ 823)
 FitsRecord log open_tran (Faulted t page) = t ≡ open_tran
 FitsRecord log open_tran (Opening t) = (open_tran ≡ 0) × (t ≡ greatest_of log + 1)
 FitsRecord log open_tran (Reading t) = t ≡ open_tran

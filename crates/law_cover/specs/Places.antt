@@ -1,15 +1,15 @@
 -- The guards at the places of a file's maps.
-use Rattle.std.proofs.Common.{◌≡◌, ℕ, zero, suc, ◌+◌, ◌-◌, ◌*◌, ◌/◌, ◌%◌, ◌<◌, ◌≤◌, Bool, true, false, ltb, Option, Some, None, ◌⊎◌, inl, inr, refl, sym, ap, ◌∙◌, subst, arith}
-use Rattle.std.proofs.lemmas.Bool.{lt-ltb, and_from}
-use Rattle.spec_file.specs.declared.data.Resource.{Resource}
+use Rattle.std.proofs.Common.{◌≡◌, ℕ, zero, suc, ◌+◌, ◌-◌, ◌*◌, ◌/◌, ◌%◌, ◌<◌, ◌≤◌, Bool, true, false, eqb, leb, ltb, ◌&&◌, Some, None, inl, inr, refl, sym, ap, ◌∙◌, subst, arith}
+use Rattle.std.proofs.lemmas.Bool.{true≢false, false≢true, lt-ltb, le-leb, and_from, ne_eqb, eq-eqb, cases_eq}
 use Rattle.spec_file.specs.declared.data.Resource.TheVariants as resource
 use Rattle.spec_file.specs.declared.geometry.Geometry.{Geometry}
 use Rattle.spec_file.specs.declared.geometry.Geometry.TheVariants.{Standard, Small}
 use Rattle.spec_file.specs.declared.role.Role.{Role}
-use Rattle.spec_file.specs.declared.role.Role.TheVariants.{Gam, Sgam}
-use Rattle.spec_file.specs.Places.{page_limit, interval_size, interval_of_page, gam_page, sgam_page, gam_place, sgam_place}
+use Rattle.spec_file.specs.declared.role.Role.TheVariants.{FileHeader, Pfs, Gam, Sgam}
+use Rattle.spec_file.specs.Places.{page_limit, interval_size, interval_of_page, gam_page, sgam_page, gam_place, sgam_place, pfs_span, pfs_page, pfs_place}
+use Rattle.spec_file.specs.Image.{maps_start}
 use Rattle.spec_file.specs.Roles.{role_of}
-use Rattle.spec_log.specs.Cover.{extent_at, extent_guard, bit_guard, bit_guard_by, in_file}
+use Rattle.spec_log.specs.Cover.{extent_at, extent_guard, bit_guard, bit_guard_by, byte_guard, byte_guard_by, paged_at}
 use Rattle.std.specs.Prelude.{if◌then◌else◌}
 
 -- the GAM bit and the SGAM bit of an extent of the file are guarded by that Extent
@@ -52,7 +52,7 @@ guarded g pages p m n e inside role interval low place lt =
     ap (λ s. if s then bit_guard_by (role_of g p) g pages p n else None) (lt-ltb p pages inside)
     ∙ sym role
     ∙ ap (λ s. if s then Some (resource.Extent (record { 0 = extent_at g p n })) else None)
-      (and_from (ltb n (interval_size g)) (ltb (extent_at g p n) (pages / 8)) (lt-ltb n (interval_size g) low) there)
+    (and_from (ltb n (interval_size g)) (ltb (extent_at g p n) (pages / 8)) (lt-ltb n (interval_size g) low) there)
     ∙ ap (λ x. Some (resource.Extent (record { 0 = x }))) at
 
 by_role : (role role2 : Role) (g : Geometry) (pages p n : ℕ) → role2 ≡ role → extent_guard g pages p n ≡ bit_guard_by role g pages p n → extent_guard g pages p n ≡ bit_guard_by role2 g pages p n
@@ -81,3 +81,68 @@ extents_guard_bits Small pages e low high lt =
       guarded Small pages (gam_page Small m) m (e % 64) e (omega arith) (by_role Gam (role_of Small (gam_page Small m)) Small pages (gam_page Small m) (e % 64) mapped.gam refl) mapped.gam_interval small place lt,
       guarded Small pages (sgam_page Small m) m (e % 64) e (omega arith) (by_role Sgam (role_of Small (sgam_page Small m)) Small pages (sgam_page Small m) (e % 64) mapped.sgam refl) mapped.sgam_interval small place lt,
     )
+
+-- the PFS byte of a page of the file is guarded by that page's Byte
+abbrev pub PagesGuardBytes : Type 0
+PagesGuardBytes = (g : Geometry) (pages p : ℕ) → 16 ≤ pages → p < pages →
+    byte_guard g pages (pfs_place g p).page (pfs_place g p).at ≡ Some (resource.Byte (record { 0 = p }))
+
+second_of : (a b : Bool) (x y z : Role) → a ≡ false → b ≡ true → (if a then x else (if b then y else z)) ≡ y
+second_of true b x y z e h = absurd (true≢false e)
+second_of false true x y z e h = refl
+second_of false false x y z e h = absurd (false≢true h)
+
+pfs_role : (g : Geometry) (p : ℕ) → (p ≡ 0 → ⊥) → p ≡ pfs_page g p → role_of g p ≡ Pfs
+pfs_role g p above own = second_of (eqb p 0) (eqb p (pfs_page g p)) FileHeader Pfs _ (ne_eqb p 0 above) (eq-eqb p (pfs_page g p) own)
+
+-- a byte of a PFS page that speaks of page p
+paged : (g : Geometry) (pages q at p : ℕ) → q < pages → role_of g q ≡ Pfs → maps_start ≤ at → at - maps_start < pfs_span g → paged_at q at ≡ p → p < pages →
+    byte_guard g pages q at ≡ Some (resource.Byte (record { 0 = p }))
+paged g pages q at p inside role low high place lt =
+    let there : ltb (paged_at q at) pages ≡ true = ap (λ x. ltb x pages) place ∙ lt-ltb p pages lt in
+    ap (λ s. if s then byte_guard_by (role_of g q) g pages q at else None) (lt-ltb q pages inside)
+    ∙ ap (λ r. byte_guard_by r g pages q at) role
+    ∙ ap (λ s. if s then Some (resource.Byte (record { 0 = paged_at q at })) else None)
+    (and_from (leb maps_start at && ltb (at - maps_start) (pfs_span g)) (ltb (paged_at q at) pages)
+    (and_from (leb maps_start at) (ltb (at - maps_start) (pfs_span g)) (le-leb maps_start at low) (lt-ltb (at - maps_start) (pfs_span g) high)) there)
+    ∙ ap (λ x. Some (resource.Byte (record { 0 = x }))) place
+
+first_part : (g : Geometry) (pages p : ℕ) → 16 ≤ pages → p < pages → p / pfs_span g ≡ 0 → p % pfs_span g ≡ p → p < pfs_span g → role_of g 1 ≡ Pfs →
+    byte_guard g pages (pfs_place g p).page (pfs_place g p).at ≡ Some (resource.Byte (record { 0 = p }))
+first_part g pages p low lt none rest small role =
+    ap (λ n. byte_guard g pages (if eqb n 0 then 1 else pfs_span g * n) (maps_start + p % pfs_span g)) none
+    ∙ ap (λ n. byte_guard g pages 1 (maps_start + n)) rest
+    ∙ paged g pages 1 (maps_start + p) p (omega arith) role (omega arith) (omega arith) (omega arith) lt
+
+later_part : (g : Geometry) (pages p n : ℕ) → p < pages → p / pfs_span g ≡ n → (n ≡ 0 → ⊥) → pfs_span g * n + p % pfs_span g ≡ p → p % pfs_span g < pfs_span g →
+    (pfs_span g * n ≡ 1 → ⊥) → role_of g (pfs_span g * n) ≡ Pfs →
+    byte_guard g pages (pfs_place g p).page (pfs_place g p).at ≡ Some (resource.Byte (record { 0 = p }))
+later_part g pages p n lt part some place small not_one role =
+    let q = pfs_span g * n in
+    let at = maps_start + p % pfs_span g in
+    ap (λ m. byte_guard g pages (if eqb m 0 then 1 else pfs_span g * m) at) part
+    ∙ ap (λ s. byte_guard g pages (if s then 1 else q) at) (ne_eqb n 0 some)
+    ∙ paged g pages q at p (omega arith) role (omega arith) (omega arith)
+    (ap (λ s. (if s then 0 else q) + (at - maps_start)) (ne_eqb q 1 not_one) ∙ omega arith) lt
+
+pub pages_guard_bytes : PagesGuardBytes
+pages_guard_bytes Standard pages p low lt = elim (cases_eq (p / 8088) 0) [
+  | inl none ↦ first_part Standard pages p low lt none (omega arith) (omega arith) refl
+  | inr some ↦ later_part Standard pages p (p / 8088) lt refl some (omega arith) (omega arith) (λ e. omega arith)
+      (pfs_role Standard (8088 * (p / 8088)) (λ e. omega arith) (by_part (p / 8088) some))
+]
+  where
+    by_part : (n : ℕ) → (n ≡ 0 → ⊥) → 8088 * n ≡ pfs_page Standard (8088 * n)
+    by_part n some =
+        let same : 8088 * n / 8088 ≡ n = omega arith in
+        sym (ap (λ m. if eqb m 0 then 1 else 8088 * m) same ∙ ap (λ s. if s then 1 else 8088 * n) (ne_eqb n 0 some))
+pages_guard_bytes Small pages p low lt = elim (cases_eq (p / 88) 0) [
+  | inl none ↦ first_part Small pages p low lt none (omega arith) (omega arith) refl
+  | inr some ↦ later_part Small pages p (p / 88) lt refl some (omega arith) (omega arith) (λ e. omega arith)
+      (pfs_role Small (88 * (p / 88)) (λ e. omega arith) (by_part (p / 88) some))
+]
+  where
+    by_part : (n : ℕ) → (n ≡ 0 → ⊥) → 88 * n ≡ pfs_page Small (88 * n)
+    by_part n some =
+        let same : 88 * n / 88 ≡ n = omega arith in
+        sym (ap (λ m. if eqb m 0 then 1 else 88 * m) same ∙ ap (λ s. if s then 1 else 88 * n) (ne_eqb n 0 some))

@@ -26,7 +26,7 @@ pub data Shape : Type 0 where
   Faulted : (tran page : ℕ) → Shape
   -- BEGIN: a new transaction
   Opening : (tran : ℕ) → Shape
-  -- SELECT and COUNT, and a statement that writes nothing
+  -- SELECT and COUNT
   Reading : (tran : ℕ) → Shape
   -- INSERT, UPDATE, DELETE, CREATE, DROP: changes, and a Commit where the transaction is the statement's own
   Writing : (tran : ℕ) (takes : List Resource) (changes : List Planned) (own : Bool) → Shape

@@ -1,2 +1,5 @@
 pub mod Faults
+pub mod NumberLaws
+pub mod Numbers
 pub mod Reading
+pub mod Zeros

@@ -3,14 +3,19 @@
 #![tactic(auto)]
 
 mod header;
+mod numbers;
 mod page;
 mod reader;
 mod words;
 
-pub use header::{read_header, u16_at, u32_at};
+pub use header::{read_header, write_header};
+pub use numbers::{put_u16, put_u32, u16_at, u32_at};
 pub use page::{PAGE_SIZE, Page};
-pub use reader::{ReadStop, SnapReader};
+pub use reader::{ReadStop, SnapReader, read_page};
 pub use spec_file::{
     ExtentNo, Geometry, Header, Kind, Lsn, NoMemory, ObjId, PageNo, Resource, Role, Tran,
 };
 pub use words::Words;
+
+#[cfg(test)]
+mod tests;

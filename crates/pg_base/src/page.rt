@@ -1,4 +1,5 @@
-ghost use Rattle.std.specs.Prelude.{◌≡◌, IfOk, replicate};
+ghost use Rattle.std.specs.Prelude.{◌≡◌, IfOk};
+ghost use Rattle.pg_base.specs.Zeros.{zero_page};
 
 use crate::NoMemory;
 use std::alloc::Global;
@@ -14,7 +15,9 @@ pub struct Page {
 
 impl Page {
     /// A page of zeros, to be read into.
-    pub fn zeroed(alloc: Global) -> Result<Box<Page>, NoMemory> {
+    pub fn zeroed(alloc: Global) -> Result<Box<Page>, NoMemory>
+        ensures { IfOk result (λ page. page.value.bytes ≡ zero_page) }
+    {
         Ok(Box::new(alloc, Page { bytes: [0; 8192] })?)
     }
 }

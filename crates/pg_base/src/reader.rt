@@ -1,9 +1,10 @@
-ghost use Rattle.std.specs.Prelude.{◌≡◌, ◌<◌, ◌≤◌, IsTrue, Bool, List, ℕ, Option, IfSome, OnOk, length};
+ghost use Rattle.std.specs.Prelude.{◌≡◌, ◌<◌, ◌≤◌, IsTrue, Bool, List, ℕ, Option, IfSome, IfOk, OnOk, length};
 ghost use Rattle.std.specs.Option.{ForSome};
 ghost use Rattle.spec_file.specs.Image.{page};
-ghost use Rattle.pg_base.specs.Reading.{FaultHasCause, KeepsFailed, EndHasCause};
+ghost use Rattle.pg_base.specs.Reading.{StopHasCause, NamesOnly, KeepsFailed};
 
-use crate::{Page, PageNo};
+use crate::{NoMemory, Page, PageNo};
+use std::alloc::Global;
 
 /// Why a page of an image was not read.
 #[derive(Clone, Copy, Debug, PartialEq, Eq)]
@@ -13,6 +14,16 @@ pub enum ReadStop {
     /// The check that the reader reads for has ended.
     Ended,
     NoMemory,
+}
+
+impl From<NoMemory> for ReadStop {
+    ghost use Rattle.pg_base.specs.declared.reader.ReadStop.TheVariants.{NoMemory};
+
+    ghost from_gives = { λ _ stop. stop ≡ NoMemory };
+
+    fn from(_: NoMemory) -> Self {
+        ReadStop::NoMemory
+    }
 }
 
 /// Something that reads the pages of one image, as DBCC CHECKDB reads those of its snapshot.
@@ -39,9 +50,9 @@ pub trait SnapReader {
     fn page(&mut self, p: PageNo, into: &mut Page) -> Result<(), ReadStop>
         requires { p.0 < pages self.old }
         ensures page { OnOk result (IfSome (image self.old) (λ image. into.new.bytes ≡ page image p.0)) }
-        ensures fault { FaultHasCause p.0 (faults self.old) (faults self.new) (failed self.new) result }
+        ensures cause { StopHasCause (faults self.old) (faults self.new) (failed self.new) (ended self.new) result }
+        ensures named { NamesOnly p.0 result }
         ensures failed { KeepsFailed (failed self.old) (failed self.new) result }
-        ensures end { EndHasCause (ended self.new) result }
         ensures ended { IsTrue (ended self.old) → IsTrue (ended self.new) }
         ensures faults { faults self.old ≤ faults self.new }
         ensures pages { pages self.new ≡ pages self.old }
@@ -50,4 +61,20 @@ pub trait SnapReader {
 
     /// A told image has as many pages as the reader says.
     ghost whole: { (r : Self) → ForSome (image r) (λ image. length image ≡ pages r) };
+}
+
+/// Page `p` of a reader's image, in memory of its own.
+pub fn read_page<R: SnapReader>(alloc: Global, reader: &mut R, p: PageNo) -> Result<Box<Page>, ReadStop>
+    requires { p.0 < R.pages reader.old }
+    ensures page { IfOk result (λ found. IfSome (R.image reader.old) (λ image. found.value.bytes ≡ page image p.0)) }
+    ensures cause { StopHasCause (R.faults reader.old) (R.faults reader.new) (R.failed reader.new) (R.ended reader.new) result }
+    ensures ended { IsTrue (R.ended reader.old) → IsTrue (R.ended reader.new) }
+    ensures faults { R.faults reader.old ≤ R.faults reader.new }
+    ensures pages { R.pages reader.new ≡ R.pages reader.old }
+    ensures image { R.image reader.new ≡ R.image reader.old }
+    ensures bound { R.bound reader.new ≡ R.bound reader.old }
+{
+    let mut page = Page::zeroed(alloc)?;
+    reader.page(p, &mut page)?;
+    Ok(page)
 }

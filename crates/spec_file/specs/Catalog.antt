@@ -1,5 +1,5 @@
 -- The catalog: 128 entries of 40 bytes from offset 96 of page 9 (this project's own).
-use Rattle.std.specs.Prelude.{◌≡◌, ◌≢◌, ℕ, ◌+◌, ◌*◌, ◌<◌, ◌==◌, ◌&&◌, ◌||◌, Bool, false, IsTrue, not, nat_le, List, [], ◌∷◌, length, drop, slice_index, slice_range}
+use Rattle.std.specs.Prelude.{◌≡◌, ◌≢◌, ℕ, ◌+◌, ◌*◌, ◌<◌, ◌==◌, ◌&&◌, ◌||◌, Bool, false, IsTrue, not, nat_le, List, [], ◌∷◌, length, slice_index, slice_range}
 use Rattle.std.specs.List.{list_all}
 use Rattle.spec_file.specs.Image.{number_at}
 
@@ -40,11 +40,14 @@ is_name (b ∷ rest) = is_letter b && list_all is_name_byte rest && nat_le (leng
 abbrev pub has_kind : List ℕ → Bool
 has_kind entry = ((slice_index entry 4 == 1) && (number_at 4 28 entry == 0)) || (slice_index entry 4 == 2)
 
--- an entry that isn't empty: an id above 0, a kind, a name padded with zeros, and zeros where nothing is
+-- a name of 1 to 16 bytes, and zeros behind it up to the IAM page's number
+abbrev pub has_name : List ℕ → Bool
+has_name entry =
+    nat_le (name_length entry) 16 && is_name (entry_name entry) && is_zeros (slice_range entry (6 + name_length entry) 24)
+
+-- an entry that isn't empty: an id above 0, a kind, a name, and zeros where nothing is
 abbrev pub is_row : List ℕ → Bool
-is_row entry =
-    not (entry_id entry == 0) && has_kind entry && nat_le (name_length entry) 16 && is_name (entry_name entry)
-    && is_zeros (slice_range entry (6 + name_length entry) 24) && is_zeros (drop 32 entry)
+is_row entry = not (entry_id entry == 0) && has_kind entry && has_name entry && is_zeros (slice_range entry 32 40)
 
 -- the catalog has a table there
 abbrev pub IsUsed : List ℕ → ℕ → Type 0

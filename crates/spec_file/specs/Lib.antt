@@ -2,6 +2,10 @@ pub mod Image
 pub mod ImageLaws
 pub mod Header
 pub mod Places
+pub mod PlacesLaws
 pub mod Roles
 pub mod Catalog
 pub mod FileForm
+pub mod CatalogRows
+pub mod Iam
+pub mod Pfs

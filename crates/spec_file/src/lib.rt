@@ -5,11 +5,13 @@
 mod data;
 mod geometry;
 mod header;
+mod pfs;
 mod role;
 
 pub use data::{ExtentNo, Kind, Lsn, NoMemory, ObjId, PageNo, Resource, Tran};
 pub use geometry::Geometry;
 pub use header::Header;
+pub use pfs::PfsKind;
 pub use role::Role;
 
 #[cfg(test)]

@@ -1,0 +1,6 @@
+pub mod Status
+pub mod Words
+pub mod WholeFiles
+pub mod Form
+pub mod Answers
+pub mod Completeness

@@ -1,0 +1,4 @@
+pub mod Catalogs
+pub mod Gathering
+pub mod Together
+pub mod Images

@@ -1,0 +1,4 @@
+pub mod CatalogParts
+pub mod Gathered
+pub mod MapParts
+pub mod SystemParts

@@ -1,0 +1,16 @@
+//! The check of a still file without tables: its system pages, the bits of its maps, and the bytes of
+//! the report.
+#![tactic(auto)]
+
+mod catalog;
+mod check;
+mod maps;
+mod order;
+mod system;
+mod text;
+
+pub use catalog::{has_table, passes_catalog};
+pub use check::check_still;
+pub use spec_check::{CheckError, CheckReport, TableLine};
+pub use system::is_page_of;
+pub use text::write_report;

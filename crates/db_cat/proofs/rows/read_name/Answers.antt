@@ -1,0 +1,5 @@
+use Rattle.db_cat.proofs.Names.{name_is_text}
+use Rattle.db_cat.proofs.rows.read_name.Goals as goal
+
+pub unreachable-requires : goal.unreachable-requires
+unreachable-requires c = c.in-Err.ensures.cases.0 (name_is_text c.args.name.now c.requires)

@@ -1,0 +1,5 @@
+-- The bytes of a page of zeros. The word stays closed in proofs, since it would open into 8,192 zeros.
+use Rattle.std.specs.Prelude.{ℕ, List, replicate}
+
+unfoldable pub zero_page : List ℕ
+zero_page = replicate 8192 0

@@ -1,0 +1,5 @@
+pub mod Errors
+pub mod System
+pub mod Maps
+pub mod Written
+pub mod Text

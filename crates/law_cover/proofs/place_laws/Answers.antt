@@ -1,0 +1,5 @@
+use Rattle.law_cover.specs.Places.{extents_guard_bits, pages_guard_bytes}
+use Rattle.law_cover.proofs.place_laws.Goals as goal
+
+pub returns : goal.returns
+returns c = record { bits = extents_guard_bits; bytes = pages_guard_bytes }

@@ -1,0 +1,5 @@
+use Rattle.law_undo.specs.Damage.{damage_is_old}
+use Rattle.law_undo.proofs.damage_law.Goals as goal
+
+pub returns : goal.returns
+returns c = damage_is_old

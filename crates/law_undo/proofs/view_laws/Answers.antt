@@ -1,0 +1,6 @@
+use Rattle.law_undo.specs.Law.{file_shows_bytes, file_shows_bits, undos_bring_back, nobody_sees_committed}
+use Rattle.law_undo.specs.Unguarded.{unguarded_stay}
+use Rattle.law_undo.proofs.view_laws.Goals as goal
+
+pub returns : goal.returns
+returns c = record { bytes = file_shows_bytes; bits = file_shows_bits; unguarded = unguarded_stay; undone = undos_bring_back; nobody = nobody_sees_committed }

@@ -1,0 +1,7 @@
+use Rattle.std.proofs.Common.{◌≡◌, false, reverse, take}
+use Rattle.std.specs.List.{list_any}
+use Rattle.spec_log.specs.Log.{starts}
+use Rattle.plain_log.proofs.scan.has_started.Given as goal
+
+abbrev pub invariant-loop-item : goal.invariant-loop-item
+invariant-loop-item l = list_any (starts l.t) (reverse (take l.item-index l.items)) ≡ false

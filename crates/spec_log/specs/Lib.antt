@@ -1,0 +1,10 @@
+pub mod Items
+pub mod Bytes
+pub mod BytesLaws
+pub mod Log
+pub mod Cover
+pub mod Rules
+pub mod Limits
+pub mod Cells
+pub mod Images
+pub mod Sound

@@ -1,0 +1,10 @@
+//! The words in which the crates above speak of the log: its items as plain data, and, in `specs/`,
+//! what bytes an item has, which logs keep the rules, who holds what, and the images of a file under
+//! a log. The log, its items and its rules are this project's own.
+#![tactic(auto)]
+
+mod item;
+mod values;
+
+pub use item::{Cell, Record};
+pub use values::Values;

@@ -1,0 +1,5 @@
+use Rattle.spec_run.specs.Marks.{marks_change_nothing}
+use Rattle.spec_run.proofs.mark_law.Goals as goal
+
+pub returns : goal.returns
+returns c = marks_change_nothing

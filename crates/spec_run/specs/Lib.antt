@@ -1,0 +1,4 @@
+pub mod Entries
+pub mod Shapes
+pub mod Sessions
+pub mod Marks

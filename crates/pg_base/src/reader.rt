@@ -64,7 +64,11 @@ pub trait SnapReader {
 }
 
 /// Page `p` of a reader's image, in memory of its own.
-pub fn read_page<R: SnapReader>(alloc: Global, reader: &mut R, p: PageNo) -> Result<Box<Page>, ReadStop>
+pub fn read_page<R: SnapReader>(
+    alloc: Global,
+    reader: &mut R,
+    p: PageNo,
+) -> Result<Box<Page>, ReadStop>
     requires { p.0 < R.pages reader.old }
     ensures page { IfOk result (λ found. IfSome (R.image reader.old) (λ image. found.value.bytes ≡ page image p.0)) }
     ensures cause { StopHasCause (R.faults reader.old) (R.faults reader.new) (R.failed reader.new) (R.ended reader.new) result }

@@ -21,14 +21,14 @@ pub struct FileVolume<F: Read + Write + Seek + Drop> {
 }
 
 impl<F: Read + Write + Seek + Drop> FileVolume<F> {
-    /// The file of that path, which must be there.
+    /// The file of that path, which must be there. Where it may only be read, each write fails.
     pub fn at<R: Files<File = F>>(rt: &R, path: &str) -> FileVolume<F> {
+        let file = match OpenOptions::new().read(true).write(true).open(rt, path) {
+            Ok(file) => Some(file),
+            Err(_) => OpenOptions::new().read(true).open(rt, path).ok(),
+        };
         FileVolume {
-            file: OpenOptions::new()
-                .read(true)
-                .write(true)
-                .open(rt, path)
-                .ok(),
+            file,
             faults: FaultCount::ZERO,
         }
     }

@@ -1,5 +1,5 @@
 -- Each step keeps the rule.
-use Rattle.std.proofs.Common.{◌≡◌, ◌≢◌, ◌⊎◌, ◌≤◌, ◌<◌, ◌+◌, ◌-◌, ◌^◌, ◌%◌, ℕ, Bool, true, false, true≢false, List, [], ◌∷◌, ◌++◌, length, set, min, refl, sym, ap, ◌∙◌, subst, ⊎_elim, arith, length-set, get_or-set_same}
+use Rattle.std.proofs.Common.{◌≡◌, ◌≢◌, ◌≤◌, ◌<◌, ◌+◌, ◌-◌, ◌^◌, ◌%◌, ℕ, Bool, true, false, true≢false, List, [], ◌∷◌, ◌++◌, length, set, min, refl, sym, ap, ◌∙◌, subst, ⊎_elim, arith, length-set, get_or-set_same}
 use Rattle.std.specs.Prelude.{slice_index, nat_lt, ◌||◌, if◌then◌else◌}
 use Rattle.std.specs.List.{sum_by}
 use Rattle.std.proofs.lemmas.Bool.Decides.{nat_tests}
@@ -11,7 +11,7 @@ use Rattle.atomic_table.proofs.Lists.{at_set, at_snoc, set_again}
 use Rattle.ck_claim.specs.declared.rule.SeatView.{SeatView}
 use Rattle.ck_claim.specs.declared.rule.Bounds.{Bounds}
 use Rattle.ck_claim.specs.Shown.{IsEachBelow, numbers_below}
-use Rattle.ck_claim.specs.Rule.{seat_view, spent, times, once_below, parts_of, knowing_parts, times_drawn, Fits, Fitting, IsKept, drew, Drew, with_one_less, with_one_part, joined, Looked}
+use Rattle.ck_claim.specs.Rule.{seat_view, spent, once_below, parts_of, knowing_parts, times_drawn, Fits, Fitting, IsKept, drew, Drew, with_one_less, with_one_part, joined, Looked}
 use Rattle.ck_claim.proofs.Counts.{times-append, once_more, same_times, times-numbers_below}
 use Rattle.ck_claim.proofs.Views.{sum_by-set, in_sum, sum_by-le, sum_by-alone, fits-set}
 

@@ -1,4 +1,4 @@
-use Rattle.std.proofs.Common.{rules, arith, ◌≡◌, ◌≤◌, true, min, ap, subst, sym, ◌∙◌}
+use Rattle.std.proofs.Common.{rules, arith, ◌≡◌, true, min, ap, subst, ◌∙◌}
 use Rattle.ck_claim.specs.Shown.{ClaimSeatModel, IsEachBelow}
 use Rattle.ck_claim.proofs.Moves.{ends_at}
 use Rattle.ck_claim.proofs.Claims.close.Goals as goal

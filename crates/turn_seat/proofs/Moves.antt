@@ -1,5 +1,5 @@
 -- Each kind of step keeps the rule: what the calls of the table ask.
-use Rattle.std.proofs.Common.{◌≡◌, ◌≢◌, ◌≤◌, ◌<◌, ◌+◌, ◌^◌, ℕ, true, false, List, [], ◌∷◌, length, set, get_or, refl, sym, ap, ◌∙◌, subst, arith, length-set, eq-eqb, ne_eqb}
+use Rattle.std.proofs.Common.{◌≡◌, ◌≢◌, ◌<◌, ◌+◌, ◌^◌, ℕ, true, false, List, [], ◌∷◌, length, set, refl, sym, ap, ◌∙◌, subst, arith, length-set, eq-eqb, ne_eqb}
 use Rattle.std.specs.Prelude.{slice_index, ◌==◌, Option, Some, None}
 use mathlib.Core.Logic.{dite}
 use mathlib.Core.Option.{none, some, some-injective}
@@ -12,7 +12,7 @@ use Rattle.atomic_table.proofs.Lists.{set_again}
 use Rattle.turn_seat.specs.declared.rule.SeatView.{SeatView}
 use Rattle.turn_seat.specs.Shown.{longer}
 use Rattle.turn_seat.specs.Prefixes.{prefix_longer_left, prefix_longer_right}
-use Rattle.turn_seat.specs.Rule.{seat_view, outside, waiting, called, spent, parts_of, with_parts_kept, with_parts_given, joined, Fitting, IsKept, Drew, Called, Counted, Passed, Settled}
+use Rattle.turn_seat.specs.Rule.{seat_view, outside, waiting, called, spent, with_parts_kept, with_parts_given, joined, Fitting, IsKept, Drew, Called, Counted, Passed, Settled}
 use Rattle.turn_seat.proofs.Words.{set_0_0, set_0_1, set_0_2, set_1_0, set_1_1, set_1_2, set_2_0, set_2_1, set_2_2, some_same}
 use Rattle.turn_seat.proofs.Views.{parts-within}
 use Rattle.turn_seat.proofs.Turns.{draws, home, takes_state, counts, passes, settles, splits, joins, ends, starts}

@@ -40,11 +40,15 @@ const SERVING: usize = 1;
 const COUNT: usize = 2;
 const STATE: usize = 0;
 
+// The bell is set where a thread may sleep on it.
+const DOWN: u64 = 0;
+const SET: u64 = 1;
+
 /// A value at which seats take turns. Threads share it by reference.
 #[derive(Drop)]
 pub struct Turn<S: Stands> {
     table: TurnTable<S>,
-    sleepers: AtomicU64,
+    bell: AtomicU64,
 }
 
 impl<S: Stands> Model for Turn<S> {
@@ -153,7 +157,7 @@ impl<S: Stands> Turn<S> {
             Ok((table, token)) => Ok((
                 Turn {
                     table,
-                    sleepers: AtomicU64::new(0),
+                    bell: AtomicU64::new(DOWN),
                 },
                 Seat { token, parts },
             )),
@@ -161,29 +165,34 @@ impl<S: Stands> Turn<S> {
         }
     }
 
-    // Waits a little, or sleeps until the turn passes to another ticket than `served`, which some seat holds.
+    // Waits a little, or sleeps until a turn passes. A seat holds the ticket `served`, and rings when it passes it:
+    // either it sees the bell set, or we see that it has passed, or the bell is down again before we sleep.
     fn pause<R: Wait>(&self, rt: &R, patience: &mut Patience, served: u64) {
         if patience.spend() {
             return;
         }
-        self.sleepers.fetch_add(1, SeqCst);
-        self.table
-            .shared
-            .park(rt, SERVING, (served % (1 << 32)) as u32);
-        self.sleepers.fetch_sub(1, SeqCst);
+        self.bell.store(SET, SeqCst);
+        if self.table.shared.peek(SERVING) == served {
+            self.bell.park(rt, SET as u32);
+        }
     }
 
-    // Wakes who sleeps for the turn: all where a seat may wait for that very ticket, and else one, who draws it.
-    // A sleeper is counted before it looks at `serving` for the last time, and we count sleepers after we changed it,
-    // so that one of the two sees the other.
-    fn wake(&self, serving: u64) {
-        if self.sleepers.load(SeqCst) == 0 {
+    // Sets the bell again where the thread has slept, since others may sleep still: only one is woken at a time.
+    fn wake_others_later(&self, patience: &Patience) {
+        if patience.has_slept() {
+            self.bell.store(SET, SeqCst);
+        }
+    }
+
+    // Wakes one thread that sleeps, or all where one of them may wait for the very ticket that is served now.
+    fn ring(&self, serving: u64) {
+        if self.bell.load(SeqCst) == DOWN || self.bell.swap(DOWN, SeqCst) == DOWN {
             return;
         }
         if self.table.shared.peek(TICKET) == serving {
-            self.table.shared.wake_one(SERVING);
+            self.bell.wake_one();
         } else {
-            self.table.shared.wake_all(SERVING);
+            self.bell.wake_all();
         }
     }
 
@@ -205,6 +214,7 @@ impl<S: Stands> Turn<S> {
                     .shared
                     .compare_exchange::<DrawTicket>(token, TICKET, next, next + 1);
                 if found == next {
+                    self.wake_others_later(&patience);
                     return next;
                 }
             }
@@ -227,6 +237,7 @@ impl<S: Stands> Turn<S> {
                 .shared
                 .load::<LookAndTake>(token, SERVING);
             if served == ticket {
+                self.wake_others_later(&patience);
                 return;
             }
             self.pause(rt, &mut patience, served);
@@ -280,7 +291,7 @@ impl<S: Stands> Turn<S> {
         self.table
             .shared
             .store::<GiveAndPass>(&mut token, SERVING, ticket + 1);
-        self.wake(ticket + 1);
+        self.ring(ticket + 1);
         Seat { token, parts }
     }
 
@@ -332,7 +343,7 @@ impl<S: Stands> Turn<S> {
         requires all_parts { seat.parts ≡ self.parts }
         ensures { IsPrefix seat.seen (S.entries result) }
     {
-        let Turn { table, sleepers: _ } = self;
+        let Turn { table, bell: _ } = self;
         let Seat { token, parts: _ } = seat;
         let mut closed = table.close_with(token);
         let slot = closed.take(STATE);

@@ -7,7 +7,7 @@ use std::{hint, thread};
 const SPIN_ROUNDS: u32 = 7;
 
 // A thread sleeps from this round on: the rounds between let other threads run.
-const SLEEP_ROUND: u32 = 11;
+const SLEEP_ROUND: u32 = 8;
 
 // A thread that has waited for so many rounds lines up behind those that have.
 const LAST_ROUND: u32 = 16;
@@ -40,6 +40,13 @@ impl Patience {
             thread::yield_now();
         }
         round < SLEEP_ROUND
+    }
+
+    /// Whether the thread has slept.
+    pub fn has_slept(&self) -> bool
+        ensures { IsTrue result ↔ (SLEEP_ROUND < self.now.rounds) }
+    {
+        self.rounds > SLEEP_ROUND
     }
 
     /// Whether the thread has waited long.

@@ -46,16 +46,16 @@ same_times (x ∷ xs) ys same =
     let e = same x in
     let r = found x ys (omega arith) in
     let rest : (z : ℕ) → times z xs ≡ times z (r.0 ++ r.1) = λ z.
-        let a = times-cons z x xs in
-        let b = times-append z r.0 (x ∷ r.1) in
-        let c = times-cons z x r.1 in
-        let d = times-append z r.0 r.1 in
-        let f : times z ys ≡ times z (r.0 ++ x ∷ r.1) = ap (times z) r.2 in
-        let g = same z in
-        omega arith in
+    let a = times-cons z x xs in
+    let b = times-append z r.0 (x ∷ r.1) in
+    let c = times-cons z x r.1 in
+    let d = times-append z r.0 r.1 in
+    let f : times z ys ≡ times z (r.0 ++ x ∷ r.1) = ap (times z) r.2 in
+    let g = same z in
+    omega arith in
     let together = IsPermutation-trans (x ∷ xs) (x ∷ (r.0 ++ r.1)) (r.0 ++ x ∷ r.1)
-        (IsPermutation-cons x xs (r.0 ++ r.1) (same_times xs (r.0 ++ r.1) rest))
-        (IsPermutation-sym (r.0 ++ x ∷ r.1) (x ∷ (r.0 ++ r.1)) (IsPermutation-middle r.0 x r.1)) in
+    (IsPermutation-cons x xs (r.0 ++ r.1) (same_times xs (r.0 ++ r.1) rest))
+    (IsPermutation-sym (r.0 ++ x ∷ r.1) (x ∷ (r.0 ++ r.1)) (IsPermutation-middle r.0 x r.1)) in
     subst (IsPermutation (x ∷ xs)) (sym r.2) together
 
 -- the numbers from a on, below a + n

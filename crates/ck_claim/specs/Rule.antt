@@ -36,10 +36,8 @@ times_drawn x v = times x v.draws
 pub record Fits (k : Bounds) (n : ℕ) (v : SeatView) : Type 0 where
   -- a view is spent exactly where it has no part
   pub spent : v.parts ≡ 0 → v ≡ spent
-
   -- a seat with a part knows how many numbers there are
   pub count : 0 < v.parts → v.count ≡ k.count
-
   -- a seat that knows that all are drawn is right
   pub knows_all : v.knows_all ≡ true → k.count ≤ n
 
@@ -47,16 +45,12 @@ pub record Fits (k : Bounds) (n : ℕ) (v : SeatView) : Type 0 where
 pub record Fitting (k : Bounds) (n : ℕ) (views : List SeatView) : Type 0 where
   pub small_count : k.count < 2 ^ 32
   pub small_parts : k.parts < 2 ^ 32
-
   -- the parts of all views add up to the parts of `begin`
   pub parts : sum_by parts_of views ≡ k.parts
-
   -- each number below the next stands in the draws of one view, once, unless there is no such number; and no other number stands in any
   pub draws : (x : ℕ) → sum_by (times_drawn x) views ≡ once_below x (min n k.count)
-
   -- the word is never above the count plus the parts of the seats that know that all are drawn
   pub most : n ≤ k.count + sum_by knowing_parts views
-
   pub each : (i : ℕ) (v : SeatView) → get_elem? views i ≡ some v → Fits k n v
 
 -- the rule

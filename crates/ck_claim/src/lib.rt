@@ -102,10 +102,7 @@ impl Claims {
         if seat.knows_all {
             return None;
         }
-        let found = self
-            .table
-            .shared
-            .fetch_add::<Draw>(&mut seat.seat, 0, 1);
+        let found = self.table.shared.fetch_add::<Draw>(&mut seat.seat, 0, 1);
         if found < u64::from(seat.count) {
             Some(found as u32)
         } else {
@@ -122,10 +119,7 @@ impl Claims {
         ensures old { MatchOption result (seat.new ≡ seat.old) (λ _. seat.new ≡ record seat.old { parts = seat.old.parts - 1 }) }
         ensures new { IfSome result (λ new. new ≡ record seat.old { parts = 1; draws = [] }) }
     {
-        let other = self
-            .table
-            .shared
-            .split_seat::<OnePart>(&mut seat.seat);
+        let other = self.table.shared.split_seat::<OnePart>(&mut seat.seat);
         seat.parts -= 1;
         Some(ClaimSeat {
             seat: other,
@@ -146,12 +140,8 @@ impl Claims {
             parts,
             knows_all,
         } = other;
-        self.table
-            .shared
-            .join_seat::<Both>(&mut seat.seat, given);
-        self.table
-            .shared
-            .load::<Look>(&mut seat.seat, 0);
+        self.table.shared.join_seat::<Both>(&mut seat.seat, given);
+        self.table.shared.load::<Look>(&mut seat.seat, 0);
         seat.parts += parts;
         seat.knows_all = seat.knows_all || knows_all;
     }

@@ -1,5 +1,5 @@
 -- What clauses see of a claim counter and of its seats.
-use Rattle.std.specs.Prelude.{◌≡◌, ℕ, Bool, true, List, [], ◌∷◌, ◌++◌}
+use Rattle.std.specs.Prelude.{◌≡◌, ◌+◌, ◌||◌, ℕ, Bool, true, false, List, [], ◌∷◌, ◌++◌}
 use Rattle.std.specs.List.{range_with_len}
 use Rattle.std.specs.List.Sorted.{IsPermutation}
 use Rattle.atomic_table.specs.Seated.{TableId}
@@ -22,6 +22,10 @@ pub record ClaimSeatModel : Type 0 where
 abbrev pub IsOf : ClaimsModel → ClaimSeatModel → Type 0
 IsOf claims seat = (seat.claims ≡ claims.id) × (seat.count ≡ claims.count)
 
+-- a seat with all parts of these claims, which has drawn nothing
+abbrev pub first_seat : ClaimsModel → ClaimSeatModel
+first_seat claims = record { claims = claims.id; count = claims.count; parts = claims.parts; draws = []; knows_all = false }
+
 -- the seat after one more draw
 abbrev pub with_draw : ClaimSeatModel → ℕ → ClaimSeatModel
 with_draw seat n = record seat { draws = seat.draws ++ n ∷ [] }
@@ -29,6 +33,10 @@ with_draw seat n = record seat { draws = seat.draws ++ n ∷ [] }
 -- the seat once it knows that all are drawn
 abbrev pub with_all_known : ClaimSeatModel → ClaimSeatModel
 with_all_known seat = record seat { knows_all = true }
+
+-- the seat once it has the parts and the draws of another, and knows what either knew
+abbrev pub with_seat : ClaimSeatModel → ClaimSeatModel → ClaimSeatModel
+with_seat seat other = record seat { parts = seat.parts + other.parts; draws = seat.draws ++ other.draws; knows_all = seat.knows_all || other.knows_all }
 
 -- the numbers below n, in order
 abbrev pub numbers_below : ℕ → List ℕ

@@ -5,8 +5,8 @@
 //! number below its answer was drawn once.
 #![tactic(auto)]
 
-ghost use Rattle.std.specs.Prelude.{◌≡◌, ◌≢◌, ◌≤◌, ◌<◌, ◌+◌, ◌-◌, ◌++◌, ◌||◌, [], true, false, IfOk, IfSome, MatchOption};
-ghost use Rattle.ck_claim.specs.Shown.{IsOf, with_draw, with_all_known, IsEachBelow};
+ghost use Rattle.std.specs.Prelude.{◌≡◌, ◌≢◌, ◌≤◌, ◌<◌, ◌-◌, [], true, false, IfOk, IfSome, IfNone, OnSome};
+ghost use Rattle.ck_claim.specs.Shown.{IsOf, first_seat, with_draw, with_all_known, with_seat, IsEachBelow};
 
 mod rule;
 #[cfg(test)]
@@ -36,7 +36,9 @@ impl Model for Claims {
 
     ghost view = { λ c. record { id = c.table.shared.table_id; count = c.count; parts = c.table.shared.key.parts } };
 
-    ghost invariant = { λ c. (c.count ≡ c.table.shared.key.count) × (c.table.shared.table_id.words ≡ 1) × (c.table.shared.table_id.slots ≡ 0) };
+    ghost invariant = { λ c. (c.count ≡ c.table.shared.key.count)
+        × (c.table.shared.table_id.words ≡ 1)
+        × (c.table.shared.table_id.slots ≡ 0) };
 }
 
 /// The right of one thread to draw. It has at least one of the parts that `begin` made, and remembers what it drew.
@@ -57,9 +59,16 @@ impl Model for ClaimSeat {
 
     ghost Value = { ClaimSeatModel };
 
-    ghost view = { λ s. record { claims = s.seat.table_id; count = s.count; parts = s.parts; draws = s.seat.me.0.draws; knows_all = s.knows_all } };
+    ghost view = { λ s. record {
+      claims = s.seat.table_id;
+      count = s.count;
+      parts = s.parts;
+      draws = s.seat.me.0.draws;
+      knows_all = s.knows_all;
+    } };
 
-    ghost invariant = { λ s. (s.seat.me ≡ (seat_view s.count s.parts s.seat.me.0.draws s.knows_all, [])) × (0 < s.parts) };
+    ghost invariant = { λ s. (s.seat.me ≡ (seat_view s.count s.parts s.seat.me.0.draws s.knows_all, []))
+        × (0 < s.parts) };
 }
 
 impl ClaimSeat {
@@ -77,7 +86,7 @@ impl Claims {
     pub fn begin(alloc: Global, count: u32, parts: u32) -> Result<(Claims, ClaimSeat), NoMemory>
         requires { parts ≢ 0 }
         ensures claims { IfOk result (λ r. (r.0.count ≡ count) × (r.0.parts ≡ parts)) }
-        ensures seat { IfOk result (λ r. r.1 ≡ record { claims = r.0.id; count = count; parts = parts; draws = []; knows_all = false }) }
+        ensures seat { IfOk result (λ r. r.1 ≡ first_seat r.0) }
     {
         let Ok((table, seat)) = Table::of_words(alloc, &[0], &Bounds { count, parts }) else {
             return Err(NoMemory);
@@ -96,8 +105,10 @@ impl Claims {
     /// It neither waits nor wants memory.
     pub fn draw(&self, seat: &mut ClaimSeat) -> Option<u32>
         requires { IsOf self.now seat.old }
-        ensures all { MatchOption result (seat.new ≡ with_all_known seat.old) (λ n. seat.old.knows_all ≡ false) }
-        ensures drawn { IfSome result (λ n. (n < self.now.count) × (seat.new ≡ with_draw seat.old n)) }
+        ensures none { IfNone result (seat.new ≡ with_all_known seat.old) }
+        ensures drawn { IfSome result (λ n. seat.new ≡ with_draw seat.old n) }
+        ensures below { IfSome result (λ n. n < self.now.count) }
+        ensures some { OnSome result (seat.old.knows_all ≡ false) }
     {
         if seat.knows_all {
             return None;
@@ -116,7 +127,8 @@ impl Claims {
     pub fn split(&self, seat: &mut ClaimSeat) -> Option<ClaimSeat>
         requires of { IsOf self.now seat.old }
         requires parts { 1 < seat.old.parts }
-        ensures old { MatchOption result (seat.new ≡ seat.old) (λ _. seat.new ≡ record seat.old { parts = seat.old.parts - 1 }) }
+        ensures none { IfNone result (seat.new ≡ seat.old) }
+        ensures old { OnSome result (seat.new ≡ record seat.old { parts = seat.old.parts - 1 }) }
         ensures new { IfSome result (λ new. new ≡ record seat.old { parts = 1; draws = [] }) }
     {
         let other = self.table.shared.split_seat::<OnePart>(&mut seat.seat);
@@ -132,7 +144,7 @@ impl Claims {
     /// The seat gets the parts and the draws of the other, and knows that all are drawn where one of them did.
     pub fn join(&self, seat: &mut ClaimSeat, other: ClaimSeat)
         requires { IsOf self.now seat.old × IsOf self.now other }
-        ensures { seat.new ≡ record seat.old { parts = seat.old.parts + other.parts; draws = seat.old.draws ++ other.draws; knows_all = seat.old.knows_all || other.knows_all } }
+        ensures { seat.new ≡ with_seat seat.old other }
     {
         let ClaimSeat {
             seat: given,

@@ -38,7 +38,8 @@ fn draw_all(claims: &Claims, worker: &mut Worker)
 fn workers(alloc: Global, claims: &Claims, seat: &mut ClaimSeat) -> Result<Vec<Worker>, NoMemory>
     requires { IsOf claims.now seat.old }
     ensures seat { OnOk result (IsOf claims.now seat.new × (seat.new.parts ≡ 1)) }
-    ensures workers { IfOk result (λ v. All (λ w. IsOf claims.now w.seat × (w.seat.parts ≡ 1)) v.items × (vec_len v + 1 ≡ seat.old.parts)) }
+    ensures workers { IfOk result (λ v. All (λ w. IsOf claims.now w.seat × (w.seat.parts ≡ 1)) v.items) }
+    ensures count { IfOk result (λ v. vec_len v + 1 ≡ seat.old.parts) }
 {
     let mut all = Vec::new(alloc);
     'parts: while seat.parts() > 1 {

@@ -40,14 +40,11 @@ module _ {E : Type 0} where
   pub record Fits (now : List E) (next serving : ℕ) (v : SeatView E) : Type 0 where
     -- a view is spent exactly where it has no part
     pub spent : v.parts ≡ 0 → v ≡ spent
-
     -- its list is a prefix of the list that stands, and so is that of a seat that it took in
     pub seen : IsPrefix v.seen now
     pub told : IsPrefix v.told now
-
     -- a ticket that is held was drawn, and isn't passed
     pub ticket : (k : ℕ) → v.ticket ≡ Some k → (serving ≤ k) × (k < next)
-
     -- a seat that is called has the ticket that is served, and its list stands
     pub called : v.called ≡ true → (v.ticket ≡ Some serving) × (v.seen ≡ now)
 
@@ -73,22 +70,17 @@ module _ {S E : Type 0} (entries : S → List E) where
   -- the words, the slot and the views fit together
   pub record Fitting (all next serving count : ℕ) (homes : Homes) (views : List (SeatView E)) : Type 0 where
     pub small : all < 2 ^ 32
-
     -- the parts of all views add up to the parts of `begin`
     pub parts : sum_by parts_of views ≡ all
-
     -- the ticket that is served isn't above the next one
     pub order : serving ≤ next
-
     -- each ticket from the served one to before the next one is held, by one seat alone; so at most one seat is called
     pub held : (k : ℕ) → serving ≤ k → k < next → (id : ℕ) × Holds views id k
     pub once : (k i j : ℕ) → Holds views i k → Holds views j k → i ≡ j
-
     -- the list that stands, whose length is count: the state's while it is home, and the called seat's while it is out
     pub now : List E
     pub counted : count ≡ length now
     pub each : (i : ℕ) (v : SeatView E) → get_elem? views i ≡ some v → Fits now next serving v
-
     -- the slot is home unless the called seat took it
     pub slot : IsHome now homes views ⊎ IsOut homes views
 
@@ -104,11 +96,13 @@ module _ {S E : Type 0} (entries : S → List E) where
   abbrev pub Drew : Step (Option S) → Mine → ℕ → Mine → Type 0
   Drew s v n w = (n ≡ s.first → w ≡ (waiting v.0.parts v.0.seen n, v.1)) × (n ≢ s.first → w ≡ v)
 
-  -- look at serving, and take the slot where it is the seat's ticket: the seat is called, and has the state and the list that it took, which begins with all that it had seen
+  -- the seat with the ticket n is called, and has the state and the list that it took, which begins with all that it had seen
+  abbrev pub TakesState : Mine → Mine → ℕ → Type 0
+  TakesState v w n = (x : S) × (w ≡ (called v.0.parts (entries x) n, (0, Some x) ∷ [])) × IsPrefix v.0.seen (entries x)
+
+  -- look at serving, and take the slot where it is the seat's ticket
   abbrev pub Called : Step (Option S) → Mine → ℕ → Mine → Type 0
-  Called s v n w =
-      (v.0.ticket ≡ Some n → (x : S) × (w ≡ (called v.0.parts (entries x) n, (0, Some x) ∷ [])) × IsPrefix v.0.seen (entries x))
-      × (v.0.ticket ≢ Some n → w ≡ v)
+  Called s v n w = (v.0.ticket ≡ Some n → TakesState v w n) × (v.0.ticket ≢ Some n → w ≡ v)
 
   -- count items: the called seat's list is that of the state that it puts back
   abbrev pub Counted : Step (Option S) → Mine → ℕ → Mine → Type 0

@@ -1,5 +1,5 @@
 -- What clauses see of a turn and of its seats.
-use Rattle.std.specs.Prelude.{◌≡◌, ℕ, List, length, nat_lt, if◌then◌else◌}
+use Rattle.std.specs.Prelude.{◌≡◌, ◌+◌, ℕ, List, length, nat_lt, if◌then◌else◌}
 use Rattle.atomic_table.specs.Seated.{TableId}
 
 -- which turn it is, and how many parts it began with
@@ -20,3 +20,15 @@ IsOf turn seat = seat.turn ≡ turn.id
 -- of two lists the longer
 abbrev pub longer : {E : Type 0} → List E → List E → List E
 longer xs ys = if nat_lt (length xs) (length ys) then ys else xs
+
+-- a seat with all parts of the turn, which has seen the list
+abbrev pub first_seat : {E : Type 0} → TurnModel → List E → SeatModel E
+first_seat turn seen = record { turn = turn.id; parts = turn.parts; seen = seen }
+
+-- the seat once it has seen the list
+abbrev pub with_seen : {E : Type 0} → SeatModel E → List E → SeatModel E
+with_seen seat seen = record seat { seen = seen }
+
+-- the seat once it has the parts of another, and has seen the longer of both lists
+abbrev pub with_seat : {E : Type 0} → SeatModel E → SeatModel E → SeatModel E
+with_seat seat other = record seat { parts = seat.parts + other.parts; seen = longer seat.seen other.seen }

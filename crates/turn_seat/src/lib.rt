@@ -9,10 +9,10 @@
 //! thread gets its turn, nor when, nor in which order.
 #![tactic(auto)]
 
-ghost use Rattle.std.specs.Prelude.{◌≡◌, ◌≢◌, ◌<◌, ◌+◌, ◌-◌, ◌^◌, [], ◌∷◌, Some, None, IfOk, IfErr, IfSome, MatchOption};
+ghost use Rattle.std.specs.Prelude.{◌≡◌, ◌≢◌, ◌<◌, ◌+◌, ◌-◌, ◌^◌, [], ◌∷◌, Some, None, IfOk, IfErr, IfSome, IfNone, OnSome};
 ghost use mathlib.Core.List.{IsPrefix};
-ghost use Rattle.turn_seat.specs.Shown.{IsOf, longer};
-ghost use Rattle.turn_seat.specs.Rule.{outside, waiting, called};
+ghost use Rattle.turn_seat.specs.Shown.{IsOf, first_seat, with_seen, with_seat};
+ghost use Rattle.turn_seat.specs.Rule.{outside, waiting, TakesState};
 
 mod rule;
 #[cfg(test)]
@@ -21,7 +21,10 @@ mod waiting;
 
 use atomic_table::{Refused, Table};
 pub use rule::Stands;
-use rule::{Amount, Both, CountItems, DrawTicket, GiveAndPass, GiveParts, LookAndTake, OneAtATime, Opening, SeatView, Settle};
+use rule::{
+    Amount, Both, CountItems, DrawTicket, GiveAndPass, GiveParts, LookAndTake, OneAtATime, Opening,
+    SeatView, Settle,
+};
 use std::alloc::{AllocFailed, Global};
 use std::marker::{Brand, Model};
 use std::snapshot::Snapshot;
@@ -32,16 +35,26 @@ use waiting::Patience;
 
 type Token<S> = atomic_table::Seat<Option<S>, SeatView<<S as Stands>::Entry>>;
 
-type TurnTable<S> = Table<Option<S>, SeatView<<S as Stands>::Entry>, Opening<S>, OneAtATime, Global>;
+type TurnTable<S> = Table<
+    Option<S>,
+    SeatView<<S as Stands>::Entry>,
+    Opening<S>,
+    OneAtATime,
+    Global,
+>;
 
 // The words of the table, and its slot.
 const TICKET: usize = 0;
+
 const SERVING: usize = 1;
+
 const COUNT: usize = 2;
+
 const STATE: usize = 0;
 
 // The bell is set where a thread may sleep on it.
 const DOWN: u64 = 0;
+
 const SET: u64 = 1;
 
 /// A value at which seats take turns. Threads share it by reference.
@@ -59,7 +72,8 @@ impl<S: Stands> Model for Turn<S> {
 
     ghost view = { λ t. record { id = t.table.shared.table_id; parts = t.table.shared.key.parts } };
 
-    ghost invariant = { λ t. (t.table.shared.table_id.words ≡ 3) × (t.table.shared.table_id.slots ≡ 1) };
+    ghost invariant = { λ t. (t.table.shared.table_id.words ≡ 3)
+        × (t.table.shared.table_id.slots ≡ 1) };
 }
 
 /// The right of one thread to take turns. It has at least one of the parts that `begin` made, and has seen a list.
@@ -100,7 +114,9 @@ impl<S: Stands> Model for CalledSeat<S> {
 
     ghost view = { λ s. record { turn = s.token.table_id; parts = s.parts; seen = s.token.me.0.seen } };
 
-    ghost invariant = { λ s. (s.token.me ≡ (called s.parts s.token.me.0.seen s.ticket, (0, None) ∷ [])) × (0 < s.parts) × (s.ticket + 1 < 2 ^ 64) };
+    ghost invariant = { λ s. (s.token.me ≡ (called s.parts s.token.me.0.seen s.ticket, (0, None) ∷ []))
+        × (0 < s.parts)
+        × (s.ticket + 1 < 2 ^ 64) };
 }
 
 /// The value, while it is a seat's turn. Where it is dropped, the turn never passes, and nobody enters again.
@@ -139,7 +155,7 @@ impl<S: Stands> Turn<S> {
     pub fn begin(alloc: Global, state: S, parts: u32) -> Result<(Turn<S>, Seat<S>), S>
         requires { parts ≢ 0 }
         ensures turn { IfOk result (λ r. r.0.parts ≡ parts) }
-        ensures seat { IfOk result (λ r. r.1 ≡ record { turn = r.0.id; parts = parts; seen = S.entries state }) }
+        ensures seat { IfOk result (λ r. r.1 ≡ first_seat r.0 (S.entries state)) }
         ensures err { IfErr result (λ s. s ≡ state) }
     {
         let about = Opening {
@@ -200,9 +216,11 @@ impl<S: Stands> Turn<S> {
     // value it never returns.
     fn draw<R: Wait>(&self, rt: &R, token: &mut Token<S>) -> u64
         requires of { token.old.table_id ≡ self.now.id }
-        requires outside { (token.old.me ≡ (outside token.old.me.0.parts token.old.me.0.seen, [])) × (0 < token.old.me.0.parts) }
+        requires outside { token.old.me ≡ (outside token.old.me.0.parts token.old.me.0.seen, []) }
+        requires parts { 0 < token.old.me.0.parts }
         ensures of { token.new.table_id ≡ token.old.table_id }
-        ensures ticket { (token.new.me ≡ (waiting token.old.me.0.parts token.old.me.0.seen result, [])) × (result + 1 < 2 ^ 64) }
+        ensures waiting { token.new.me ≡ (waiting token.old.me.0.parts token.old.me.0.seen result, []) }
+        ensures small { result + 1 < 2 ^ 64 }
     {
         let mut patience = Patience::new();
         for _ in rt.forever() {
@@ -226,16 +244,14 @@ impl<S: Stands> Turn<S> {
     // Waits until the ticket is served, and takes the state.
     fn take<R: Wait>(&self, rt: &R, token: &mut Token<S>, ticket: u64)
         requires of { token.old.table_id ≡ self.now.id }
-        requires waiting { (token.old.me ≡ (waiting token.old.me.0.parts token.old.me.0.seen ticket, [])) × (0 < token.old.me.0.parts) }
+        requires waiting { token.old.me ≡ (waiting token.old.me.0.parts token.old.me.0.seen ticket, []) }
+        requires parts { 0 < token.old.me.0.parts }
         ensures of { token.new.table_id ≡ token.old.table_id }
-        ensures state { (x : S) × (token.new.me ≡ (called token.old.me.0.parts (S.entries x) ticket, (0, Some x) ∷ [])) × IsPrefix token.old.me.0.seen (S.entries x) }
+        ensures called { TakesState S.entries token.old.me token.new.me ticket }
     {
         let mut patience = Patience::new();
         for _ in rt.forever() {
-            let served = self
-                .table
-                .shared
-                .load::<LookAndTake>(token, SERVING);
+            let served = self.table.shared.load::<LookAndTake>(token, SERVING);
             if served == ticket {
                 self.wake_others_later(&patience);
                 return;
@@ -248,16 +264,13 @@ impl<S: Stands> Turn<S> {
     /// Waits for the seat's turn. The state's list begins with all that the seat had seen.
     pub fn enter<R: Wait>(&self, rt: &R, seat: Seat<S>) -> Inside<S>
         requires { IsOf self.now seat }
-        ensures seat { result.seat ≡ record { turn = seat.turn; parts = seat.parts; seen = S.entries result.state } }
+        ensures seat { result.seat ≡ with_seen seat (S.entries result.state) }
         ensures grown { IsPrefix seat.seen (S.entries result.state) }
     {
         let Seat { mut token, parts } = seat;
         let ticket = self.draw(rt, &mut token);
         self.take(rt, &mut token, ticket);
-        let slot = self
-            .table
-            .shared
-            .exchange(&mut token, STATE, None);
+        let slot = self.table.shared.exchange(&mut token, STATE, None);
         let Some(state) = slot else { unreachable!() };
         let seat = CalledSeat {
             token,
@@ -271,7 +284,7 @@ impl<S: Stands> Turn<S> {
     pub fn leave(&self, inside: Inside<S>) -> Seat<S>
         requires of { IsOf self.now inside.seat }
         requires grown { IsPrefix inside.seat.seen (S.entries inside.state) }
-        ensures { result ≡ record { turn = inside.seat.turn; parts = inside.seat.parts; seen = S.entries inside.state } }
+        ensures { result ≡ with_seen inside.seat (S.entries inside.state) }
     {
         let Inside { state, seat } = inside;
         let CalledSeat {
@@ -280,10 +293,7 @@ impl<S: Stands> Turn<S> {
             ticket,
         } = seat;
         let count = state.count();
-        let nothing = self
-            .table
-            .shared
-            .exchange(&mut token, STATE, Some(state));
+        let nothing = self.table.shared.exchange(&mut token, STATE, Some(state));
         let None = nothing else { unreachable!() };
         self.table
             .shared
@@ -315,7 +325,8 @@ impl<S: Stands> Turn<S> {
     pub fn split(&self, seat: &mut Seat<S>, parts: u32) -> Option<Seat<S>>
         requires of { IsOf self.now seat.old }
         requires parts { (parts ≢ 0) × (parts < seat.old.parts) }
-        ensures old { MatchOption result (seat.new ≡ seat.old) (λ _. seat.new ≡ record seat.old { parts = seat.old.parts - parts }) }
+        ensures none { IfNone result (seat.new ≡ seat.old) }
+        ensures old { OnSome result (seat.new ≡ record seat.old { parts = seat.old.parts - parts }) }
         ensures new { IfSome result (λ new. new ≡ record seat.old { parts = parts }) }
     {
         Some(self.cut::<Brand>(seat, parts))
@@ -324,16 +335,13 @@ impl<S: Stands> Turn<S> {
     /// The seat gets the parts of the other, and has seen the longer of both lists, which both begin.
     pub fn join(&self, seat: &mut Seat<S>, other: Seat<S>)
         requires { IsOf self.now seat.old × IsOf self.now other }
-        ensures seat { seat.new ≡ record seat.old { parts = seat.old.parts + other.parts; seen = longer seat.old.seen other.seen } }
-        ensures seen { IsPrefix seat.old.seen seat.new.seen × IsPrefix other.seen seat.new.seen }
+        ensures seat { seat.new ≡ with_seat seat.old other }
+        ensures mine { IsPrefix seat.old.seen seat.new.seen }
+        ensures theirs { IsPrefix other.seen seat.new.seen }
     {
         let Seat { token, parts } = other;
-        self.table
-            .shared
-            .join_seat::<Both>(&mut seat.token, token);
-        self.table
-            .shared
-            .load::<Settle>(&mut seat.token, TICKET);
+        self.table.shared.join_seat::<Both>(&mut seat.token, token);
+        self.table.shared.load::<Settle>(&mut seat.token, TICKET);
         seat.parts += parts;
     }
 

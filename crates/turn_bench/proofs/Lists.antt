@@ -1,5 +1,5 @@
 -- Lists of one entry again and again.
-use Rattle.std.proofs.Common.{◌≡◌, ◌≤◌, ℕ, zero, suc, [], ◌∷◌, ◌++◌, refl, ap, arith}
+use Rattle.std.proofs.Common.{◌≤◌, ℕ, zero, suc, ◌∷◌, refl, ap, arith}
 use Rattle.std.specs.Prelude.{replicate}
 use mathlib.Core.List.{IsPrefix}
 

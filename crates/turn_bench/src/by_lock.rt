@@ -24,8 +24,11 @@ pub fn copies_by_lock<R: Threads + Wait + Sync>(
         buffers.push(Buffer::new(alloc)?)?;
     }
     let shared = &lock;
-    thread::for_each_mut(rt, buffers.as_mut_slice(), 64, &|_, buffer: &mut Buffer| {
-        take_lock(rt, shared, buffer, turns)
-    });
-    Ok(lock.into_inner().copies())
+    thread::for_each_mut(
+        rt,
+        buffers.as_mut_slice(),
+        64,
+        &|_, buffer: &mut Buffer| { take_lock(rt, shared, buffer, turns) },
+    );
+    Ok(lock.into_inner().copies)
 }

@@ -108,5 +108,5 @@ pub fn copies_by_turn<R: Threads + Wait + Sync>(
     let mut all = workers(alloc, &turn, &mut seat)?;
     work_all(rt, &turn, all.as_mut_slice(), turns);
     gather(&turn, &mut seat, all);
-    Ok(turn.close(seat).copies())
+    Ok(turn.close(seat).copies)
 }

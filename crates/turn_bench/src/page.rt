@@ -25,8 +25,8 @@ impl Buffer {
 /// A page that is copied in each turn. Its list has an entry for each copy.
 #[derive(Drop)]
 pub struct SharedPage {
-    page: Buffer,
-    copies: u64,
+    pub page: Buffer,
+    pub copies: u64,
 }
 
 impl Stands for SharedPage {
@@ -47,12 +47,6 @@ impl SharedPage {
     {
         let page = Buffer::new(alloc)?;
         Ok(SharedPage { page, copies: 0 })
-    }
-
-    pub fn copies(&self) -> u64
-        ensures { result ≡ self.now.copies }
-    {
-        self.copies
     }
 
     /// Copies the page, and counts the copy.

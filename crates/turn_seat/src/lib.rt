@@ -2,8 +2,9 @@
 //!
 //! Sessions and readers share one state behind it. Each has a seat, which remembers the list that it saw last; at each
 //! `enter` the state's list begins with it. So what a thread has once seen of the log stands there for good, whatever
-//! other threads did meanwhile. The turn and its seats are this project's own; the lock is the ticket lock of the
-//! textbooks, but that a ticket is drawn only where it is served at once, or after a long wait.
+//! other threads did meanwhile. The turn and its seats are this project's own. Its lock is the ticket lock of the
+//! textbooks, but that a seat draws a ticket only where it is served at once, so that a thread which runs may go on
+//! while others sleep; a seat that has waited long lines up behind the one whose turn it is.
 //!
 //! The state is moved in and out of the turn's slot at each turn: put a large one into a `Box`. No proof says that a
 //! thread gets its turn, nor when, nor in which order.
@@ -52,7 +53,7 @@ const COUNT: usize = 2;
 
 const STATE: usize = 0;
 
-// The bell is set where a thread may sleep on it.
+// The bell is set where a thread may sleep on it that has no ticket.
 const DOWN: u64 = 0;
 
 const SET: u64 = 1;
@@ -98,7 +99,6 @@ impl<S: Stands> Model for Seat<S> {
 }
 
 /// A seat whose turn it is. Its list is the state's at `enter`.
-#[derive(Drop)]
 pub struct CalledSeat<S: Stands> {
     token: Token<S>,
     parts: u32,
@@ -119,8 +119,7 @@ impl<S: Stands> Model for CalledSeat<S> {
         × (s.ticket + 1 < 2 ^ 64) };
 }
 
-/// The value, while it is a seat's turn. Where it is dropped, the turn never passes, and nobody enters again.
-#[derive(Drop)]
+/// The value, while it is a seat's turn. It can't be dropped: `leave` alone takes it, so that the turn always passes.
 pub struct Inside<S: Stands> {
     pub state: S,
     pub seat: CalledSeat<S>,
@@ -181,8 +180,9 @@ impl<S: Stands> Turn<S> {
         }
     }
 
-    // Waits a little, or sleeps until a turn passes. A seat holds the ticket `served`, and rings when it passes it:
-    // either it sees the bell set, or we see that it has passed, or the bell is down again before we sleep.
+    // Waits a little, or sleeps until the bell rings. A seat holds the ticket `served`, and the last of those in line
+    // rings as it leaves: either it finds the bell set, or we find here that the turn has passed, or the bell is down
+    // again before we sleep.
     fn pause<R: Wait>(&self, rt: &R, patience: &mut Patience, served: u64) {
         if patience.spend() {
             return;
@@ -193,27 +193,17 @@ impl<S: Stands> Turn<S> {
         }
     }
 
-    // Sets the bell again where the thread has slept, since others may sleep still: only one is woken at a time.
-    fn wake_others_later(&self, patience: &Patience) {
-        if patience.has_slept() {
-            self.bell.store(SET, SeqCst);
-        }
-    }
-
-    // Wakes one thread that sleeps, or all where one of them may wait for the very ticket that is served now.
-    fn ring(&self, serving: u64) {
-        if self.bell.load(SeqCst) == DOWN || self.bell.swap(DOWN, SeqCst) == DOWN {
-            return;
-        }
-        if self.table.shared.peek(TICKET) == serving {
+    // Wakes the seat that lined up for the ticket, or else one thread that sleeps.
+    fn wake(&self, serving: u64) {
+        if self.table.shared.peek(TICKET) != serving {
+            self.table.shared.wake_one(SERVING);
+        } else if self.bell.load(SeqCst) == SET && self.bell.swap(DOWN, SeqCst) == SET {
             self.bell.wake_one();
-        } else {
-            self.bell.wake_all();
         }
     }
 
-    // Draws a ticket: the one that is served, as soon as nobody has it, or any after a long wait. At the word's last
-    // value it never returns.
+    // Draws a ticket: the one that is served, as soon as nobody has it, or after a long wait the one behind it.
+    // At the word's last value it never returns.
     fn draw<R: Wait>(&self, rt: &R, token: &mut Token<S>) -> u64
         requires of { token.old.table_id ≡ self.now.id }
         requires outside { token.old.me ≡ (outside token.old.me.0.parts token.old.me.0.seen, []) }
@@ -226,13 +216,17 @@ impl<S: Stands> Turn<S> {
         for _ in rt.forever() {
             let served = self.table.shared.peek(SERVING);
             let next = self.table.shared.peek(TICKET);
-            if next < u64::MAX && (next == served || patience.is_over()) {
+            let ahead = next.wrapping_sub(served);
+            if next < u64::MAX && (ahead == 0 || (ahead == 1 && patience.is_over())) {
                 let found = self
                     .table
                     .shared
                     .compare_exchange::<DrawTicket>(token, TICKET, next, next + 1);
                 if found == next {
-                    self.wake_others_later(&patience);
+                    // Only one thread is woken at a time, so one that has slept has the next one woken.
+                    if patience.has_slept() {
+                        self.bell.store(SET, SeqCst);
+                    }
                     return next;
                 }
             }
@@ -241,7 +235,7 @@ impl<S: Stands> Turn<S> {
         unreachable!()
     }
 
-    // Waits until the ticket is served, and takes the state.
+    // Waits until the ticket is served, mostly for nobody, and takes the state.
     fn take<R: Wait>(&self, rt: &R, token: &mut Token<S>, ticket: u64)
         requires of { token.old.table_id ≡ self.now.id }
         requires waiting { token.old.me ≡ (waiting token.old.me.0.parts token.old.me.0.seen ticket, []) }
@@ -253,10 +247,13 @@ impl<S: Stands> Turn<S> {
         for _ in rt.forever() {
             let served = self.table.shared.load::<LookAndTake>(token, SERVING);
             if served == ticket {
-                self.wake_others_later(&patience);
                 return;
             }
-            self.pause(rt, &mut patience, served);
+            if !patience.spend() {
+                self.table
+                    .shared
+                    .park(rt, SERVING, (served % (1 << 32)) as u32);
+            }
         }
         unreachable!()
     }
@@ -301,7 +298,7 @@ impl<S: Stands> Turn<S> {
         self.table
             .shared
             .store::<GiveAndPass>(&mut token, SERVING, ticket + 1);
-        self.ring(ticket + 1);
+        self.wake(ticket + 1);
         Seat { token, parts }
     }
 

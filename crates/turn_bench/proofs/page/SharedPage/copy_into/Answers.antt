@@ -1,4 +1,4 @@
-use Rattle.std.proofs.Common.{rules, arith}
+use Rattle.std.proofs.Common.{arith}
 use Rattle.turn_bench.proofs.Lists.{replicate-prefix}
 use Rattle.turn_bench.proofs.page.SharedPage.copy_into.Goals as goal
 

@@ -23,8 +23,8 @@ pub(crate) fn interval_size(g: Geometry) -> u32
     }
 }
 
-// How many pages an interval has.
-pub(crate) fn interval_pages(g: Geometry) -> u32
+/// How many pages an interval has.
+pub fn interval_pages(g: Geometry) -> u32
     ensures { result ≡ 8 * spec.interval_size g }
 {
     match g {

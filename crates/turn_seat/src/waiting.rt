@@ -9,7 +9,7 @@ const SPIN_ROUNDS: u32 = 7;
 // A thread sleeps from this round on: the rounds between let other threads run.
 const SLEEP_ROUND: u32 = 8;
 
-// A thread that has waited for so many rounds lines up behind those that have.
+// A thread that has waited for so many rounds lines up behind the one whose turn it is.
 const LAST_ROUND: u32 = 16;
 
 /// How many rounds a thread has waited.

@@ -13,8 +13,8 @@ pub fn page_limit(g: Geometry) -> u32
     }
 }
 
-// How many extents one GAM page and one SGAM page speak of.
-pub(crate) fn interval_size(g: Geometry) -> u32
+/// How many extents one GAM page and one SGAM page speak of.
+pub fn interval_size(g: Geometry) -> u32
     ensures { result ≡ spec.interval_size g }
 {
     match g {
@@ -33,8 +33,8 @@ pub fn interval_pages(g: Geometry) -> u32
     }
 }
 
-// How many pages one PFS page speaks of.
-pub(crate) fn pfs_span(g: Geometry) -> u32
+/// How many pages one PFS page speaks of.
+pub fn pfs_span(g: Geometry) -> u32
     ensures { result ≡ spec.pfs_span g }
 {
     match g {

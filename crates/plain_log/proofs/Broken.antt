@@ -1,7 +1,7 @@
 -- The first item that breaks a rule.
 use Rattle.std.proofs.Common.{◌≡◌, ℕ, ◌+◌, ◌<◌, ◌≤◌, List, [], ◌∷◌, ◌++◌, length, take-append-drop, get_or, take, drop, reverse, take_all, Some, None, sym, ap, ◌∙◌, subst, arith}
-use Rattle.std.proofs.lemmas.List.{length-reverse, reverse-append}
 use Rattle.std.specs.Prelude.{◌↔◌}
+use Rattle.std.proofs.lemmas.List.{length-reverse, reverse-append}
 use Rattle.std.proofs.lemmas.Option.{same_Some, none-some}
 use Rattle.spec_file.specs.declared.data.Lsn.{Lsn}
 use Rattle.spec_file.specs.declared.geometry.Geometry.{Geometry}
@@ -9,11 +9,6 @@ use Rattle.spec_log.specs.declared.item.Record.{Record}
 use Rattle.spec_log.specs.Rules.{Follows, KeepsRules, IsFirstBroken}
 use Rattle.plain_log.proofs.Reverse.{reverse_take_at}
 use Rattle.plain_log.proofs.Named.{length_take}
-
--- one item more that may stand there
-pub keeps_more : (g : Geometry) (pages : ℕ) (items : List Record) (i : ℕ) (x : Record) → i < length items → x ≡ get_or items i x → Follows g pages (reverse (take i items)) x → KeepsRules g pages (reverse (take i items)) →
-    KeepsRules g pages (reverse (take (i + 1) items))
-keeps_more g pages items i x lt is here before = subst (KeepsRules g pages) (sym (reverse_take_at items i x lt is)) (here, before)
 
 pub keeps_all : (g : Geometry) (pages : ℕ) (items : List Record) (i : ℕ) → length items ≤ i → KeepsRules g pages (reverse (take i items)) → KeepsRules g pages (reverse items)
 keeps_all g pages items i end kept = subst (λ xs. KeepsRules g pages (reverse xs)) (take_all i items end) kept

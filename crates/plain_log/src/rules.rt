@@ -26,15 +26,8 @@ pub fn follows(g: Geometry, pages: u32, older: &[Record], item: &Record) -> bool
             after,
             ..
         } => {
-            is_unfinished(older, tran.0)
-                && is_covered(
-                    g,
-                    pages,
-                    older,
-                    tran.0,
-                    *cell,
-                    after.as_slice().len() as u64,
-                )
+            let size = after.as_slice().len() as u64;
+            is_unfinished(older, tran.0) && is_covered(g, pages, older, tran.0, *cell, size)
         }
         Record::Undo { tran, change } => {
             is_unfinished(older, tran.0) && is_last_left(older, tran.0, *change)

@@ -17,7 +17,7 @@ pub returns-then-is_unfinished : goal.returns-then-is_unfinished
 returns-then-is_unfinished c =
     let log = reverse c.args.older.now in
     let covered : IsTrue c.is_covered.result ↔ IsCovered c.args.g c.args.pages log c.in-Change.tran.0 c.in-Change.cell (length c.in-Change.after) =
-    subst (λ after. IsTrue c.is_covered.result ↔ IsCovered c.args.g c.args.pages log c.in-Change.tran.0 c.in-Change.cell (length after)) c.as_slice-then-is_unfinished.ensures c.is_covered.ensures in
+    subst (λ after. IsTrue c.is_covered.result ↔ IsCovered c.args.g c.args.pages log c.in-Change.tran.0 c.in-Change.cell (length after)) c.as_slice-in-Change.ensures c.is_covered.ensures in
     subst (λ x. IsTrue c.is_covered.result ↔ Follows c.args.g c.args.pages log x) (sym c.in-Change.is)
     (λ h. (sym c.is_unfinished.ensures ∙ c.if-is_unfinished.true, covered.0 h), λ whole. covered.1 whole.1)
 

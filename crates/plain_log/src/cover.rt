@@ -87,6 +87,7 @@ pub fn bit_guard(g: Geometry, pages: u32, p: PageNo, n: u32) -> Option<Resource>
     bit_guard_by(role_of(g, p), g, pages, p, n)
 }
 
+/// The guard of bit n of a page of this role.
 fn bit_guard_by(role: Role, g: Geometry, pages: u32, p: PageNo, n: u32) -> Option<Resource>
     ensures { result ≡ spec.bit_guard_by role g pages p.0 n }
 {
@@ -108,6 +109,7 @@ pub fn byte_guard(g: Geometry, pages: u32, p: PageNo, at: u64) -> Option<Resourc
     byte_guard_by(role_of(g, p), g, pages, p, at)
 }
 
+/// The guard of the byte at an offset of a page of this role.
 fn byte_guard_by(role: Role, g: Geometry, pages: u32, p: PageNo, at: u64) -> Option<Resource>
     requires { at + 2 ^ 32 < 2 ^ 64 }
     ensures { result ≡ spec.byte_guard_by role g pages p.0 at }

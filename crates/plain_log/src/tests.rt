@@ -265,18 +265,22 @@ fn the_first_item_that_breaks_a_rule_is_named(rt: HostRuntime) -> Result<(), Fai
     let page = Resource::Page(PageNo(8));
     let apart = [Resource::Byte(PageNo(7)), Resource::Byte(PageNo(8))];
     let logs = vec![in a;
+        // It takes what another holds.
         (
             vec![in a; taking(a, 1, &[page])?, taking(a, 2, &[page])?]?,
             2
         ),
+        // It changes a page that it doesn't hold.
         (
             vec![in a; taking(a, 1, &[page])?, putting(a, 1, 10, 96, &[1])?]?,
             2
         ),
+        // It changes a byte that has no guard.
         (
             vec![in a; taking(a, 1, &[page])?, putting(a, 1, 0, 96, &[1])?]?,
             2
         ),
+        // It changes PFS bytes of two extents at once.
         (
             vec![in a;
                 taking(a, 1, apart.as_slice())?,
@@ -284,6 +288,7 @@ fn the_first_item_that_breaks_a_rule_is_named(rt: HostRuntime) -> Result<(), Fai
             ]?,
             2
         ),
+        // The bit's extent is past the file's end.
         (
             vec![in a;
                 taking(a, 1, &[Resource::Extent(ExtentNo(1))])?,
@@ -291,6 +296,7 @@ fn the_first_item_that_breaks_a_rule_is_named(rt: HostRuntime) -> Result<(), Fai
             ]?,
             2
         ),
+        // It undoes a change that isn't the newest.
         (
             vec![in a;
                 taking(a, 1, &[page])?,
@@ -300,8 +306,10 @@ fn the_first_item_that_breaks_a_rule_is_named(rt: HostRuntime) -> Result<(), Fai
             ]?,
             4
         ),
+        // It commits, or starts, again.
         (vec![in a; start(a, 1), commit(1), commit(1)]?, 3),
         (vec![in a; start(a, 1), commit(1), start(a, 1)]?, 3),
+        // It aborts with a change left.
         (
             vec![in a;
                 taking(a, 1, &[page])?,
@@ -310,7 +318,9 @@ fn the_first_item_that_breaks_a_rule_is_named(rt: HostRuntime) -> Result<(), Fai
             ]?,
             3
         ),
+        // It skips a number.
         (vec![in a; start(a, 2)]?, 1),
+        // No transaction takes a page.
         (vec![in a; taking(a, 0, &[page])?]?, 1),
     ]?;
     for (log, lsn) in logs.iter() {

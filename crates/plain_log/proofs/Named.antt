@@ -9,7 +9,7 @@ use Rattle.spec_log.specs.declared.item.Record.TheVariants.{Snap}
 use Rattle.spec_log.specs.Log.{item_at}
 use Rattle.plain_log.proofs.Reverse.{reverse_take_more}
 
-length_take : (xs : List Record) (n : ℕ) → n ≤ length xs → length (take n xs) ≡ n
+pub length_take : (xs : List Record) (n : ℕ) → n ≤ length xs → length (take n xs) ≡ n
 length_take [] zero h = refl
 length_take [] (suc n) h = absurd (omega arith)
 length_take (x ∷ xs) zero h = refl
@@ -18,7 +18,7 @@ length_take (x ∷ xs) (suc n) h = ap suc (length_take xs n (omega arith))
 below_if : (number at long : ℕ) → long ≡ at → number ≤ suc at → (number ≡ long + 1 → ⊥) → number ≤ at
 below_if number at long e h n = omega (arith, e, h, n)
 
-by_number : (items : List Record) (at number : ℕ) (d : Record) → at ≤ length items → 0 < number → number ≤ at → item_at (reverse (take at items)) number ≡ Some (get_or items (number - 1) d)
+pub by_number : (items : List Record) (at number : ℕ) (d : Record) → at ≤ length items → 0 < number → number ≤ at → item_at (reverse (take at items)) number ≡ Some (get_or items (number - 1) d)
 by_number items zero number d inside above below = absurd (omega (arith, above, below))
 by_number items (suc at) number d inside above below =
     let lt : at < length items = omega (arith, inside) in

@@ -1,5 +1,5 @@
 -- A list read from its end.
-use Rattle.std.proofs.Common.{◌≡◌, ℕ, zero, suc, ◌+◌, ◌<◌, Bool, true, false, ◌||◌, List, [], ◌∷◌, ◌++◌, length, get_or, take, reverse, refl, ap, ◌∙◌, subst, arith}
+use Rattle.std.proofs.Common.{◌≡◌, ℕ, zero, suc, ◌+◌, ◌<◌, Bool, true, false, ◌||◌, List, [], ◌∷◌, ◌++◌, length, get_or, take, reverse, refl, ap, ◌∙◌, subst, sym, arith}
 use Rattle.std.specs.List.{list_any}
 use Rattle.std.proofs.lemmas.List.{take_more, reverse-append}
 use Rattle.std.proofs.lemmas.Bool.{or_left, or_right}
@@ -43,3 +43,16 @@ any_hit_at p xs i x lt e h = any_hit p xs i x lt (subst (λ y. p y ≡ true) e h
 pub any_more_false_at : {X : Type 0} (p : X → Bool) (xs : List X) (i : ℕ) (x : X) → i < length xs → x ≡ get_or xs i x → list_any p (reverse (take i xs)) ≡ false → p x ≡ false →
     list_any p (reverse (take (i + 1) xs)) ≡ false
 any_more_false_at p xs i x lt e none miss = any_more_false p xs i x lt none (subst (λ y. p y ≡ false) e miss)
+
+-- the part that ends with the element at i
+pub reverse_take_at : {X : Type 0} (xs : List X) (i : ℕ) (x : X) → i < length xs → x ≡ get_or xs i x → reverse (take (i + 1) xs) ≡ x ∷ reverse (take i xs)
+reverse_take_at xs i x lt e = reverse_take_more xs i x lt ∙ ap (λ y. y ∷ reverse (take i xs)) (sym e)
+
+-- one element more, in its own order
+pub any_one_more : {X : Type 0} (p : X → Bool) (xs : List X) (i : ℕ) (x d : X) → i < length xs → x ≡ get_or xs i d → list_any p (take (i + 1) xs) ≡ (list_any p (take i xs) || (p x || false))
+any_one_more p xs i x d lt e = ap (list_any p) (take_more xs i d lt ∙ ap (λ y. take i xs ++ y ∷ []) (sym e)) ∙ any_append p (take i xs) (x ∷ [])
+
+pub any_stands : {X : Type 0} (p : X → Bool) (xs : List X) (i : ℕ) (x d : X) → i < length xs → x ≡ get_or xs i d → p x ≡ true → list_any p xs ≡ true
+any_stands p [] i x d lt e h = absurd (omega arith)
+any_stands p (y ∷ xs) zero x d lt e h = or_left (p y) (list_any p xs) (subst (λ z. p z ≡ true) e h)
+any_stands p (y ∷ xs) (suc i) x d lt e h = let less : i < length xs = omega arith in or_right (p y) (list_any p xs) (any_stands p xs i x d less e h)

@@ -1,5 +1,5 @@
 use super::*;
-use spec_file::{Lsn, NoMemory, PageNo, Tran};
+use spec_file::{ExtentNo, Geometry, Lsn, NoMemory, PageNo, Resource, Tran};
 use spec_log::{Cell, Record, Values};
 use std::alloc::Global;
 use std::test::Fail;
@@ -26,6 +26,66 @@ fn change(alloc: Global, tran: u64, off: u32, before: u8, after: u8) -> Result<R
         before: Values::copied(alloc, &[before])?,
         after: Values::copied(alloc, &[after])?,
     })
+}
+
+/// A Start of the transaction that takes these.
+fn taking(alloc: Global, tran: u64, takes: &[Resource]) -> Result<Record, NoMemory> {
+    Ok(Record::Start {
+        session: 1,
+        index: 1,
+        tran: Tran(tran),
+        number: 0,
+        changes: 0,
+        size: 0,
+        takes: Values::copied(alloc, takes)?,
+    })
+}
+
+/// A Change of the transaction that puts these bytes into a page.
+fn putting(
+    alloc: Global,
+    tran: u64,
+    page: u32,
+    off: u32,
+    after: &[u8],
+) -> Result<Record, NoMemory> {
+    Ok(Record::Change {
+        tran: Tran(tran),
+        cell: Cell::Bytes {
+            page: PageNo(page),
+            off,
+        },
+        before: Values::copied(alloc, after)?,
+        after: Values::copied(alloc, after)?,
+    })
+}
+
+/// A Change of the transaction that sets a bit of a map page.
+fn marking(alloc: Global, tran: u64, page: u32, n: u32) -> Result<Record, NoMemory> {
+    Ok(Record::Change {
+        tran: Tran(tran),
+        cell: Cell::Bit {
+            page: PageNo(page),
+            n,
+        },
+        before: Values::copied(alloc, &[0])?,
+        after: Values::copied(alloc, &[1])?,
+    })
+}
+
+fn undoing(tran: u64, change: u64) -> Record {
+    Record::Undo {
+        tran: Tran(tran),
+        change: Lsn(change),
+    }
+}
+
+fn commit(tran: u64) -> Record {
+    Record::Commit { tran: Tran(tran) }
+}
+
+fn abort(tran: u64) -> Record {
+    Record::Abort { tran: Tran(tran) }
 }
 
 /// One page of these bytes.
@@ -138,5 +198,133 @@ fn a_damaged_cell_is_named_by_its_page(rt: HostRuntime) -> Result<(), Fail> {
     assert!(rt; sound.is_none());
     let damaged = damaged_page(a, opened.as_slice(), one_page(a, &[98, 7])?)?;
     assert_eq!(rt; damaged, Some(PageNo(0)));
+    Ok(())
+}
+
+// The logs are of a small file of two extents: the first is a system extent, and the pages of the second
+// are ordinary, but page 9.
+const PAGES: u32 = 16;
+
+fn broken(items: &[Record]) -> Option<Lsn> {
+    first_broken(Geometry::Small, PAGES, items)
+}
+
+#[test]
+fn these_logs_keep_the_rules(rt: HostRuntime) -> Result<(), Fail> {
+    let a = rt.alloc();
+    let page = Resource::Page(PageNo(8));
+    let logs = vec![in a;
+        vec![in a;
+            taking(a, 1, &[page])?,
+            putting(a, 1, 8, 96, &[1, 2])?,
+            commit(1)
+        ]?,
+        vec![in a; taking(a, 1, &[page])?, commit(1), taking(a, 2, &[page])?]?,
+        vec![in a;
+            taking(a, 1, &[page])?,
+            start(a, 1),
+            putting(a, 1, 8, 0, &[1])?
+        ]?,
+        vec![in a;
+            taking(a, 1, &[Resource::Catalog])?,
+            putting(a, 1, 9, 96, &[1])?
+        ]?,
+        vec![in a;
+            taking(a, 1, &[Resource::Byte(PageNo(8))])?,
+            putting(a, 1, 1, 104, &[1])?
+        ]?,
+        vec![in a;
+            taking(a, 1, &[Resource::Extent(ExtentNo(1))])?,
+            marking(a, 1, 2, 1)?
+        ]?,
+        vec![in a;
+            taking(a, 1, &[page])?,
+            putting(a, 1, 8, 0, &[1])?,
+            putting(a, 1, 8, 1, &[1])?,
+            undoing(1, 3),
+            undoing(1, 2),
+            abort(1),
+        ]?,
+        vec![in a;
+            start(a, 0),
+            Record::Snap {
+                session: 1,
+                index: 1
+            }
+        ]?,
+    ]?;
+    for log in logs.iter() {
+        assert!(rt; broken(log.as_slice()).is_none());
+    }
+    Ok(())
+}
+
+#[test]
+fn the_first_item_that_breaks_a_rule_is_named(rt: HostRuntime) -> Result<(), Fail> {
+    let a = rt.alloc();
+    let page = Resource::Page(PageNo(8));
+    let apart = [Resource::Byte(PageNo(7)), Resource::Byte(PageNo(8))];
+    let logs = vec![in a;
+        // It takes what another holds.
+        (
+            vec![in a; taking(a, 1, &[page])?, taking(a, 2, &[page])?]?,
+            2
+        ),
+        // It changes a page that it doesn't hold.
+        (
+            vec![in a; taking(a, 1, &[page])?, putting(a, 1, 10, 96, &[1])?]?,
+            2
+        ),
+        // It changes a byte that has no guard.
+        (
+            vec![in a; taking(a, 1, &[page])?, putting(a, 1, 0, 96, &[1])?]?,
+            2
+        ),
+        // It changes PFS bytes of two extents at once.
+        (
+            vec![in a;
+                taking(a, 1, apart.as_slice())?,
+                putting(a, 1, 1, 103, &[1, 1])?
+            ]?,
+            2
+        ),
+        // The bit's extent is past the file's end.
+        (
+            vec![in a;
+                taking(a, 1, &[Resource::Extent(ExtentNo(1))])?,
+                marking(a, 1, 2, 2)?
+            ]?,
+            2
+        ),
+        // It undoes a change that isn't the newest.
+        (
+            vec![in a;
+                taking(a, 1, &[page])?,
+                putting(a, 1, 8, 0, &[1])?,
+                putting(a, 1, 8, 1, &[1])?,
+                undoing(1, 2),
+            ]?,
+            4
+        ),
+        // It commits, or starts, again.
+        (vec![in a; start(a, 1), commit(1), commit(1)]?, 3),
+        (vec![in a; start(a, 1), commit(1), start(a, 1)]?, 3),
+        // It aborts with a change left.
+        (
+            vec![in a;
+                taking(a, 1, &[page])?,
+                putting(a, 1, 8, 0, &[1])?,
+                abort(1)
+            ]?,
+            3
+        ),
+        // It skips a number.
+        (vec![in a; start(a, 2)]?, 1),
+        // No transaction takes a page.
+        (vec![in a; taking(a, 0, &[page])?]?, 1),
+    ]?;
+    for (log, lsn) in logs.iter() {
+        assert_eq!(rt; broken(log.as_slice()), Some(Lsn(*lsn)));
+    }
     Ok(())
 }

@@ -7,38 +7,18 @@ ghost use Rattle.spec_log.specs.declared.item.Cell.TheVariants as cell_word;
 ghost use Rattle.spec_log.specs.Cover as spec;
 
 use crate::holders::holds;
-use pg_geom::role_of;
+use pg_geom::{interval_size, pfs_span, role_of};
 use spec_file::{ExtentNo, Geometry, PageNo, Resource, Role};
 use spec_log::{Cell, Record};
 
 // Where the bits of a map page and the bytes of a PFS page begin.
 const MAPS_START: u64 = 96;
 
-/// How many extents one map page speaks of.
-fn interval_size(g: Geometry) -> u64
-    ensures { result ≡ places.interval_size g }
-{
-    match g {
-        Geometry::Standard => 63_904,
-        Geometry::Small => 64,
-    }
-}
-
-/// How many pages one PFS page speaks of.
-fn pfs_span(g: Geometry) -> u64
-    ensures { result ≡ places.pfs_span g }
-{
-    match g {
-        Geometry::Standard => 8088,
-        Geometry::Small => 88,
-    }
-}
-
 /// The extent that bit n of a map page speaks of.
 fn extent_at(g: Geometry, p: PageNo, n: u32) -> u64
     ensures { result ≡ spec.extent_at g p.0 n }
 {
-    let size = interval_size(g);
+    let size = u64::from(interval_size(g));
     size * (u64::from(p.0) / (8 * size)) + u64::from(n)
 }
 
@@ -56,7 +36,7 @@ fn extent_guard(g: Geometry, pages: u32, p: PageNo, n: u32) -> Option<Resource>
     ensures { result ≡ spec.extent_guard g pages p.0 n }
 {
     let extent = extent_at(g, p, n);
-    if u64::from(n) < interval_size(g) && extent < u64::from(pages / 8) {
+    if n < interval_size(g) && extent < u64::from(pages / 8) {
         Some(Resource::Extent(ExtentNo(extent as u32)))
     } else {
         None
@@ -69,7 +49,7 @@ fn pfs_guard(g: Geometry, pages: u32, p: PageNo, at: u64) -> Option<Resource>
     ensures { result ≡ spec.pfs_guard g pages p.0 at }
 {
     let paged = paged_at(p, at);
-    if MAPS_START <= at && at - MAPS_START < pfs_span(g) && paged < u64::from(pages) {
+    if MAPS_START <= at && at - MAPS_START < u64::from(pfs_span(g)) && paged < u64::from(pages) {
         Some(Resource::Byte(PageNo(paged as u32)))
     } else {
         None

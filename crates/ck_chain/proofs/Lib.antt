@@ -1,0 +1,3 @@
+pub mod Markings
+pub mod SlotList
+pub mod Looking

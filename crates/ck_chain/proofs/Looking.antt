@@ -56,67 +56,80 @@ no_fault_is : (owner : Owner) (image : Image) (row : CatalogRow) (k : ℕ) (walk
     → IsRead image owner walk bytes
     → fault_of_number owner.geometry owner.pages walk.link.count walk.link.page ≡ None
     → (first_fault owner.geometry image row k ≡ fault_of_bytes owner.geometry owner.pages owner.id walk.link.page bytes)
-      × (bytes ≡ page image (pointer image row k))
+    × (bytes ≡ page image (pointer image row k))
 no_fault_is owner image row k walk bytes o read none =
     let is : bytes ≡ page image (pointer image row k) = read none ∙ ap (page image) o.stands.page in
-    let number : fault_of_number owner.geometry (length image) k (pointer image row k) ≡ None = rw (o.pages, o.stands.count, o.stands.page) at none in
-    (ap (λ f. or_else f (fault_of_bytes owner.geometry (length image) row.id (pointer image row k) (page image (pointer image row k)))) number
-    ∙ rw (o.pages, o.id, o.stands.page, is) refl, is)
+    let number : fault_of_number owner.geometry (length image) k (pointer image row k) ≡ None = rw (o.pages, o.stands.count, o.stands.page) at none in (
+      ap (λ f. or_else f (fault_of_bytes owner.geometry (length image) row.id (pointer image row k) (page image (pointer image row k)))) number
+          ∙ rw (o.pages, o.id, o.stands.page, is) refl,
+      is,
+    )
 
 pub look_goes : (owner : Owner) (image : Image) (row : CatalogRow) (k : ℕ) (walk : Walk) (bytes : List ℕ) → IsOwner image row owner walk k
     → IsRead image owner walk bytes → looked_at owner walk bytes ≡ None
     → GoesOn owner.geometry image row k × (bytes ≡ page image (pointer image row k))
 look_goes owner image row k walk bytes o read h =
     let parts = none_of (fault_of_number owner.geometry owner.pages walk.link.count walk.link.page)
-        (fault_of_bytes owner.geometry owner.pages owner.id walk.link.page bytes) (get_or walk.met.items walk.link.page false) h in
+    (fault_of_bytes owner.geometry owner.pages owner.id walk.link.page bytes) (get_or walk.met.items walk.link.page false) h in
     let is = no_fault_is owner image row k walk bytes o read parts.0 in
     let inside : walk.link.page < length walk.met.items =
-        let below = goes_inside owner.geometry owner.pages walk.link.count walk.link.page parts.0 in omega (arith, below, o.pages, o.size) in
+    let below = goes_inside owner.geometry owner.pages walk.link.count walk.link.page parts.0 in omega (arith, below, o.pages, o.size) in
     let unmet : IsTrue (get_or walk.met.items walk.link.page false) → ⊥ = λ t. cc in
     ((is.0 ∙ parts.1, λ met. unmet ((o.stands.met walk.link.page inside).1 (subst (IsMet image row k) (sym o.stands.page) met))), is.1)
 
 pub look_ends : (owner : Owner) (image : Image) (row : CatalogRow) (k : ℕ) (walk : Walk) (bytes : List ℕ) (e : ChainEnd)
     → IsOwner image row owner walk k → IsRead image owner walk bytes → looked_at owner walk bytes ≡ Some e
     → (GoesOn owner.geometry image row k → ⊥)
-      × (error_of_end owner.id walk.link.page walk.link.holder bytes e ≡ end_error owner.geometry image row k)
+    × (error_of_end owner.id walk.link.page walk.link.holder bytes e ≡ end_error owner.geometry image row k)
 look_ends owner image row k walk bytes e o read h = ⊎_elim
     (λ number. by_number number)
     (λ rest. ⊎_elim (λ of_bytes. by_bytes of_bytes.0 of_bytes.1) (λ met. by_met met.0 met.1 met.2 met.3) rest)
     (some_of (fault_of_number owner.geometry owner.pages walk.link.count walk.link.page)
-        (fault_of_bytes owner.geometry owner.pages owner.id walk.link.page bytes) (get_or walk.met.items walk.link.page false) e h) where
-  Goal : Type 0
-  Goal = (GoesOn owner.geometry image row k → ⊥)
-      × (error_of_end owner.id walk.link.page walk.link.holder bytes e ≡ end_error owner.geometry image row k)
-  -- the error at the walk's numbers, of other bytes
-  named : (xs : List ℕ) → error_of_end owner.id walk.link.page walk.link.holder xs e ≡ error_of_end row.id (pointer image row k) (holder image row k) xs e
-  named xs = rw (o.id, o.stands.page, o.stands.holder) refl
-  ended : first_fault owner.geometry image row k ≡ Some e → (GoesOn owner.geometry image row k → ⊥) × (end_at owner.geometry image row k ≡ e)
-  ended fault = (λ goes. let never = sym goes.0 ∙ fault in cc, rw fault refl)
-  by_number : fault_of_number owner.geometry owner.pages walk.link.count walk.link.page ≡ Some e → Goal
-  by_number number =
-      let image_number : fault_of_number owner.geometry (length image) k (pointer image row k) ≡ Some e = rw (o.pages, o.stands.count, o.stands.page) at number in
-      let over = ended (ap (λ f. or_else f (fault_of_bytes owner.geometry (length image) row.id (pointer image row k) (page image (pointer image row k)))) image_number) in
-      (over.0, named bytes
-        ∙ number_end (is_inside (length image) (pointer image row k)) (is_last k (pointer image row k)) (is_ordinary owner.geometry (pointer image row k)) e
-            row.id (pointer image row k) (holder image row k) bytes (page image (pointer image row k)) image_number
-        ∙ ap (error_of_end row.id (pointer image row k) (holder image row k) (page image (pointer image row k))) (sym over.1))
-  by_bytes : fault_of_number owner.geometry owner.pages walk.link.count walk.link.page ≡ None
-      → fault_of_bytes owner.geometry owner.pages owner.id walk.link.page bytes ≡ Some e → Goal
-  by_bytes none of_bytes =
-      let is = no_fault_is owner image row k walk bytes o read none in
-      let over = ended (is.0 ∙ of_bytes) in
-      (over.0, named bytes ∙ ap (λ xs. error_of_end row.id (pointer image row k) (holder image row k) xs e) is.1
-        ∙ ap (error_of_end row.id (pointer image row k) (holder image row k) (page image (pointer image row k))) (sym over.1))
-  by_met : fault_of_number owner.geometry owner.pages walk.link.count walk.link.page ≡ None
-      → fault_of_bytes owner.geometry owner.pages owner.id walk.link.page bytes ≡ None → get_or walk.met.items walk.link.page false ≡ true → end.Met ≡ e → Goal
-  by_met none no_bytes met here =
-      let is = no_fault_is owner image row k walk bytes o read none in
-      let inside : walk.link.page < length walk.met.items =
+    (fault_of_bytes owner.geometry owner.pages owner.id walk.link.page bytes) (get_or walk.met.items walk.link.page false) e h) where
+      Goal : Type 0
+      Goal = (GoesOn owner.geometry image row k → ⊥)
+          × (error_of_end owner.id walk.link.page walk.link.holder bytes e ≡ end_error owner.geometry image row k)
+
+      -- the error at the walk's numbers, of other bytes
+      named : (xs : List ℕ) → error_of_end owner.id walk.link.page walk.link.holder xs e ≡ error_of_end row.id (pointer image row k) (holder image row k) xs e
+      named xs = rw (o.id, o.stands.page, o.stands.holder) refl
+
+      ended : first_fault owner.geometry image row k ≡ Some e → (GoesOn owner.geometry image row k → ⊥) × (end_at owner.geometry image row k ≡ e)
+      ended fault = (λ goes. let never = sym goes.0 ∙ fault in cc, rw fault refl)
+
+      by_number : fault_of_number owner.geometry owner.pages walk.link.count walk.link.page ≡ Some e → Goal
+      by_number number =
+          let image_number : fault_of_number owner.geometry (length image) k (pointer image row k) ≡ Some e = rw (o.pages, o.stands.count, o.stands.page) at number in
+          let over = ended (ap (λ f. or_else f (fault_of_bytes owner.geometry (length image) row.id (pointer image row k) (page image (pointer image row k)))) image_number) in (
+            over.0,
+            named bytes
+                ∙ number_end (is_inside (length image) (pointer image row k)) (is_last k (pointer image row k)) (is_ordinary owner.geometry (pointer image row k)) e
+                row.id (pointer image row k) (holder image row k) bytes (page image (pointer image row k)) image_number
+                ∙ ap (error_of_end row.id (pointer image row k) (holder image row k) (page image (pointer image row k))) (sym over.1),
+          )
+
+      by_bytes : fault_of_number owner.geometry owner.pages walk.link.count walk.link.page ≡ None
+          → fault_of_bytes owner.geometry owner.pages owner.id walk.link.page bytes ≡ Some e → Goal
+      by_bytes none of_bytes =
+          let is = no_fault_is owner image row k walk bytes o read none in
+          let over = ended (is.0 ∙ of_bytes) in (
+            over.0,
+            named bytes ∙ ap (λ xs. error_of_end row.id (pointer image row k) (holder image row k) xs e) is.1
+                ∙ ap (error_of_end row.id (pointer image row k) (holder image row k) (page image (pointer image row k))) (sym over.1),
+          )
+
+      by_met : fault_of_number owner.geometry owner.pages walk.link.count walk.link.page ≡ None
+          → fault_of_bytes owner.geometry owner.pages owner.id walk.link.page bytes ≡ None → get_or walk.met.items walk.link.page false ≡ true → end.Met ≡ e → Goal
+      by_met none no_bytes met here =
+          let is = no_fault_is owner image row k walk bytes o read none in
+          let inside : walk.link.page < length walk.met.items =
           let below = goes_inside owner.geometry owner.pages walk.link.count walk.link.page none in omega (arith, below, o.pages, o.size) in
-      let was : IsMet image row k (pointer image row k) = subst (IsMet image row k) o.stands.page ((o.stands.met walk.link.page inside).0 met) in
-      let at : end_at owner.geometry image row k ≡ e = rw (is.0 ∙ no_bytes) here in
-      (λ goes. goes.1 was, named bytes ∙ ap (λ xs. error_of_end row.id (pointer image row k) (holder image row k) xs e) is.1
-        ∙ ap (error_of_end row.id (pointer image row k) (holder image row k) (page image (pointer image row k))) (sym at))
+          let was : IsMet image row k (pointer image row k) = subst (IsMet image row k) o.stands.page ((o.stands.met walk.link.page inside).0 met) in
+          let at : end_at owner.geometry image row k ≡ e = rw (is.0 ∙ no_bytes) here in (
+            λ goes. goes.1 was,
+            named bytes ∙ ap (λ xs. error_of_end row.id (pointer image row k) (holder image row k) xs e) is.1
+                ∙ ap (error_of_end row.id (pointer image row k) (holder image row k) (page image (pointer image row k))) (sym at),
+          )
 
 -- a page at which the walk goes on is an IAM page of an interval of the file
 pub goes_to_iam : (owner : Owner) (walk : Walk) (bytes : List ℕ) → looked_at owner walk bytes ≡ None
@@ -124,13 +137,13 @@ pub goes_to_iam : (owner : Owner) (walk : Walk) (bytes : List ℕ) → looked_at
 goes_to_iam owner walk bytes h =
     goes_iam owner.geometry owner.pages owner.id walk.link.page bytes
     (none_of (fault_of_number owner.geometry owner.pages walk.link.count walk.link.page)
-        (fault_of_bytes owner.geometry owner.pages owner.id walk.link.page bytes) (get_or walk.met.items walk.link.page false) h).1
+    (fault_of_bytes owner.geometry owner.pages owner.id walk.link.page bytes) (get_or walk.met.items walk.link.page false) h).1
 
 pub goes_to_number : (owner : Owner) (walk : Walk) (bytes : List ℕ) → looked_at owner walk bytes ≡ None → walk.link.page < owner.pages
 goes_to_number owner walk bytes h =
     goes_inside owner.geometry owner.pages walk.link.count walk.link.page
     (none_of (fault_of_number owner.geometry owner.pages walk.link.count walk.link.page)
-        (fault_of_bytes owner.geometry owner.pages owner.id walk.link.page bytes) (get_or walk.met.items walk.link.page false) h).0
+    (fault_of_bytes owner.geometry owner.pages owner.id walk.link.page bytes) (get_or walk.met.items walk.link.page false) h).0
 
 pub goes_to_interval : (owner : Owner) (walk : Walk) (bytes : List ℕ) → looked_at owner walk bytes ≡ None
     → IsTrue (has_interval owner.geometry owner.pages (iam_interval bytes))

@@ -1,6 +1,6 @@
 -- A pointer that goes on names a page of the file.
-use Rattle.std.specs.Prelude.{◌≡◌, ℕ, ◌*◌, ◌/◌, ◌<◌, ◌≤◌, ◌==◌, ◌&&◌, Bool, true, false, not, nat_lt, IsTrue, if◌then◌else◌, List, Option, Some, None}
-use Rattle.std.proofs.Common.{refl, arith}
+use Rattle.std.specs.Prelude.{◌≡◌, ◌≢◌, ℕ, ◌*◌, ◌/◌, ◌<◌, ◌≤◌, ◌==◌, ◌&&◌, Bool, true, false, not, nat_lt, IsTrue, if◌then◌else◌, List, Option, Some, None}
+use Rattle.std.proofs.Common.{refl, subst, arith}
 use Rattle.std.proofs.lemmas.Bool.{and_parts, ltb-true}
 use Rattle.spec_file.specs.declared.geometry.Geometry.{Geometry}
 use Rattle.spec_chain.specs.declared.end.ChainEnd.{ChainEnd}
@@ -48,3 +48,13 @@ interval_begins Small pages m shape h = let inside = ltb-true _ _ h in let whole
 pub extents_below : (g : Geometry) (pages : ℕ) → HasShape g pages → pages / 8 ≤ 65536
 extents_below Standard pages shape = let high = shape.high in omega (arith, high)
 extents_below Small pages shape = let high = shape.high in omega (arith, high)
+
+not_zero : (zero_ inside : Bool) → (not zero_ && inside) ≡ true → zero_ ≡ false
+not_zero false inside h = refl
+not_zero true inside h = cc
+
+pub goes_nonzero : (g : Geometry) (pages n q : ℕ) → fault_of_number g pages n q ≡ None → q ≢ 0
+goes_nonzero g pages n q h here =
+    let is = not_zero (q == 0) (nat_lt q pages) (no_fault (is_inside pages q) (is_last n q) (is_ordinary g q) h) in
+    let other : (0 == 0) ≡ false = subst (λ k. (k == 0) ≡ false) here is in
+    cc

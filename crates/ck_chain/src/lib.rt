@@ -10,5 +10,6 @@ mod pages;
 mod slots;
 mod walk;
 
+pub use chain::read_chain;
 pub use found::Found;
 pub use walk::{Link, Owner, Walk};

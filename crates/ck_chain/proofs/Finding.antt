@@ -171,7 +171,7 @@ finish owner image row k old mid new end h pages ends is errors uses extents = r
       (adds_both _ _ _ (Below k (GivesAt owner.geometry image row)) (λ x. end ≡ Some x) h.errors errors);
   uses = rw uses (adds_as _ _ (Below k (UseAt image row)) (IsUseOf owner.geometry image row) (λ u s. used u s) (λ u s. uses_of u s) h.uses);
   extents = rw extents (marked_as owner.index _ _ _ _
-      (λ e below (j, less, m). (j, (below_page owner.geometry image row k j pages less, (m.0, m.1))))
+      (λ e below (j, less, m). (j, (below_page owner.geometry image row k j pages less, m.0, m.1)))
       (λ e below (j, (is_page, at, m)). (j, page_below owner.geometry image row k j whole is_page, (at, m))) h.extents);
 } where
   whole : HasLength owner.geometry image row k

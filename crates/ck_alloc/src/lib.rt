@@ -3,8 +3,12 @@
 #![tactic(auto)]
 
 mod check;
+mod extents;
 mod maps;
+mod markers;
 mod order;
+mod pages;
+mod runs;
 mod system;
 mod text;
 

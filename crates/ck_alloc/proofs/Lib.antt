@@ -4,3 +4,9 @@ pub mod Images
 pub mod Filtering
 pub mod Marking
 pub mod Growing
+pub mod Members
+pub mod MarkersOf
+pub mod UsesOf
+pub mod MapLaws
+pub mod ExtentLaws
+pub mod PageLaws

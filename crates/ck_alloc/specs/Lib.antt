@@ -4,3 +4,4 @@ pub mod SystemParts
 pub mod Held
 pub mod ExtentRules
 pub mod PageRules
+pub mod MapRules

@@ -3,6 +3,7 @@
 #![tactic(auto)]
 
 mod check;
+mod errors;
 mod extents;
 mod maps;
 mod markers;
@@ -13,6 +14,7 @@ mod system;
 mod text;
 
 pub use check::check_still;
+pub use errors::alloc_errors;
 pub use spec_check::{CheckError, CheckReport, TableLine};
 pub use system::is_page_of;
 pub use text::write_report;

@@ -45,16 +45,20 @@ lost_from f m s u z a b c d k =
 lost_there : (g : Geometry) (image : Image) (e : ℕ) (used : Bool) (ids : List ℕ) (x : CheckError) → e < extent_count image
     → IsTrue used ↔ HoldsUse g image e → AreMarkers g image e ids → LostSays (seen_extent g image e used) ids x → IsLost g image x
 lost_there g image e used ids x below held are (none, is) =
-    let parts = lost_parts (is_free g image e) (is_mixed g image e) (is_system_extent g e) used (length ids == 0) none in
-    (e, below, record {
-      free = parts.0.0;
-      mixed = parts.0.1;
-      system = parts.1.0.0;
-      uses = λ h. let yes_used : used ≡ true = held.1 h in let no_used : used ≡ false = parts.1.0.1 in clash used yes_used no_used;
-      marks = λ h. none_there ids h.0 parts.1.1 (are.complete h.0 h.1);
-    }, is) where
-  clash : (b : Bool) → b ≡ true → b ≡ false → ⊥
-  clash b p q = cc
+    let parts = lost_parts (is_free g image e) (is_mixed g image e) (is_system_extent g e) used (length ids == 0) none in (
+      e,
+      below,
+      record {
+        free = parts.0.0;
+        mixed = parts.0.1;
+        system = parts.1.0.0;
+        uses = λ h. let yes_used : used ≡ true = held.1 h in let no_used : used ≡ false = parts.1.0.1 in clash used yes_used no_used;
+        marks = λ h. none_there ids h.0 parts.1.1 (are.complete h.0 h.1);
+      },
+      is,
+    ) where
+      clash : (b : Bool) → b ≡ true → b ≡ false → ⊥
+      clash b p q = cc
 
 lost_back : (g : Geometry) (image : Image) (e : ℕ) (used : Bool) (ids : List ℕ) → IsTrue used ↔ HoldsUse g image e → AreMarkers g image e ids
     → HasNoOwner g image e → IsTrue (has_no_owner (seen_extent g image e used) ids)
@@ -99,9 +103,16 @@ one_claims g image e ids a b p q =
 
 claims_there : (g : Geometry) (image : Image) (e : ℕ) (used : Bool) (ids : List ℕ) (x : CheckError) → e < extent_count image
     → IsTrue used ↔ HoldsUse g image e → AreMarkers g image e ids → ClaimsSay (seen_extent g image e used) ids x → HasTwoClaims g image x
-claims_there g image e used ids x below held are (two, is) =
-    (e, below, ids, are, claims_of (seen_extent g image e used) ids, claims_are g image e used ids held,
-    ltb-true 1 (claim_count (claims_of (seen_extent g image e used) ids)) two, is)
+claims_there g image e used ids x below held are (two, is) = (
+  e,
+  below,
+  ids,
+  are,
+  claims_of (seen_extent g image e used) ids,
+  claims_are g image e used ids held,
+  ltb-true 1 (claim_count (claims_of (seen_extent g image e used) ids)) two,
+  is,
+)
 
 claims_back : (g : Geometry) (image : Image) (e : ℕ) (used : Bool) (ids : List ℕ) (claims : Claims) (x : CheckError) → IsTrue used ↔ HoldsUse g image e
     → AreClaims g image e ids claims → 1 < claim_count claims → x ≡ two_claims e ids claims → ClaimsSay (seen_extent g image e used) ids x
@@ -136,7 +147,11 @@ extent_back g image used ids x shows h = ⊎_elim
     (λ two. (two.0, two.1, inr (inl (subst (λ l. GivesTwoMarkers two.0 l x) (one_marker_list g image two.0 (ids two.0) two.2 (shows.markers two.0 two.1) two.3) two.4))))
     (λ rest. ⊎_elim
     (λ lost. (lost.0, lost.1, inr (inr (inl (lost_back g image lost.0 (used lost.0) (ids lost.0) (shows.held lost.0) (shows.markers lost.0 lost.1) lost.2, lost.3)))))
-    (λ two. (two.0, two.1, inr (inr (inr (subst (λ l. ClaimsSay (seen_extent g image two.0 (used two.0)) l x)
-        (one_marker_list g image two.0 (ids two.0) two.2 (shows.markers two.0 two.1) two.3)
-        (claims_back g image two.0 (used two.0) two.2 two.4 x (shows.held two.0) two.5 two.6 two.7))))))
+    (λ two. (
+      two.0,
+      two.1,
+      inr (inr (inr (subst (λ l. ClaimsSay (seen_extent g image two.0 (used two.0)) l x)
+          (one_marker_list g image two.0 (ids two.0) two.2 (shows.markers two.0 two.1) two.3)
+          (claims_back g image two.0 (used two.0) two.2 two.4 x (shows.held two.0) two.5 two.6 two.7)))),
+    ))
     rest) rest) h

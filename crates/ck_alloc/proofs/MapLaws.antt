@@ -101,14 +101,14 @@ part_there image m of sound x (e, lower, says) =
     let markers = markers_of_map image m of sound e below in
     ⊎_elim
     (λ extent. inl (extent_there m.geometry image e (holds_use m.uses.items e) (markers_at m e) x below (use_held m.geometry image m.uses.items e uses) markers
-        (subst (λ s. ExtentSays s (markers_at m e) x) (extent_same image m of sound e below) extent)))
+    (subst (λ s. ExtentSays s (markers_at m e) x) (extent_same image m of sound e below) extent)))
     (λ page.
-        let k = page.0 in
-        let p = 8 * e + k in
-        let inside : p < length image = page_inside (length image) e k below page.1 in
-        inr (page_there m.geometry image p (uses_at m p) (markers_at m e) x inside (uses_of_page m.geometry image m.uses.items p uses)
-        (subst (λ q. AreMarkers m.geometry image q (markers_at m e)) (page_extent e k page.1) markers)
-        (subst (λ s. PageSays s (uses_at m p) (markers_at m e) x) (page_same image m of sound p inside) page.2)))
+    let k = page.0 in
+    let p = 8 * e + k in
+    let inside : p < length image = page_inside (length image) e k below page.1 in
+    inr (page_there m.geometry image p (uses_at m p) (markers_at m e) x inside (uses_of_page m.geometry image m.uses.items p uses)
+    (subst (λ q. AreMarkers m.geometry image q (markers_at m e)) (page_extent e k page.1) markers)
+    (subst (λ s. PageSays s (uses_at m p) (markers_at m e) x) (page_same image m of sound p inside) page.2)))
     says
 
 -- and back
@@ -137,10 +137,16 @@ extent_part image m of sound x h =
 page_part : (image : Image) (m : AllocMap) → IsMapOf image m → m.system.items ≡ [] → (x : CheckError) → IsPageError m.geometry image x
     → Below (m.pages / 8) (PartOfMapSays m) x
 page_part image m of sound x h =
-    let (p, below, says) = page_back m.geometry image (uses_at m) (markers_at m) x (shows_pages image m of sound) h in
-    (p / 8, subst (λ n. p / 8 < n / 8) of.pages (extent_inside (length image) p (whole_extents image m of) below), inr (p % 8, page_rest p,
-    subst (λ q. PageSays (page_state m q) (uses_at m q) (markers_at m (p / 8)) x) (page_again p)
-    (subst (λ s. PageSays s (uses_at m p) (markers_at m (p / 8)) x) (sym (page_same image m of sound p below)) says)))
+    let (p, below, says) = page_back m.geometry image (uses_at m) (markers_at m) x (shows_pages image m of sound) h in (
+      p / 8,
+      subst (λ n. p / 8 < n / 8) of.pages (extent_inside (length image) p (whole_extents image m of) below),
+      inr (
+        p % 8,
+        page_rest p,
+        subst (λ q. PageSays (page_state m q) (uses_at m q) (markers_at m (p / 8)) x) (page_again p)
+            (subst (λ s. PageSays s (uses_at m p) (markers_at m (p / 8)) x) (sym (page_same image m of sound p below)) says),
+      ),
+    )
 
 pub gathers_of : (image : Image) (m : AllocMap) → IsMapOf image m → m.system.items ≡ [] → (errors : List CheckError)
     → Adds m.chains.items errors (Below (m.pages / 8) (PartOfMapSays m)) → Gathers errors (IsAllocationError m.geometry image)

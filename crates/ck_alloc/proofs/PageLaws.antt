@@ -146,17 +146,17 @@ tests_there g image p None uses ids x below told used marked says =
     let ordinary = told_none (role_of g p) told in
     ⊎_elim
     (λ one.
-        let u = one.0 in
-        let is = used.sound (use_of u) (map_in use_of uses u one.1) in
-        test_there g image p u.object (kind_of_place u.place) x below
-        (inr (inl (ordinary, u.place, is, place_kind u.place (use_place g image p (use_of u) is)))) one.2)
+    let u = one.0 in
+    let is = used.sound (use_of u) (map_in use_of uses u one.1) in
+    test_there g image p u.object (kind_of_place u.place) x below
+    (inr (inl (ordinary, u.place, is, place_kind u.place (use_place g image p (use_of u) is)))) one.2)
     (λ rest. ⊎_elim
     (λ mark. test_there g image p mark.0 (kind_of_mark (pfs_byte g image p)) x below
-        (inr (inr (inl (ordinary, marked.sound mark.0 mark.1, mark_kind (is_allocated g image p))))) mark.2)
+    (inr (inr (inl (ordinary, marked.sound mark.0 mark.1, mark_kind (is_allocated g image p))))) mark.2)
     (λ alone.
-        let parts = and_parts (not (is_allocated g image p)) ((length uses == 0) && (length ids == 0)) alone.0 in
-        test_there g image p 0 kinds.Unused x below
-        (inr (inr (inr (ordinary, not-true (is_allocated g image p) parts.0, unowned_there g image p uses ids used marked parts.1, refl, refl)))) alone.1)
+    let parts = and_parts (not (is_allocated g image p)) ((length uses == 0) && (length ids == 0)) alone.0 in
+    test_there g image p 0 kinds.Unused x below
+    (inr (inr (inr (ordinary, not-true (is_allocated g image p) parts.0, unowned_there g image p uses ids used marked parts.1, refl, refl)))) alone.1)
     rest) says
 
 tests_back : (g : Geometry) (image : Image) (p o : ℕ) (kind : PfsKind) (uses : List PageUse) (ids : List ℕ) (x : CheckError)
@@ -166,31 +166,36 @@ tests_back g image p o kind uses ids x used marked tested says = ⊎_elim
     (λ role. subst (λ told. ByteSays told (seen_page g image p) uses ids x) (sym role.0) (subst (λ n. TestSays (seen_page g image p) n kind x) role.1 says))
     (λ rest. ⊎_elim
     (λ one. subst (λ told. ByteSays told (seen_page g image p) uses ids x) (none_told (role_of g p) one.0)
-        (inl (by_use one.1 one.2 one.3)))
+    (inl (by_use one.1 one.2 one.3)))
     (λ rest. ⊎_elim
     (λ mark. subst (λ told. ByteSays told (seen_page g image p) uses ids x) (none_told (role_of g p) mark.0)
-        (inr (inl (o, marked.complete o mark.1, subst (λ k. TestSays (seen_page g image p) o k x) (kind_mark (is_allocated g image p) kind mark.2) says))))
+    (inr (inl (o, marked.complete o mark.1, subst (λ k. TestSays (seen_page g image p) o k x) (kind_mark (is_allocated g image p) kind mark.2) says))))
     (λ alone. subst (λ told. ByteSays told (seen_page g image p) uses ids x) (none_told (role_of g p) alone.0)
-        (inr (inr (and_from (not (is_allocated g image p)) ((length uses == 0) && (length ids == 0)) (not_from_false (is_allocated g image p) alone.1)
-            (unowned_back g image p uses ids used marked alone.2),
-            subst (λ k. TestSays (seen_page g image p) 0 k x) alone.4 (subst (λ n. TestSays (seen_page g image p) n kind x) alone.3 says)))))
+    (inr (inr (
+      and_from (not (is_allocated g image p)) ((length uses == 0) && (length ids == 0)) (not_from_false (is_allocated g image p) alone.1)
+          (unowned_back g image p uses ids used marked alone.2),
+      subst (λ k. TestSays (seen_page g image p) 0 k x) alone.4 (subst (λ n. TestSays (seen_page g image p) n kind x) alone.3 says),
+    ))))
     rest) rest) tested where
-  by_use : (place : ℕ) → IsUse g image p (record { object = o; place = place }) → IsKindOfUse place kind → Each uses (UseSays (seen_page g image p)) x
-  by_use place is kind_of =
-      let m = map_from use_of uses (record { object = o; place = place }) (used.complete (record { object = o; place = place }) is) in
-      let at : place ≡ m.0.place = ap (λ (u : Use). u.place) (sym m.2) in
-      let by : o ≡ m.0.object = ap (λ (u : Use). u.object) (sym m.2) in
-      (m.0, m.1, subst (λ n. TestSays (seen_page g image p) n (kind_of_place m.0.place) x) by
-      (subst (λ k. TestSays (seen_page g image p) o k x) (kind_place place kind kind_of ∙ ap kind_of_place at) says))
+      by_use : (place : ℕ) → IsUse g image p (record { object = o; place = place }) → IsKindOfUse place kind → Each uses (UseSays (seen_page g image p)) x
+      by_use place is kind_of =
+          let m = map_from use_of uses (record { object = o; place = place }) (used.complete (record { object = o; place = place }) is) in
+          let at : place ≡ m.0.place = ap (λ (u : Use). u.place) (sym m.2) in
+          let by : o ≡ m.0.object = ap (λ (u : Use). u.object) (sym m.2) in (
+            m.0,
+            m.1,
+            subst (λ n. TestSays (seen_page g image p) n (kind_of_place m.0.place) x) by
+                (subst (λ k. TestSays (seen_page g image p) o k x) (kind_place place kind kind_of ∙ ap kind_of_place at) says),
+          )
 
 -- from the state to the image
 pub page_there : (g : Geometry) (image : Image) (p : ℕ) (uses : List PageUse) (ids : List ℕ) (x : CheckError) → p < length image
     → AreUses g image p (map use_of uses) → AreMarkers g image (p / 8) ids → PageSays (seen_page g image p) uses ids x → IsPageError g image x
 page_there g image p uses ids x below used marked says = ⊎_elim
     (λ lost.
-        let parts = and_parts (is_for_objects (role_of g p) && is_allocated g image p) ((length uses == 0) && (length ids == 0)) lost.0 in
-        let inner = and_parts (is_for_objects (role_of g p)) (is_allocated g image p) parts.0 in
-        inl (p, below, inner.0, inner.1, unowned_there g image p uses ids used marked parts.1, lost.1))
+    let parts = and_parts (is_for_objects (role_of g p) && is_allocated g image p) ((length uses == 0) && (length ids == 0)) lost.0 in
+    let inner = and_parts (is_for_objects (role_of g p)) (is_allocated g image p) parts.0 in
+    inl (p, below, inner.0, inner.1, unowned_there g image p uses ids used marked parts.1, lost.1))
     (λ rest. ⊎_elim (λ two. inr (inl (p, below, map use_of uses, used, two)))
     (λ tests. inr (inr (tests_there g image p (kind_of_role (role_of g p)) uses ids x below refl used marked tests))) rest) says
 
@@ -206,15 +211,29 @@ pub record ShowsPages (g : Geometry) (image : Image) (uses : ℕ → List PageUs
 pub page_back : (g : Geometry) (image : Image) (uses : ℕ → List PageUse) (ids : ℕ → List ℕ) (x : CheckError) → ShowsPages g image uses ids
     → IsPageError g image x → SomePageSays g image uses ids x
 page_back g image uses ids x shows h = ⊎_elim
-    (λ lost. let p = lost.0 in (p, lost.1, inl (
+    (λ lost. let p = lost.0 in (
+      p,
+      lost.1,
+      inl (
         and_from (is_for_objects (role_of g p) && is_allocated g image p) ((length (uses p) == 0) && (length (ids (p / 8)) == 0))
-        (and_from (is_for_objects (role_of g p)) (is_allocated g image p) lost.2 lost.3)
-        (unowned_back g image p (uses p) (ids (p / 8)) (shows.used p) (shows.markers p lost.1) lost.4), lost.5)))
+            (and_from (is_for_objects (role_of g p)) (is_allocated g image p) lost.2 lost.3)
+            (unowned_back g image p (uses p) (ids (p / 8)) (shows.used p) (shows.markers p lost.1) lost.4),
+        lost.5,
+      ),
+    ))
     (λ rest. ⊎_elim
     (λ two. let p = two.0 in (p, two.1, inr (inl (subst (λ l. GivesTwoUses p l x) (one_use_list g image p (map use_of (uses p)) two.2 (shows.used p) two.3) two.4))))
     (λ rest. ⊎_elim
-    (λ flags. let p = flags.0 in (p, flags.1, inr (inr (tests_back g image p flags.2 flags.3 (uses p) (ids (p / 8)) x (shows.used p) (shows.markers p flags.1) flags.4
-        (inl (flags_back (pfs_byte g image p) flags.3 flags.5, flags.6))))))
-    (λ fullness. let p = fullness.0 in (p, fullness.1, inr (inr (tests_back g image p fullness.2 fullness.3 (uses p) (ids (p / 8)) x (shows.used p) (shows.markers p fullness.1) fullness.4
-        (inr (fullness_back (pfs_byte g image p) fullness.3 fullness.5 fullness.6, fullness.7))))))
+    (λ flags. let p = flags.0 in (
+      p,
+      flags.1,
+      inr (inr (tests_back g image p flags.2 flags.3 (uses p) (ids (p / 8)) x (shows.used p) (shows.markers p flags.1) flags.4
+          (inl (flags_back (pfs_byte g image p) flags.3 flags.5, flags.6)))),
+    ))
+    (λ fullness. let p = fullness.0 in (
+      p,
+      fullness.1,
+      inr (inr (tests_back g image p fullness.2 fullness.3 (uses p) (ids (p / 8)) x (shows.used p) (shows.markers p fullness.1) fullness.4
+          (inr (fullness_back (pfs_byte g image p) fullness.3 fullness.5 fullness.6, fullness.7)))),
+    ))
     rest) rest) h

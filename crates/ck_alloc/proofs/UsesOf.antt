@@ -27,8 +27,10 @@ page_rises a b o h = by_ranked (a < b) (a ≡ b) (b < a) (nat_cmp a b) (ranked a
     (λ is more. absurd (then_greater o (subst (λ t. ordering_then t o ≡ Less) is h)))
 
 pub by_page : (uses : List PageUse) → IsStrictlySortedBy page_use_cmp uses → IsByPage uses
-by_page uses sorted = record { rises = λ i j d at below. ⊎_elim (λ less. page_rises _ _ _ (Less-from_sorted page_use_cmp uses i j d sorted less below))
-    (λ same. rw same (omega arith)) (split i j at) } where
+by_page uses sorted = record {
+  rises = λ i j d at below. ⊎_elim (λ less. page_rises _ _ _ (Less-from_sorted page_use_cmp uses i j d sorted less below))
+      (λ same. rw same (omega arith)) (split i j at);
+} where
   split : (i j : ℕ) → i ≤ j → (i < j) ⊎ (i ≡ j)
   split i j h = search (Rattle.std.proofs.Common.rules, arith)
 
@@ -91,26 +93,28 @@ pub use_held : (g : Geometry) (image : Image) (uses : List PageUse) (e : ℕ) �
 use_held g image uses e all = (
   λ h. ⊎_elim
       (λ some.
-          let u = some_there (uses_between (8 * e) (8 * e + 8) uses) (not-true (length (uses_between (8 * e) (8 * e + 8) uses) == 0) some) in
-          let b = between_from (8 * e) (8 * e + 8) uses u.0 u.1 in
-          inl (u.0.page, within u.0.page e b.1 b.2, (use_of u.0, all.sound u.0 b.0)))
+      let u = some_there (uses_between (8 * e) (8 * e + 8) uses) (not-true (length (uses_between (8 * e) (8 * e + 8) uses) == 0) some) in
+      let b = between_from (8 * e) (8 * e + 8) uses u.0 u.1 in
+      inl (u.0.page, within u.0.page e b.1 b.2, (use_of u.0, all.sound u.0 b.0)))
       (λ boot. inr (eqb-true e 1 boot))
       (or_cases (not (length (uses_between (8 * e) (8 * e + 8) uses) == 0)) (e == 1) h),
   λ h. ⊎_elim
       (λ held.
-          let p = held.0 in
-          let v = held.2.0 in
-          let u : PageUse = record { page = p; object = v.object; place = v.place } in
-          or_left (not (length (uses_between (8 * e) (8 * e + 8) uses) == 0)) (e == 1)
-          (not_from_false (length (uses_between (8 * e) (8 * e + 8) uses) == 0) (false_from_ne_true (length (uses_between (8 * e) (8 * e + 8) uses) == 0)
-          (λ empty. none_there (uses_between (8 * e) (8 * e + 8) uses) u empty
-          (between_in (8 * e) (8 * e + 8) uses u (all.complete p v held.2.1) (from p e held.1) (below p e held.1))))))
+      let p = held.0 in
+      let v = held.2.0 in
+      let u : PageUse = record { page = p; object = v.object; place = v.place } in
+      or_left (not (length (uses_between (8 * e) (8 * e + 8) uses) == 0)) (e == 1)
+      (not_from_false (length (uses_between (8 * e) (8 * e + 8) uses) == 0) (false_from_ne_true (length (uses_between (8 * e) (8 * e + 8) uses) == 0)
+      (λ empty. none_there (uses_between (8 * e) (8 * e + 8) uses) u empty
+      (between_in (8 * e) (8 * e + 8) uses u (all.complete p v held.2.1) (from p e held.1) (below p e held.1))))))
       (λ boot. or_right (not (length (uses_between (8 * e) (8 * e + 8) uses) == 0)) (e == 1) (eq-eqb e 1 boot))
       h,
 ) where
   within : (p e : ℕ) → 8 * e ≤ p → p < 8 * e + 8 → p / 8 ≡ e
   within p e a b = omega arith
+
   from : (p e : ℕ) → p / 8 ≡ e → 8 * e ≤ p
   from p e a = omega arith
+
   below : (p e : ℕ) → p / 8 ≡ e → p < 8 * e + 8
   below p e a = omega arith

@@ -161,7 +161,11 @@ fn add_lost_extent(
     requires { state.now.extent < 65536 }
     ensures { OnOk result (Adds errors.old.items errors.new.items (rules_of.LostSays state.now markers.now)) }
 {
-    push_if(errors, has_no_owner(state, markers), lost_extent_error(state.extent))?;
+    push_if(
+        errors,
+        has_no_owner(state, markers),
+        lost_extent_error(state.extent),
+    )?;
     Ok(())
 }
 

@@ -67,7 +67,11 @@ fn add_lost_page(
 ) -> Result<(), NoMemory>
     ensures { OnOk result (Adds errors.old.items errors.new.items (rules_of.LostSays state.now uses.now markers.now)) }
 {
-    push_if(errors, is_lost_page(state, uses, markers), lost_page_error(state))?;
+    push_if(
+        errors,
+        is_lost_page(state, uses, markers),
+        lost_page_error(state),
+    )?;
     Ok(())
 }
 
@@ -131,11 +135,8 @@ fn holds_rows(kind: PfsKind) -> bool
 {
     match kind {
         PfsKind::Single | PfsKind::Uniform => true,
-        PfsKind::System
-        | PfsKind::Reserved
-        | PfsKind::Boot
-        | PfsKind::Iam
-        | PfsKind::Unused => false,
+        PfsKind::System | PfsKind::Reserved | PfsKind::Boot | PfsKind::Iam | PfsKind::Unused =>
+            false,
     }
 }
 

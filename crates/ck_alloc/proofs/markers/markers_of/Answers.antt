@@ -17,7 +17,7 @@ loop-i-preserved c =
           let more = marked_more ids x i (sym c.has_mark.ensures ∙ w.if-has_mark.true) in
           rw w.ids-is (
             w.push.ensures.items ∙ (ap (λ (l : List ℕ). l ++ (get_or c.args.objects.now i w.index-objects-i.result).id.0 ∷ []) gathered
-            ∙ (ap (λ (n : ℕ). marked_ids ids x i ++ n ∷ []) (sym id) ∙ sym more)),
+                ∙ (ap (λ (n : ℕ). marked_ids ids x i ++ n ∷ []) (sym id) ∙ sym more)),
             omega (arith, w.push.ensures.len),
           )
       | else-has_mark w ↦ rw w.ids-is (gathered ∙ sym (marked_skip ids x i (sym c.has_mark.ensures ∙ w.if-has_mark.false)), omega arith)

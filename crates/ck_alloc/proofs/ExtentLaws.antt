@@ -1,5 +1,5 @@
 -- What the rules of extents say of an extent's state is what they say of the image.
-use Rattle.std.proofs.Common.{◌≡◌, ◌⊎◌, ◌↔◌, ℕ, ◌+◌, ◌<◌, ◌≤◌, ◌==◌, ◌&&◌, ◌||◌, Bool, true, false, not, nat_lt, IsTrue, List, Contains, length, sym, subst, ap, ◌∙◌, refl, inl, inr, ⊎_elim}
+use Rattle.std.proofs.Common.{◌≡◌, ◌⊎◌, ◌↔◌, ℕ, ◌<◌, ◌==◌, ◌&&◌, ◌||◌, Bool, true, false, not, nat_lt, IsTrue, List, length, sym, subst, ap, ◌∙◌, refl, inl, inr, ⊎_elim}
 use Rattle.std.specs.Ordering.{nat_cmp}
 use Rattle.std.proofs.lemmas.Bool.{and_parts, and_from, or_parts, or_from, or_cases, or_left, or_right, not-true, not_from_false, false_from_ne_true, ltb-true, lt-ltb}
 use Rattle.std.proofs.lemmas.Cmp.{nat_cmp_total}
@@ -7,12 +7,12 @@ use Rattle.spec_file.specs.declared.geometry.Geometry.{Geometry}
 use Rattle.spec_file.specs.Image.{Image}
 use Rattle.spec_file.specs.Places.{is_free, is_mixed, extent_count}
 use Rattle.spec_file.specs.Roles.{is_system_extent}
-use Rattle.spec_chain.specs.Marks.{IsMarker, AreMarkers}
+use Rattle.spec_chain.specs.Marks.{AreMarkers}
 use Rattle.spec_check.specs.declared.report.CheckError.{CheckError}
 use Rattle.spec_check.specs.Allocation.{IsExtentError}
-use Rattle.spec_check.specs.Maps.{HasBothMaps, GivesTwoMarkers, HasTwoMarkers, HoldsUse, HasNoOwner, IsLost, IsMixed, Claims, AreClaims, claim_count, two_claims, HasTwoClaims}
+use Rattle.spec_check.specs.Maps.{GivesTwoMarkers, HoldsUse, HasNoOwner, IsLost, Claims, AreClaims, claim_count, two_claims, HasTwoClaims}
 use Rattle.ck_alloc.specs.declared.extents.ExtentState.{ExtentState}
-use Rattle.ck_alloc.specs.ExtentRules.{claims_of, has_no_owner, has_two_claims, BothSay, LostSays, ClaimsSay, ExtentSays}
+use Rattle.ck_alloc.specs.ExtentRules.{claims_of, has_no_owner, LostSays, ClaimsSay, ExtentSays}
 use Rattle.ck_alloc.proofs.Members.{none_there, none_from, sorted_same}
 
 -- the state of an extent of an image

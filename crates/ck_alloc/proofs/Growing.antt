@@ -1,10 +1,9 @@
 -- How lists of errors grow by the rules of extents and pages.
-use Rattle.std.proofs.Common.{◌≡◌, ◌⊎◌, ℕ, ◌+◌, ◌<◌, ◌≤◌, Bool, IsTrue, List, [], ◌∷◌, ◌++◌, Contains, length, take, get_or, map, sym, ap, subst, refl, arith, ◌∙◌}
+use Rattle.std.proofs.Common.{◌≡◌, ℕ, ◌+◌, ◌<◌, ◌≤◌, Bool, IsTrue, List, [], ◌∷◌, ◌++◌, length, take, get_or, map, sym, ap, subst, refl, arith, ◌∙◌}
 use Rattle.std.proofs.lemmas.List.{take_more, length-map}
 use Rattle.std.proofs.Math.Seq.{take-length}
 use Rattle.spec_check.specs.declared.report.CheckError.{CheckError}
 use Rattle.spec_check.specs.Pages.{two_uses, GivesTwoUses}
-use Rattle.spec_chain.specs.Uses.{Use}
 use Rattle.ck_error.specs.Gathered.{Adds, Each}
 use Rattle.ck_error.specs.GatheringLaws.{adds_push, adds_as, adds_each_more}
 use Rattle.ck_facts.specs.declared.map.PageUse.{PageUse}

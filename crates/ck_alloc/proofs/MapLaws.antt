@@ -1,11 +1,10 @@
 -- What the rules say of the maps of an image is what they say of the image.
-use Rattle.std.proofs.Common.{◌≡◌, ◌⊎◌, ◌↔◌, ℕ, ◌+◌, ◌*◌, ◌/◌, ◌%◌, ◌<◌, ◌≤◌, Bool, List, [], ◌∷◌, Some, length, map, get_or, slice_get, slice_index, sym, subst, ap, ◌∙◌, refl, inl, inr, ⊎_elim, arith}
-use Rattle.std.specs.List.{range_with_len}
+use Rattle.std.proofs.Common.{◌≡◌, ◌⊎◌, ℕ, ◌+◌, ◌*◌, ◌/◌, ◌%◌, ◌<◌, Bool, List, [], ◌∷◌, length, map, slice_index, sym, subst, ap, ◌∙◌, refl, inl, inr, ⊎_elim, arith}
 use Rattle.std.proofs.lemmas.List.{length-map}
 use Rattle.std.proofs.lemmas.List.FromFn.{get_or-map-range_with_len}
 use Rattle.std.proofs.lemmas.Option.{slice_get-get_or}
 use Rattle.spec_file.specs.Image.{Image}
-use Rattle.spec_file.specs.Places.{is_free, is_mixed, extent_count}
+use Rattle.spec_file.specs.Places.{is_free, extent_count}
 use Rattle.spec_file.specs.Roles.{role_of, is_system_extent}
 use Rattle.spec_chain.specs.Marks.{AreMarkers}
 use Rattle.spec_chain.specs.Uses.{pfs_byte}
@@ -18,7 +17,7 @@ use Rattle.spec_file.specs.declared.role.Role.{Role}
 use Rattle.ck_error.specs.Gathered.{Adds, Below, Gathers}
 use Rattle.ck_error.specs.GatheringLaws.{gathers_more, gathers_as}
 use Rattle.ck_facts.specs.declared.map.AllocMap.{AllocMap}
-use Rattle.ck_facts.specs.MapOf.{IsMapOf, IsWholeMapOf}
+use Rattle.ck_facts.specs.MapOf.{IsMapOf}
 use Rattle.ck_facts.specs.Maps.{IsExtentOf, rows_of_objects}
 use Rattle.ck_alloc.specs.declared.extents.ExtentState.{ExtentState}
 use Rattle.ck_alloc.specs.declared.pages.PageState.{PageState}
@@ -28,8 +27,8 @@ use Rattle.ck_alloc.specs.PageRules.{PageSays}
 use Rattle.ck_alloc.specs.MapRules.{no_extent, extent_at, extent_state, markers_at, page_state, uses_at, PartOfMapSays}
 use Rattle.ck_alloc.proofs.UsesOf.{by_page, uses_of_page, use_held}
 use Rattle.ck_alloc.proofs.MarkersOf.{markers_of_rows}
-use Rattle.ck_alloc.proofs.ExtentLaws.{seen_extent, ShowsExtents, SomeExtentSays, extent_there, extent_back}
-use Rattle.ck_alloc.proofs.PageLaws.{seen_page, ShowsPages, SomePageSays, page_there, page_back}
+use Rattle.ck_alloc.proofs.ExtentLaws.{seen_extent, ShowsExtents, extent_there, extent_back}
+use Rattle.ck_alloc.proofs.PageLaws.{seen_page, ShowsPages, page_there, page_back}
 
 pub by_page_of : (image : Image) (m : AllocMap) → IsMapOf image m → m.system.items ≡ [] → IsByPage m.uses.items
 by_page_of image m of sound = by_page m.uses.items (of.whole sound).uses.sorted

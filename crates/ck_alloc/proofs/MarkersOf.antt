@@ -1,24 +1,22 @@
 -- The ids that the map of an extent marks are the objects that mark it.
-use Rattle.std.proofs.Common.{◌≡◌, ◌⊎◌, ◌↔◌, ℕ, ◌+◌, ◌<◌, ◌≤◌, IsTrue, true, List, Contains, Some, map, filter, length, get_or, slice_index, slice_get, arith, sym, subst, ap, ◌∙◌, refl, [], ◌∷◌, ⊎_elim}
+use Rattle.std.proofs.Common.{◌≡◌, ℕ, ◌+◌, ◌<◌, IsTrue, List, Contains, Some, map, filter, length, get_or, slice_index, arith, sym, subst, ap, ◌∙◌, [], ◌∷◌, ⊎_elim}
 use Rattle.std.specs.Ordering.{nat_cmp, on}
 use Rattle.std.specs.List.{range_with_len}
 use Rattle.std.specs.List.Sorted.{IsStrictlySortedBy}
 use Rattle.std.specs.declared.cmp.Ordering.TheVariants.{Less}
 use Rattle.std.proofs.lemmas.Cmp.{nat_cmp_total, on_total}
-use Rattle.std.proofs.lemmas.List.{get_or-map, length-map}
+use Rattle.std.proofs.lemmas.List.{get_or-map}
 use Rattle.std.proofs.lemmas.List.Kept.{IsStrictlySortedBy-filter}
 use Rattle.std.proofs.lemmas.Map.Keys.{Less-from_sorted}
 use Rattle.std.proofs.lemmas.Option.{slice_get-get_or, slice_get_cases}
 use Rattle.spec_file.specs.declared.geometry.Geometry.{Geometry}
 use Rattle.spec_file.specs.Image.{Image}
 use Rattle.spec_file.specs.CatalogRows.{CatalogRow}
-use Rattle.spec_chain.specs.Marks.{IsMarked, IsMarker, AreMarkers}
-use Rattle.db_cat.specs.declared.rows.CatRow.{CatRow}
-use Rattle.db_cat.specs.Rows.{row_of}
+use Rattle.spec_chain.specs.Marks.{IsMarker, AreMarkers}
 use Rattle.ck_facts.specs.declared.map.ExtentMap.{ExtentMap}
 use Rattle.ck_facts.specs.Maps.{AreObjects, IsExtentOf, has_mark}
-use Rattle.ck_alloc.specs.Held.{ids_of, marked_ids}
-use Rattle.ck_alloc.proofs.Members.{map_from, map_in, filter_from, filter_in, range_from, range_in, sorted_same, sorted_map, range_sorted}
+use Rattle.ck_alloc.specs.Held.{marked_ids}
+use Rattle.ck_alloc.proofs.Members.{map_from, map_in, filter_from, filter_in, range_from, range_in, sorted_map, range_sorted}
 
 -- ids by place
 id_of_row : (rows : List CatalogRow) (i : ℕ) (d : CatalogRow) → i < length rows → slice_index (map (λ r. r.id) rows) i ≡ (get_or rows i d).id

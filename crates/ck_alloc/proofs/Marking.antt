@@ -1,5 +1,5 @@
 -- One object more of those that mark an extent.
-use Rattle.std.proofs.Common.{◌≡◌, refl, ℕ, ◌+◌, ◌<◌, Bool, true, false, List, [], ◌∷◌, ◌++◌, map, filter, length, get_or, ap, sym, ◌∙◌, arith, append-nil, slice_index, cond}
+use Rattle.std.proofs.Common.{◌≡◌, refl, ℕ, ◌+◌, ◌<◌, Bool, true, false, List, [], ◌∷◌, ◌++◌, map, filter, length, get_or, ap, ◌∙◌, arith, append-nil, slice_index, cond}
 use Rattle.std.proofs.lemmas.List.{map-append, map-id, get_or-map}
 use Rattle.std.proofs.lemmas.List.FromFn.{filter_of_map_range_with_len_more}
 use Rattle.std.specs.List.{range_with_len}

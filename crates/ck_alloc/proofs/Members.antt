@@ -1,5 +1,5 @@
 -- Members of lists that a map or a filter makes, and lists in strict order.
-use Rattle.std.proofs.Common.{◌≡◌, ◌⊎◌, ◌↔◌, ℕ, ◌+◌, ◌<◌, ◌≤◌, ◌==◌, Bool, true, false, IsTrue, List, [], ◌∷◌, Contains, map, filter, cond, length, get_or, arith, sym, subst, ap, ◌∙◌, refl, inl, inr, ⊎_elim, Ordering}
+use Rattle.std.proofs.Common.{◌≡◌, ◌⊎◌, ◌↔◌, ℕ, ◌+◌, ◌<◌, ◌==◌, Bool, true, false, IsTrue, List, [], ◌∷◌, Contains, map, filter, cond, length, get_or, arith, sym, subst, ap, ◌∙◌, refl, inl, inr, ⊎_elim, Ordering}
 use Rattle.std.specs.Cmp.{IsTotalOrder}
 use Rattle.std.specs.Ordering.{on}
 use Rattle.std.specs.List.{AllByRecursion, range_with_len}

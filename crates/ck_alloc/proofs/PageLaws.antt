@@ -1,7 +1,6 @@
 -- What the rules of uses and PFS bytes say of a page's state is what they say of the image.
-use Rattle.std.proofs.Common.{◌≡◌, ◌≢◌, ◌⊎◌, ◌↔◌, ℕ, ◌+◌, ◌/◌, ◌%◌, ◌<◌, ◌≤◌, ◌==◌, ◌&&◌, Bool, true, false, not, nat_lt, IsTrue, List, [], ◌∷◌, Contains, Option, Some, None, length, map, sym, subst, ap, ◌∙◌, refl, inl, inr, ⊎_elim, if◌then◌else◌, arith}
+use Rattle.std.proofs.Common.{◌≡◌, ◌≢◌, ◌⊎◌, ℕ, ◌/◌, ◌%◌, ◌<◌, ◌≤◌, ◌==◌, ◌&&◌, Bool, true, false, not, IsTrue, List, Contains, Option, Some, None, length, map, sym, subst, ap, ◌∙◌, refl, inl, inr, ⊎_elim, if◌then◌else◌, arith}
 use Rattle.std.proofs.lemmas.Bool.{and_parts, and_from, not-true, not_from_false, eqb-false, ne_eqb, lt-ltb, le-ltb}
-use Rattle.std.proofs.lemmas.List.{length-map}
 use Rattle.std.proofs.lemmas.Cmp.{nat_cmp_total, then_total, on_total}
 use Rattle.spec_file.specs.declared.geometry.Geometry.{Geometry}
 use Rattle.spec_file.specs.declared.role.Role.{Role}
@@ -13,18 +12,17 @@ use Rattle.spec_file.specs.Iam.{slot_count}
 use Rattle.spec_file.specs.Pfs.{expected}
 use Rattle.spec_file.specs.Roles.{role_of}
 use Rattle.spec_chain.specs.Chains.{is_for_objects}
-use Rattle.spec_chain.specs.Marks.{IsMarker, AreMarkers}
-use Rattle.spec_chain.specs.Uses.{Use, use_cmp, IsUse, AreUses, HasUse, pfs_byte, is_allocated}
+use Rattle.spec_chain.specs.Marks.{AreMarkers}
+use Rattle.spec_chain.specs.Uses.{Use, use_cmp, IsUse, AreUses, pfs_byte, is_allocated}
 use Rattle.spec_check.specs.declared.report.CheckError.{CheckError}
 use Rattle.spec_check.specs.Allocation.{IsPageError}
-use Rattle.spec_check.specs.Pages.{IsUnowned, IsLostPage, GivesTwoUses, HasTwoUses, kind_of_role, IsKindOfUse, IsKindOfMark, IsTestedAs, HoldsRows, wrong_byte, HasWrongFlags, HasWrongFullness}
+use Rattle.spec_check.specs.Pages.{IsUnowned, GivesTwoUses, kind_of_role, IsKindOfUse, IsTestedAs, HoldsRows, HasWrongFlags, HasWrongFullness}
 use Rattle.ck_error.specs.Gathered.{Each}
 use Rattle.ck_facts.specs.declared.map.PageUse.{PageUse}
 use Rattle.ck_facts.specs.Maps.{use_of}
 use Rattle.ck_alloc.specs.declared.pages.PageState.{PageState}
-use Rattle.ck_alloc.specs.PageRules.{is_allocated_byte, is_lost_page, has_wrong_flags, has_wrong_fullness, holds_rows, TestSays, kind_of_place, kind_of_mark, UseSays, MarkSays, is_alone, AloneSays, OwnersSay, ByteSays, LostSays, PageSays}
+use Rattle.ck_alloc.specs.PageRules.{has_wrong_flags, has_wrong_fullness, holds_rows, TestSays, kind_of_place, kind_of_mark, UseSays, ByteSays, PageSays}
 use Rattle.ck_alloc.proofs.Members.{map_from, map_in, none_there, none_from, sorted_same}
-use Rattle.ck_alloc.proofs.ExtentLaws.{one_marker_list}
 
 -- the state of a page of an image
 abbrev pub seen_page : Geometry → Image → ℕ → PageState

@@ -4,18 +4,18 @@ use Rattle.std.specs.Ordering.{nat_cmp, on, ordering_then}
 use Rattle.std.specs.List.{AllByRecursion}
 use Rattle.std.specs.List.Sorted.{IsStrictlySortedBy}
 use Rattle.std.specs.declared.cmp.Ordering.TheVariants.{Less, Equal, Greater}
-use Rattle.std.proofs.lemmas.Bool.{ltb-true, ltb-false, lt-ltb, le-ltb, not-true, not-false, not_from_false, eqb-true, eq-eqb, or_cases, or_left, or_right, false_from_ne_true}
-use Rattle.std.proofs.lemmas.Cmp.{nat_cmp_total, tied_itself, ranked, by_ranked, then_total, on_total}
+use Rattle.std.proofs.lemmas.Bool.{ltb-true, ltb-false, lt-ltb, le-ltb, not-true, not_from_false, eqb-true, eq-eqb, or_cases, or_left, or_right, false_from_ne_true}
+use Rattle.std.proofs.lemmas.Cmp.{nat_cmp_total, tied_itself, ranked, by_ranked}
 use Rattle.std.proofs.lemmas.List.Kept.{IsStrictlySortedBy-filter}
 use Rattle.std.proofs.lemmas.Map.Keys.{Less-from_sorted}
 use Rattle.spec_file.specs.declared.geometry.Geometry.{Geometry}
 use Rattle.spec_file.specs.Image.{Image}
-use Rattle.spec_chain.specs.Uses.{Use, use_cmp, IsUse, AreUses, HasUse}
+use Rattle.spec_chain.specs.Uses.{use_cmp, IsUse, AreUses}
 use Rattle.spec_check.specs.Maps.{HoldsUse}
 use Rattle.ck_facts.specs.declared.map.PageUse.{PageUse}
 use Rattle.ck_facts.specs.Maps.{page_use_cmp, use_of, AreAllUses}
 use Rattle.ck_alloc.specs.Held.{IsByPage, uses_between, holds_use}
-use Rattle.ck_alloc.proofs.Members.{nothing_there, cons_cases, cons_here, cons_there, map_from, map_in, filter_from, filter_in, none_there, none_from, some_there, sorted_map}
+use Rattle.ck_alloc.proofs.Members.{cons_here, cons_there, map_from, map_in, filter_from, filter_in, none_there, some_there, sorted_map}
 
 -- in the order of uses no page falls
 then_greater : (o : Ordering) → ordering_then Greater o ≡ Less → ⊥

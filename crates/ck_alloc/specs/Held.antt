@@ -1,5 +1,5 @@
 -- What the maps hold of one extent and of one page: its uses and the objects that mark it.
-use Rattle.std.specs.Prelude.{ℕ, ◌+◌, ◌*◌, ◌<◌, ◌==◌, ◌||◌, Bool, not, nat_lt, nat_le, List, length, map, filter, slice_index, slice_index_or}
+use Rattle.std.specs.Prelude.{ℕ, ◌+◌, ◌*◌, ◌==◌, ◌||◌, Bool, not, nat_lt, List, length, map, filter, slice_index}
 use Rattle.std.specs.List.{range_with_len}
 use Rattle.std.specs.List.Sorted.{IsNonDecreasingBy}
 use Rattle.ck_facts.specs.declared.map.PageUse.{PageUse}

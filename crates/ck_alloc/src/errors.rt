@@ -1,5 +1,5 @@
 // The allocation errors of a file, by its maps.
-ghost use Rattle.std.specs.Prelude.{◌≡◌, ◌+◌, ◌*◌, ◌/◌, ◌<◌, ◌≤◌, [], length, vec_len, IfOk, OnOk};
+ghost use Rattle.std.specs.Prelude.{◌≡◌, ◌+◌, ◌*◌, ◌/◌, ◌<◌, [], IfOk, OnOk};
 ghost use Rattle.spec_file.specs.Image.{Image};
 ghost use Rattle.spec_check.specs.Errors.{Lists};
 ghost use Rattle.spec_check.specs.Allocation.{IsAllocationError};

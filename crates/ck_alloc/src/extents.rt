@@ -1,5 +1,5 @@
 // The rules of extents.
-ghost use Rattle.std.specs.Prelude.{◌≡◌, ◌+◌, ◌*◌, ◌/◌, ◌<◌, ◌≤◌, ◌==◌, ◌&&◌, ◌||◌, not, nat_lt, length, OnOk};
+ghost use Rattle.std.specs.Prelude.{◌≡◌, ◌<◌, ◌≤◌, ◌&&◌, OnOk};
 ghost use Rattle.spec_check.specs.Maps as spec;
 ghost use Rattle.ck_error.specs.Gathered.{Adds};
 ghost use Rattle.ck_alloc.specs.ExtentRules as rules_of;

@@ -18,3 +18,6 @@ pub use errors::alloc_errors;
 pub use spec_check::{CheckError, CheckReport, TableLine};
 pub use system::is_page_of;
 pub use text::write_report;
+
+#[cfg(test)]
+mod rule_tests;

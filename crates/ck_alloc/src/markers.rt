@@ -2,7 +2,6 @@
 ghost use Rattle.std.specs.Prelude.{◌≡◌, ◌≤◌, ◌<◌, length};
 ghost use Rattle.ck_alloc.specs.Held.{ids_of, marked_ids};
 ghost use Rattle.ck_facts.specs.Maps.{has_mark};
-ghost use Rattle.arrayvec.specs.ArrayVec.{array_vec_len};
 
 use arrayvec::ArrayVec;
 use ck_facts::{CatRow, ExtentMap};

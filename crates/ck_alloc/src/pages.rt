@@ -1,6 +1,5 @@
 // The rules of uses and of PFS bytes.
-ghost use Rattle.std.specs.Prelude.{◌≡◌, ◌+◌, ◌*◌, ◌/◌, ◌%◌, ◌<◌, ◌≤◌, ◌==◌, ◌&&◌, not, IsTrue, length, map, OnOk};
-ghost use Rattle.spec_file.specs.declared.pfs.PfsKind.TheVariants as kinds;
+ghost use Rattle.std.specs.Prelude.{◌≡◌, ◌==◌, ◌&&◌, length, map, OnOk};
 ghost use Rattle.spec_chain.specs.Chains.{is_for_objects};
 ghost use Rattle.spec_check.specs.Pages as spec;
 ghost use Rattle.ck_error.specs.Gathered.{Adds, Each};

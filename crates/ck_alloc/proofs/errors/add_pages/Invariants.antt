@@ -1,4 +1,4 @@
-use Rattle.std.proofs.Common.{ℕ, ◌+◌, ◌*◌}
+use Rattle.std.proofs.Common.{◌+◌, ◌*◌}
 use Rattle.ck_error.specs.Gathered.{Adds, Below}
 use Rattle.ck_alloc.specs.Held.{IsByPage}
 use Rattle.ck_alloc.specs.MapRules.{page_state, uses_at}

@@ -1,4 +1,4 @@
-use Rattle.std.proofs.Common.{◌≡◌, ◌∙◌, ap, sym, arith, length, List, ℕ, ◌++◌, ◌∷◌, [], slice_index, get_or}
+use Rattle.std.proofs.Common.{◌≡◌, ◌∙◌, ap, sym, arith, List, ℕ, ◌++◌, ◌∷◌, [], slice_index, get_or}
 use Rattle.ck_alloc.specs.Held.{ids_of, marked_ids}
 use Rattle.ck_alloc.proofs.Marking.{marked_more, marked_skip, id_at}
 use Rattle.ck_alloc.proofs.markers.markers_of.Goals as goal

@@ -1,6 +1,5 @@
-use Rattle.std.proofs.Common.{◌≡◌, true, sym, ◌∙◌}
-use Rattle.std.proofs.lemmas.Bool.{not-false}
-use Rattle.ck_error.specs.GatheringLaws.{adds_given, adds_not}
+use Rattle.std.proofs.Common.{sym, ◌∙◌}
+use Rattle.ck_error.specs.GatheringLaws.{adds_given}
 use Rattle.ck_alloc.proofs.pages.add_test_alone.Goals as goal
 
 pub returns : goal.returns

@@ -1,4 +1,3 @@
-use Rattle.std.proofs.Common.{arith}
 use Rattle.ck_alloc.proofs.Growing.{two_of}
 use Rattle.ck_alloc.proofs.pages.add_two_uses.Goals as goal
 

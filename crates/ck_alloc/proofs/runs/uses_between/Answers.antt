@@ -1,4 +1,4 @@
-use Rattle.std.proofs.Common.{◌∙◌, ap, sym, subst}
+use Rattle.std.proofs.Common.{sym, subst}
 use Rattle.std.proofs.lemmas.List.Kept.{IsNonDecreasingBy-filter}
 use Rattle.ck_alloc.specs.Held.{IsByPage}
 use Rattle.ck_alloc.proofs.runs.uses_between.Goals as goal

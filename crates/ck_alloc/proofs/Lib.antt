@@ -1,3 +1,12 @@
 pub mod Gathering
 pub mod Together
 pub mod Images
+pub mod Filtering
+pub mod Marking
+pub mod Growing
+pub mod Members
+pub mod MarkersOf
+pub mod UsesOf
+pub mod MapLaws
+pub mod ExtentLaws
+pub mod PageLaws

@@ -1,9 +1,11 @@
 // The maps of a file.
-ghost use Rattle.std.specs.Prelude.{◌≡◌, ◌<◌, ◌≤◌, ◌*◌, ◌/◌, [], length, vec_len};
+ghost use Rattle.std.specs.Prelude.{◌≡◌, ◌<◌, ◌≤◌, ◌*◌, ◌/◌, [], length, vec_len, slice_index};
+ghost use Rattle.spec_chain.specs.Chains.{is_ordinary};
 ghost use Rattle.ck_facts.specs.Maps.{HasShape, HasSizes};
 
 use crate::CatRow;
-use pg_base::{ExtentNo, Geometry, PageNo};
+use pg_base::{ExtentNo, Geometry, PageNo, Role};
+use pg_geom::role_of;
 use spec_check::CheckError;
 
 /// A use of a page: by a single-page slot of an object, or as a page of its IAM chain.
@@ -70,5 +72,22 @@ impl AllocMap {
         ensures { result ≡ self.now.pages / 8 }
     {
         self.pages / 8
+    }
+
+    /// The PFS byte of a page.
+    pub fn pfs(&self, p: PageNo) -> u8
+        requires sound { self.now.system.items ≡ [] }
+        requires inside { p.0 < self.now.pages }
+        ensures { result ≡ slice_index self.now.pfs.items p.0 }
+    {
+        self.pfs[p.0 as usize]
+    }
+
+    /// Whether a page is one that an object may own, by its number.
+    pub fn ordinary(&self, p: PageNo) -> bool
+        requires { p.0 < self.now.pages }
+        ensures { result ≡ is_ordinary self.now.geometry p.0 }
+    {
+        matches!(role_of(self.geometry, p), Role::Ordinary)
     }
 }

@@ -1,0 +1,7 @@
+use Rattle.ck_error.specs.GatheringLaws.{lists_in_order}
+use Rattle.ck_alloc.proofs.MapLaws.{by_page_of, gathers_of}
+use Rattle.ck_alloc.proofs.errors.alloc_errors.Goals as goal
+
+pub returns : goal.returns
+returns c = λ image of. lists_in_order _ _ _ c.in_order.ensures.sorted c.in_order.ensures.same
+    (gathers_of image c.args.map.now of c.requires _ (c.in_ok-gathered.ensures (by_page_of image c.args.map.now of c.requires)))

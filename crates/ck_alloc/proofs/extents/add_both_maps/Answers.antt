@@ -1,0 +1,5 @@
+use Rattle.ck_alloc.proofs.Growing.{adds_if}
+use Rattle.ck_alloc.proofs.extents.add_both_maps.Goals as goal
+
+pub returns : goal.returns
+returns c = adds_if _ _ _ _ _ _ c.is_in_both.ensures c.both_maps_error.ensures c.in_ok-push_if.ensures

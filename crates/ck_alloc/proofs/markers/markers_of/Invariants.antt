@@ -1,0 +1,6 @@
+use Rattle.std.proofs.Common.{◌≡◌, ◌≤◌, length}
+use Rattle.ck_alloc.specs.Held.{ids_of, marked_ids}
+use Rattle.ck_alloc.proofs.markers.markers_of.Given as goal
+
+abbrev pub invariant-loop-i : goal.invariant-loop-i
+invariant-loop-i l = (l.ids.items ≡ marked_ids (ids_of l.objects) l.extent l.i) × (length l.ids.items ≤ l.i)

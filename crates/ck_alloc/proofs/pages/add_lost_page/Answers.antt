@@ -1,0 +1,5 @@
+use Rattle.ck_alloc.proofs.Growing.{adds_if}
+use Rattle.ck_alloc.proofs.pages.add_lost_page.Goals as goal
+
+pub returns : goal.returns
+returns c = adds_if _ _ _ _ _ _ c.is_lost_page.ensures c.lost_page_error.ensures c.in_ok-push_if.ensures

@@ -1,0 +1,5 @@
+use Rattle.ck_error.specs.GatheringLaws.{adds_both}
+use Rattle.ck_alloc.proofs.pages.add_owner_tests.Goals as goal
+
+pub returns : goal.returns
+returns c = adds_both _ _ _ _ _ c.in_ok-add_use_tests.ensures (adds_both _ _ _ _ _ c.in_ok-add_mark_tests.ensures c.in_ok-add_test_alone.ensures)

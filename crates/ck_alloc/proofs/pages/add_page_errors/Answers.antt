@@ -1,0 +1,5 @@
+use Rattle.ck_error.specs.GatheringLaws.{adds_both}
+use Rattle.ck_alloc.proofs.pages.add_page_errors.Goals as goal
+
+pub returns : goal.returns
+returns c = adds_both _ _ _ _ _ c.in_ok-add_lost_page.ensures (adds_both _ _ _ _ _ c.in_ok-add_two_uses.ensures c.in_ok-add_byte_errors.ensures)

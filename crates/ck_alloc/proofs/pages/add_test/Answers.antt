@@ -1,0 +1,8 @@
+use Rattle.ck_error.specs.GatheringLaws.{adds_both}
+use Rattle.ck_alloc.proofs.Growing.{adds_if}
+use Rattle.ck_alloc.proofs.pages.add_test.Goals as goal
+
+pub returns : goal.returns
+returns c = adds_both _ _ _ _ _
+    (adds_if _ _ _ _ _ _ c.has_wrong_flags.ensures c.wrong_byte_error-flags.ensures c.in_ok-push_if.ensures)
+    (adds_if _ _ _ _ _ _ c.has_wrong_fullness.ensures c.wrong_byte_error-fullness.ensures c.in_ok-push_if-2.ensures)

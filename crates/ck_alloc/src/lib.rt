@@ -5,7 +5,10 @@
 mod check;
 mod maps;
 mod order;
+mod places;
 mod system;
+mod system_maps;
+mod system_pages;
 mod text;
 
 pub use check::check_still;

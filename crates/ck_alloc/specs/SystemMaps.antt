@@ -12,7 +12,7 @@ use Rattle.ck_alloc.specs.declared.places.SystemKind.{SystemKind}
 use Rattle.ck_alloc.specs.declared.places.SystemKind.TheVariants.{Pfs, Gam, Sgam}
 use Rattle.ck_alloc.specs.declared.system_pages.SystemPages.{SystemPages}
 use Rattle.ck_alloc.specs.declared.system_maps.SystemMaps.{SystemMaps}
-use Rattle.ck_alloc.specs.SystemPlaces.{place_of, place_count, places_of_image, bytes_of}
+use Rattle.ck_alloc.specs.SystemPlaces.{place_of, place_count, places_of_image, bytes_of, bit_in, byte_in}
 
 -- all system places of a file of so many pages
 pub record HaveCounts (g : Geometry) (pages : ℕ) (found : SystemPages) : Type 0 where
@@ -45,7 +45,15 @@ IsErrorOfPages g found x =
     ((IsErrorOfKind Gam g (bytes_of found.gam.items) x ⊎ IsErrorOfKind Sgam g (bytes_of found.sgam.items) x)
     ⊎ IsErrorOfKind Pfs g (bytes_of found.pfs.items) x) ⊎ GivesError g 9 found.boot.value.bytes x
 
--- what the system pages say: their errors, the bits of each extent, the PFS byte of each page; and page 9
+-- what the pages that were read say, one after another
+pub record AreSaidBy (g : Geometry) (pages : ℕ) (found : SystemPages) (maps : SystemMaps) : Type 0 where
+  pub errors : Gathers maps.errors.items (IsErrorOfPages g found)
+  pub free : maps.free.items ≡ map (bit_in g (bytes_of found.gam.items)) (range_with_len 0 (pages / 8))
+  pub mixed : maps.mixed.items ≡ map (bit_in g (bytes_of found.sgam.items)) (range_with_len 0 (pages / 8))
+  pub pfs : maps.pfs.items ≡ map (byte_in g (bytes_of found.pfs.items)) (range_with_len 0 pages)
+  pub boot : maps.boot ≡ found.boot
+
+-- what the system pages of an image say: their errors, the bits of each extent, the PFS byte of each page; and page 9
 pub record AreSystemMaps (g : Geometry) (maps : SystemMaps) (image : Image) : Type 0 where
   pub errors : Gathers maps.errors.items (IsSystemError g image)
   pub free : maps.free.items ≡ map (is_free g image) (range_with_len 0 (extent_count image))

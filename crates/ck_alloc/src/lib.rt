@@ -3,6 +3,7 @@
 #![tactic(auto)]
 
 mod check;
+mod map_bits;
 mod maps;
 mod order;
 mod places;
@@ -10,8 +11,10 @@ mod system;
 mod system_maps;
 mod system_pages;
 mod text;
+mod wrong;
 
 pub use check::check_still;
 pub use spec_check::{CheckError, CheckReport, TableLine};
-pub use system::is_page_of;
+pub use system_maps::{SystemMaps, read_system};
+pub use wrong::is_page_of;
 pub use text::write_report;

@@ -51,6 +51,7 @@ fn read_more<R: SnapReader>(
 }
 
 // All system places of one kind.
+#[tactic(auto, using(crate::proofs::PlaceBounds::place_inside, crate::proofs::PlaceBounds::span_below_limit))]
 fn read_places<R: SnapReader>(
     alloc: Global,
     reader: &mut R,

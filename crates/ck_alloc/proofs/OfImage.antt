@@ -1,5 +1,5 @@
 -- What the system pages of a file say is what its image says.
-use Rattle.std.proofs.Common.{◌≡◌, ◌⊎◌, ℕ, ◌+◌, ◌*◌, ◌/◌, ◌%◌, ◌<◌, ◌≤◌, ◌==◌, Bool, true, false, List, [], Option, Some, None, IfSome, length, map, arith, sym, ap, subst, ◌∙◌, refl, inl, inr, ⊎_elim, if◌then◌else◌, slice_index}
+use Rattle.std.proofs.Common.{◌≡◌, ◌⊎◌, ℕ, ◌+◌, ◌/◌, ◌%◌, ◌<◌, ◌==◌, Bool, true, false, List, [], Option, Some, None, IfSome, length, map, arith, sym, ap, subst, ◌∙◌, refl, inl, inr, ⊎_elim, if◌then◌else◌, slice_index}
 use Rattle.std.specs.List.{range_with_len}
 use Rattle.std.specs.Option.{ForSome}
 use Rattle.std.proofs.lemmas.Bool.{eqb-true}
@@ -7,11 +7,11 @@ use Rattle.std.proofs.lemmas.List.FromFn.{length-map-range_with_len, get_or-map-
 use Rattle.spec_file.specs.declared.geometry.Geometry.{Geometry}
 use Rattle.spec_file.specs.declared.role.Role.TheVariants as role
 use Rattle.spec_file.specs.Image.{Image, page, bit, maps_start}
-use Rattle.spec_file.specs.Places.{interval_size, pfs_span, pfs_page, gam_page, sgam_page, interval_of_page, is_free, is_mixed, extent_count}
+use Rattle.spec_file.specs.Places.{interval_size, pfs_span, pfs_page, gam_page, sgam_page, interval_of_page, is_free, is_mixed}
 use Rattle.spec_file.specs.Roles.{role_of, system_type, is_system_extent}
 use Rattle.spec_chain.specs.Uses.{pfs_byte}
 use Rattle.spec_check.specs.declared.report.CheckError.{CheckError}
-use Rattle.spec_check.specs.System.{IsWrong, IsErrorOf, IsSystemError}
+use Rattle.spec_check.specs.System.{IsSystemError}
 use Rattle.ck_error.specs.GatheringLaws.{gathers_as}
 use Rattle.ck_facts.specs.Maps.{HasShape}
 use Rattle.ck_alloc.specs.declared.places.SystemKind.{SystemKind}
@@ -19,7 +19,7 @@ use Rattle.ck_alloc.specs.declared.places.SystemKind.TheVariants.{Pfs, Gam, Sgam
 use Rattle.ck_alloc.specs.declared.system_pages.SystemPages.{SystemPages}
 use Rattle.ck_alloc.specs.declared.system_maps.SystemMaps.{SystemMaps}
 use Rattle.ck_alloc.specs.SystemPlaces.{span_of, place_of, place_count, places_of_image, bytes_of, bit_in, byte_in}
-use Rattle.ck_alloc.specs.SystemMaps.{ArePagesOf, GivesError, GivesErrorAt, IsErrorOfKind, IsErrorOfPages, AreSaidBy, AreSystemMaps}
+use Rattle.ck_alloc.specs.SystemMaps.{ArePagesOf, GivesError, IsErrorOfKind, IsErrorOfPages, AreSaidBy, AreSystemMaps, HaveSizes}
 use Rattle.ck_alloc.proofs.Ranges.{same_values}
 use Rattle.ck_alloc.proofs.PlaceBounds.{place_inside, interval_read, span_read}
 
@@ -131,3 +131,11 @@ pub told_maps : (told : Option Image) (g : Geometry) (pages : ℕ) (found : Syst
     → IfSome told (AreSystemMaps g maps)
 told_maps None g pages found maps shape whole are said = tt
 told_maps (Some image) g pages found maps shape whole are said = maps_of_image g image pages found maps shape (whole image refl) are said
+
+-- each extent has its bits, and each page its byte
+pub sizes_of : (g : Geometry) (pages : ℕ) (found : SystemPages) (maps : SystemMaps) → AreSaidBy g pages found maps → HaveSizes pages maps
+sizes_of g pages found maps said = record {
+  free = maps.free.ok.0 ∙ ap length said.free ∙ length-map-range_with_len (bit_in g (bytes_of found.gam.items)) 0 (pages / 8);
+  mixed = maps.mixed.ok.0 ∙ ap length said.mixed ∙ length-map-range_with_len (bit_in g (bytes_of found.sgam.items)) 0 (pages / 8);
+  pfs = maps.pfs.ok.0 ∙ ap length said.pfs ∙ length-map-range_with_len (byte_in g (bytes_of found.pfs.items)) 0 pages;
+}

@@ -1,6 +1,6 @@
 -- The system places of a file: a PFS page for each span of pages, a GAM and an SGAM page for each interval
 -- (Pages and Extents Architecture Guide).
-use Rattle.std.specs.Prelude.{◌≡◌, ℕ, ◌+◌, ◌-◌, ◌*◌, ◌/◌, ◌%◌, ◌==◌, if◌then◌else◌, Bool, List, map, slice_index, Box}
+use Rattle.std.specs.Prelude.{ℕ, ◌+◌, ◌-◌, ◌*◌, ◌/◌, ◌%◌, ◌==◌, if◌then◌else◌, Bool, List, map, slice_index, Box}
 use Rattle.std.specs.List.{range_with_len}
 use Rattle.spec_file.specs.declared.geometry.Geometry.{Geometry}
 use Rattle.spec_file.specs.Image.{Image, page, bit, maps_start}

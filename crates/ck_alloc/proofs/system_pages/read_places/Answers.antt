@@ -1,4 +1,4 @@
-use Rattle.std.proofs.Common.{arith, ◌∙◌, sym}
+use Rattle.std.proofs.Common.{arith, ◌∙◌}
 use Rattle.ck_alloc.proofs.ToldPlaces.{told_more}
 use Rattle.ck_alloc.proofs.system_pages.read_places.Goals as goal
 

@@ -101,9 +101,11 @@ kind_of_error kind g image pages p found x shape size are below place given =
     let inside : p / span_of kind g < place_count kind g pages = span_read kind g pages p shape (subst (λ n. p < n) size below) in
     let here = page_of_kind kind g image _ (p / span_of kind g) found are inside in
     let there : GivesError g (place_of kind g (p / span_of kind g)) (page image (place_of kind g (p / span_of kind g))) x =
-    subst (λ q. GivesError g q (page image q) x) place given in
-    (p / span_of kind g, subst (λ n. p / span_of kind g < n) (sym (length_of_kind kind g image _ found are)) inside,
-    subst (λ l. GivesError g (place_of kind g (p / span_of kind g)) l x) (sym here) there)
+    subst (λ q. GivesError g q (page image q) x) place given in (
+      p / span_of kind g,
+      subst (λ n. p / span_of kind g < n) (sym (length_of_kind kind g image _ found are)) inside,
+      subst (λ l. GivesError g (place_of kind g (p / span_of kind g)) l x) (sym here) there,
+    )
 
 pub image_of_error : (g : Geometry) (image : Image) (pages : ℕ) (found : SystemPages) (x : CheckError) → HasShape g pages → length image ≡ pages
     → ArePagesOf g pages found image → IsSystemError g image x → IsErrorOfPages g found x

@@ -28,7 +28,6 @@ span_inside Gam Small pages k shape below = omega (arith, below)
 span_inside Sgam Standard pages k shape below = omega (arith, below)
 span_inside Sgam Small pages k shape below = omega (arith, below)
 
-
 pub place_inside : (kind : SystemKind) (g : Geometry) (pages k : ℕ) → HasShape g pages → k < place_count kind g pages
     → place_of kind g k < pages
 place_inside Pfs Standard pages k shape below =

@@ -16,5 +16,5 @@ mod wrong;
 pub use check::check_still;
 pub use spec_check::{CheckError, CheckReport, TableLine};
 pub use system_maps::{SystemMaps, read_system};
-pub use wrong::is_page_of;
 pub use text::write_report;
+pub use wrong::is_page_of;

@@ -1,0 +1,9 @@
+//! Rows as bytes (this project's own): a data row of a heap or of a leaf, and an index row of the pages
+//! above the leaves.
+#![tactic(auto)]
+
+mod read;
+mod row;
+
+pub use read::read_row;
+pub use row::Row;

@@ -1,0 +1,8 @@
+//! The slot array of a page: the page test with its first fault, and the rows of a page that passes it
+//! (all are this project's own).
+#![tactic(auto)]
+
+mod header;
+mod slot;
+
+pub use spec_rows::SlotFault;

@@ -1,3 +1,5 @@
 pub mod Rows
 pub mod Slots
 pub mod PageTest
+pub mod SlotLaws
+pub mod OrderLaws

@@ -3,6 +3,7 @@
 #![tactic(auto)]
 
 mod header;
+mod order;
 mod slot;
 
 pub use spec_rows::SlotFault;

@@ -1,5 +1,5 @@
 -- Offsets that never fall from a slot to the next.
-use Rattle.std.proofs.Common.{◌≡◌, refl, ℕ, zero, suc, ◌+◌, ◌<◌, ◌≤◌, List, arith, ap, add-one, inl, inr}
+use Rattle.std.proofs.Common.{◌≡◌, refl, ℕ, zero, suc, ◌+◌, ◌<◌, ◌≤◌, List, arith, ap, inl, inr}
 use Rattle.std.proofs.lemmas.Bool.{cases_order}
 use Rattle.spec_rows.specs.Slots.{slot_limit, slot_count, slot_at}
 use Rattle.spec_rows.specs.OrderLaws.{IsInOrder}
@@ -25,7 +25,7 @@ rising_in_order bytes few rise = record {
   few = few;
   within = λ k small. small;
   rising = λ k l less within.
-    let climb = climbs bytes (slot_count bytes) rise k l (omega arith) within in
-    omega arith;
+      let climb = climbs bytes (slot_count bytes) rise k l (omega arith) within in
+      omega arith;
   whole = λ i small. (i, small, refl);
 }

@@ -1,16 +1,16 @@
 -- Keys that are sorted put the slots in order.
-use Rattle.std.proofs.Common.{◌≡◌, ◌≢◌, refl, ℕ, ◌+◌, ◌*◌, ◌%◌, ◌<◌, ◌≤◌, List, length, map, get_or, set, arith, ap, sym, subst, ◌∙◌, ◌⊎◌, inl, inr}
+use Rattle.std.proofs.Common.{◌≡◌, ◌≢◌, refl, ℕ, ◌%◌, ◌<◌, ◌≤◌, List, length, map, get_or, set, arith, ap, sym, subst, ◌∙◌, ◌⊎◌, inl, inr}
 use Rattle.std.proofs.lemmas.Bool.{cases_eq}
 use Rattle.std.proofs.lemmas.List.Sorted.{IsPermutation-keeps, All-permutation, Contains-permutation, length_permutation, IsNonDecreasingBy-from_sort}
 use Rattle.std.proofs.lemmas.List.FromFn.{length-map-range_with_len, get_or-map-range_with_len}
 use Rattle.std.proofs.lemmas.List.Edits.{swap_is}
 use Rattle.std.proofs.lemmas.List.{get_or-set_same, get_or-set_other, length-set}
 use Rattle.std.proofs.lemmas.Grind.{get_or_default_zero}
-use Rattle.std.specs.List.{range_with_len, swap, All, Contains}
+use Rattle.std.specs.List.{range_with_len, swap, All}
 use Rattle.std.specs.List.Sorted.{IsPermutation, IsSorted}
 use Rattle.std.specs.Ordering.{nat_cmp}
-use Rattle.spec_rows.specs.Slots.{slot_limit, slot_count, slot_at}
-use Rattle.spec_rows.specs.OrderLaws.{IsInOrder, order_key}
+use Rattle.spec_rows.specs.Slots.{slot_limit, slot_count}
+use Rattle.spec_rows.specs.OrderLaws.{order_key}
 use Rattle.pg_slots.specs.Keys.{AreInOrder}
 
 abbrev pub keys_of : List ℕ → List ℕ
@@ -60,25 +60,25 @@ stood_at xs a b k a_in b_in k_in =
     let size : length ys ≡ length xs = length-set xs a (get_or xs b 0) in
     elim (cases_eq k b) [
       | inl last ↦ record {
-          place = a;
-          within = a_in;
-          same = at ∙ ap (λ (m : ℕ). get_or (set ys b (get_or xs a 0)) m 0) last ∙ get_or-set_same ys b (get_or xs a 0) 0 (omega (arith, size));
-          came = inl (last, refl);
-        }
+        place = a;
+        within = a_in;
+        same = at ∙ ap (λ (m : ℕ). get_or (set ys b (get_or xs a 0)) m 0) last ∙ get_or-set_same ys b (get_or xs a 0) 0 (omega (arith, size));
+        came = inl (last, refl);
+      }
       | inr other ↦ elim (cases_eq k a) [
-          | inl first ↦ record {
-              place = b;
-              within = b_in;
-              same = at ∙ get_or-set_other ys b k (get_or xs a 0) 0 other ∙ ap (λ (m : ℕ). get_or ys m 0) first ∙ get_or-set_same xs a (get_or xs b 0) 0 a_in;
-              came = inr (inl (other, first, refl));
-            }
-          | inr neither ↦ record {
-              place = k;
-              within = k_in;
-              same = at ∙ get_or-set_other ys b k (get_or xs a 0) 0 other ∙ get_or-set_other xs a k (get_or xs b 0) 0 neither;
-              came = inr (inr (other, neither, refl));
-            }
-        ]
+        | inl first ↦ record {
+          place = b;
+          within = b_in;
+          same = at ∙ get_or-set_other ys b k (get_or xs a 0) 0 other ∙ ap (λ (m : ℕ). get_or ys m 0) first ∙ get_or-set_same xs a (get_or xs b 0) 0 a_in;
+          came = inr (inl (other, first, refl));
+        }
+        | inr neither ↦ record {
+          place = k;
+          within = k_in;
+          same = at ∙ get_or-set_other ys b k (get_or xs a 0) 0 other ∙ get_or-set_other xs a k (get_or xs b 0) 0 neither;
+          came = inr (inr (other, neither, refl));
+        }
+      ]
     ]
 
 swap_size : (xs : List ℕ) (a b : ℕ) → a < length xs → b < length xs → length (swap xs a b) ≡ length xs
@@ -91,7 +91,7 @@ swap_keeps xs a b a_in b_in apart i j within within' other same =
     let one = stood_at xs a b i a_in b_in (omega (arith, size)) in
     let two = stood_at xs a b j a_in b_in (omega (arith, size)) in
     apart one.place two.place one.within two.within (came_apart a b i j one.place two.place one.came two.came other)
-      (ap (λ (x : ℕ). x % 4096) (sym one.same) ∙ same ∙ ap (λ (x : ℕ). x % 4096) two.same)
+    (ap (λ (x : ℕ). x % 4096) (sym one.same) ∙ same ∙ ap (λ (x : ℕ). x % 4096) two.same)
 
 -- x is the key of a slot
 abbrev IsKey : List ℕ → ℕ → Type 0
@@ -120,13 +120,13 @@ sorted_in_order bytes keys few moved sorted =
       few = few;
       within = λ k small. (all k 0 (omega (arith, size))).0;
       rising = λ k l less within.
-        let first = (all k 0 (omega (arith, size))).1 in
-        let second = (all l 0 (omega (arith, size))).1 in
-        let below = rise k l 0 (omega arith) (omega (arith, size)) in
-        let other = apart k l (omega (arith, size)) (omega (arith, size)) (omega arith) in
-        lt_from (get_or keys k 0) (get_or keys l 0) (order_key bytes (get_or keys k 0 % 4096)) (order_key bytes (get_or keys l 0 % 4096)) first second below other;
+          let first = (all k 0 (omega (arith, size))).1 in
+          let second = (all l 0 (omega (arith, size))).1 in
+          let below = rise k l 0 (omega arith) (omega (arith, size)) in
+          let other = apart k l (omega (arith, size)) (omega (arith, size)) (omega arith) in
+          lt_from (get_or keys k 0) (get_or keys l 0) (order_key bytes (get_or keys k 0 % 4096)) (order_key bytes (get_or keys l 0 % 4096)) first second below other;
       whole = λ i small.
-        let in_keys = Contains-permutation (keys_of bytes) keys (order_key bytes i) moved (i, omega (arith, key_count bytes), get_or_default_zero (keys_of bytes) i (order_key bytes i) (omega (arith, key_count bytes)) ∙ key_at bytes i small) in
-        let here = sym (get_or_default_zero keys in_keys.0 (order_key bytes i) in_keys.1) ∙ in_keys.2 in
-        (in_keys.0, omega (arith, size, in_keys.1), ap (λ (x : ℕ). x % 4096) here ∙ key_slot bytes i (omega arith));
+          let in_keys = Contains-permutation (keys_of bytes) keys (order_key bytes i) moved (i, omega (arith, key_count bytes), get_or_default_zero (keys_of bytes) i (order_key bytes i) (omega (arith, key_count bytes)) ∙ key_at bytes i small) in
+          let here = sym (get_or_default_zero keys in_keys.0 (order_key bytes i) in_keys.1) ∙ in_keys.2 in
+          (in_keys.0, omega (arith, size, in_keys.1), ap (λ (x : ℕ). x % 4096) here ∙ key_slot bytes i (omega arith));
     }

@@ -4,6 +4,11 @@
 
 mod header;
 mod order;
+mod passes;
+mod rows;
 mod slot;
+mod view;
 
+pub use passes::test_page;
 pub use spec_rows::SlotFault;
+pub use view::SlotView;

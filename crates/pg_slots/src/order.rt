@@ -50,7 +50,7 @@ fn overlap(page: &Page, header: &Header, before: u16, slot: u16) -> Option<SlotF
     requires second { slot < header.now.slots }
     ensures { MatchOption result (slots.row_end page.now.bytes before ≤ slots.slot_at page.now.bytes slot)
         (λ x. (slots.slot_at page.now.bytes slot < slots.row_end page.now.bytes before)
-            × (x ≡ spec.fault 8942 slot (slots.slot_at page.now.bytes slot))) }
+        × (x ≡ spec.fault 8942 slot (slots.slot_at page.now.bytes slot))) }
 {
     let start = slot_at(page, before);
     let at = slot_at(page, slot);

@@ -3,3 +3,4 @@ pub mod Slots
 pub mod PageTest
 pub mod SlotLaws
 pub mod OrderLaws
+pub mod TestLaws

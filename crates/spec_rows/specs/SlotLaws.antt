@@ -1,10 +1,13 @@
 -- What it means of a slot that it has no fault.
-use Rattle.std.specs.Prelude.{◌≡◌, ℕ, ◌<◌, ◌≤◌, ◌&&◌, Bool, true, false, not, IsTrue, List, nat_le, nat_lt, if◌then◌else◌, Some, None, refl}
-use Rattle.std.proofs.Common.{arith}
+use Rattle.std.specs.Prelude.{◌≡◌, ℕ, ◌+◌, ◌<◌, ◌≤◌, ◌&&◌, Bool, true, false, not, IsTrue, List, nat_le, nat_lt, if◌then◌else◌, Some, None, refl}
+use Rattle.std.specs.List.{range_with_len, sum_by}
+use Rattle.std.proofs.Common.{arith, ap, sym, ◌∙◌}
 use Rattle.std.proofs.lemmas.Bool.{and_parts, leb-true, ltb-true, ltb-false}
+use Rattle.std.proofs.lemmas.List.{map-id}
+use Rattle.std.proofs.lemmas.List.FromFn.{sum_by-map-range_with_len_more}
 use Rattle.spec_rows.specs.declared.fault.SlotFault.{SlotFault}
 use Rattle.spec_rows.specs.Rows.{data_head, row_limit}
-use Rattle.spec_rows.specs.Slots.{rows_end, has_index_rows, slot_at, has_row_header, begins_row, row_size, row_end}
+use Rattle.spec_rows.specs.Slots.{rows_end, has_index_rows, slot_at, has_row_header, begins_row, row_size, row_end, rows_size}
 use Rattle.spec_rows.specs.PageTest.{fault, slot_fault}
 
 -- a row stands at the offset of slot i, whole before the end of the rows
@@ -48,3 +51,9 @@ row_stands bytes i none =
       least = size.0;
       most = size.1;
     }
+
+pub rows_size_more : (bytes : List ℕ) (n : ℕ) → rows_size bytes (n + 1) ≡ rows_size bytes n + row_size bytes n
+rows_size_more bytes n =
+    let size = row_size bytes in
+    let whole = sum_by-map-range_with_len_more size (λ i. i) 0 n n (omega arith) in
+    ap (sum_by size) (sym (map-id (range_with_len 0 (n + 1)))) ∙ whole ∙ ap (λ (l : List ℕ). sum_by size l + size n) (map-id (range_with_len 0 n))

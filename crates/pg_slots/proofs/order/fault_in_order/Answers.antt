@@ -8,12 +8,12 @@ pub returns-in-Some : goal.returns-in-Some
 returns-in-Some c =
     let count : c.args.header.now.slots ≡ slot_count c.args.page.now.bytes = ap (λ (h : Header). h.slots) c.requires.header in
     overlap_at c.args.page.now.bytes (λ (k : ℕ). slice_index c.args.keys.now k % 4096) c.requires.order (c.loop-k.k - 1) c.loop-k.k (omega arith) (omega arith)
-      c.loop-k.invariant _ (rw (c.slot_of-before.ensures, c.slot_of-slot.ensures) at c.in-Some.ensures)
+    c.loop-k.invariant _ (rw (c.slot_of-before.ensures, c.slot_of-slot.ensures) at c.in-Some.ensures)
 
 pub loop-k-preserved : goal.loop-k-preserved
 loop-k-preserved c =
     one_more c.args.page.now.bytes (λ (k : ℕ). slice_index c.args.keys.now k % 4096) (c.loop-k.k - 1) c.loop-k.k (omega arith) c.loop-k.invariant
-      (rw (c.slot_of-before.ensures, c.slot_of-slot.ensures) at c.in_default.ensures)
+    (rw (c.slot_of-before.ensures, c.slot_of-slot.ensures) at c.in_default.ensures)
 
 pub returns : goal.returns
 returns c =

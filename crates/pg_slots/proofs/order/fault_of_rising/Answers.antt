@@ -8,7 +8,7 @@ pub returns-in-Some : goal.returns-in-Some
 returns-in-Some c =
     let count : c.args.header.now.slots ≡ slot_count c.args.page.now.bytes = ap (λ (h : Header). h.slots) c.requires.header in
     overlap_at c.args.page.now.bytes (λ k. k) c.requires.order (c.loop-slot.slot - 1) c.loop-slot.slot (omega arith) (omega arith)
-      c.loop-slot.invariant _ c.in-Some.ensures
+    c.loop-slot.invariant _ c.in-Some.ensures
 
 pub loop-slot-preserved : goal.loop-slot-preserved
 loop-slot-preserved c =

@@ -1,4 +1,4 @@
-use Rattle.std.proofs.Common.{ℕ, List, map, arith, ap, sym, subst, ◌∙◌}
+use Rattle.std.proofs.Common.{ℕ, List, map, arith, ap, subst, ◌∙◌}
 use Rattle.std.specs.List.{range_with_len}
 use Rattle.std.specs.List.Sorted.{IsPermutation}
 use Rattle.spec_rows.specs.OrderLaws.{order_key}
@@ -10,5 +10,5 @@ returns c =
     let bytes = c.args.page.now.bytes in
     let keys = c.put_keys.ensures ∙ ap (λ (n : ℕ). map (order_key bytes) (range_with_len 0 n)) c.requires.count in
     sorted_in_order bytes c.sort_unstable.new.self (omega arith)
-      (subst (λ (l : List ℕ). IsPermutation l c.sort_unstable.new.self) keys c.sort_unstable.ensures.permutation)
-      c.sort_unstable.ensures.sorted
+    (subst (λ (l : List ℕ). IsPermutation l c.sort_unstable.new.self) keys c.sort_unstable.ensures.permutation)
+    c.sort_unstable.ensures.sorted

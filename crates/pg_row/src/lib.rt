@@ -4,6 +4,11 @@
 
 mod read;
 mod row;
+mod write;
 
 pub use read::read_row;
 pub use row::Row;
+pub use write::write_row;
+
+#[cfg(test)]
+mod tests;

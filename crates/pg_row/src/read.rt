@@ -1,4 +1,4 @@
-ghost use Rattle.std.specs.Prelude.{◌≡◌, ◌+◌, ◌≤◌, ◌<◌, length, IfSome};
+ghost use Rattle.std.specs.Prelude.{◌≡◌, ◌≢◌, ◌+◌, ◌≤◌, length, IfSome, IfNone};
 ghost use Rattle.spec_file.specs.Image.{number_at};
 ghost use Rattle.spec_rows.specs.Rows as spec;
 ghost use Rattle.pg_row.specs.Meaning.{meaning, meaning_of};
@@ -9,7 +9,9 @@ use pg_base::{PageNo, u16_at, u32_at};
 
 /// The row that the bytes are; none exactly where they aren't one whole row.
 pub fn read_row(bytes: &[u8]) -> Option<Row<'_>>
-    ensures { meaning_of result ≡ spec.row_of bytes.now }
+    ensures row { meaning_of result ≡ spec.row_of bytes.now }
+    ensures spelled { IfSome result (λ row. spec.row_bytes (meaning row) ≡ bytes.now) }
+    ensures none { IfNone result ((row : spec.PageRow) → spec.Fits row → spec.row_bytes row ≢ bytes.now) }
 {
     if is_data_row(bytes) {
         Some(Row::Leaf {

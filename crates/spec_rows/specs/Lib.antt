@@ -4,3 +4,4 @@ pub mod PageTest
 pub mod SlotLaws
 pub mod OrderLaws
 pub mod TestLaws
+pub mod RowLaws

@@ -12,3 +12,6 @@ mod view;
 pub use passes::test_page;
 pub use spec_rows::SlotFault;
 pub use view::SlotView;
+
+#[cfg(test)]
+mod tests;

@@ -1,4 +1,4 @@
-ghost use Rattle.std.specs.Prelude.{◌≡◌, ◌<◌};
+ghost use Rattle.std.specs.Prelude.{◌≡◌, ◌<◌, IsTrue, length};
 ghost use Rattle.spec_rows.specs.Slots as slots;
 ghost use Rattle.spec_rows.specs.PageTest.{HoldsRows};
 ghost use Rattle.pg_slots.specs.Views.{bytes_of};
@@ -22,18 +22,28 @@ impl SlotView<'_> {
         u16_at(&self.page.bytes, 20)
     }
 
-    /// The bytes of row i.
+    /// The bytes of row i: one whole row, an index row on a page of type 2, else a data row.
     pub fn row(&self, i: u16) -> &[u8]
         requires { i < slots.slot_count (bytes_of self.now) }
-        ensures { result.now ≡ slots.page_row (bytes_of self.now) i }
+        ensures row { result.now ≡ slots.page_row (bytes_of self.now) i }
+        ensures fits { IsTrue (slots.fits_page (bytes_of self.now) result.now) }
     {
-        let page = self.page;
-        let start = u16_at(&page.bytes, 8190 - 2 * i as usize) as usize;
-        let size = if page.bytes[1] == 2 {
-            13
-        } else {
-            u16_at(&page.bytes, start + 1) as usize
-        };
-        &page.bytes[start..start + size]
+        row_at(self.page, i)
     }
+}
+
+// The bytes of row i.
+fn row_at(page: &Page, i: u16) -> &[u8]
+    requires holds { HoldsRows page.now.bytes }
+    requires i { i < slots.slot_count page.now.bytes }
+    ensures row { result.now ≡ slots.page_row page.now.bytes i }
+    ensures long { length page.now.bytes ≡ 8192 }
+{
+    let start = u16_at(&page.bytes, 8190 - 2 * i as usize) as usize;
+    let size = if page.bytes[1] == 2 {
+        13
+    } else {
+        u16_at(&page.bytes, start + 1) as usize
+    };
+    &page.bytes[start..start + size]
 }

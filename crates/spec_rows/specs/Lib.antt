@@ -5,3 +5,4 @@ pub mod SlotLaws
 pub mod OrderLaws
 pub mod TestLaws
 pub mod RowLaws
+pub mod WholeRows

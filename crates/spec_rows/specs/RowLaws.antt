@@ -1,13 +1,13 @@
 -- A row that is written is read again, and what is read as a row is written so.
-use Rattle.std.specs.Prelude.{◌≡◌, ℕ, zero, suc, ◌+◌, ◌*◌, ◌/◌, ◌%◌, ◌^◌, ◌<◌, ◌≤◌, ◌==◌, ◌&&◌, Bool, true, false, List, [], ◌∷◌, ◌++◌, length, take, drop, nat_le, slice_index, if◌then◌else◌, Option, Some, None, refl}
-use Rattle.std.proofs.Common.{arith, ap, sym, ◌∙◌, length-append, length-drop}
+use Rattle.std.specs.Prelude.{◌≡◌, ℕ, zero, suc, ◌+◌, ◌/◌, ◌%◌, ◌^◌, ◌<◌, ◌≤◌, ◌==◌, ◌&&◌, Bool, true, false, List, [], ◌∷◌, ◌++◌, length, take, drop, nat_le, slice_index, if◌then◌else◌, Some, None, refl}
+use Rattle.std.proofs.Common.{arith, ap, sym, ◌∙◌, length-drop}
 use Rattle.std.specs.Int.{byte_at, bytes_low_first}
 use Rattle.std.proofs.lemmas.List.{take-append-drop, drop-drop, drop_all, get_or-drop}
 use Rattle.std.proofs.Math.Seq.{drop-cons}
 use Rattle.std.proofs.Math.Nat.{div-one, div-div-eq-div-mul, pow-suc}
 use Rattle.std.proofs.lemmas.Bool.{eq-eqb, eqb-true, le-leb, leb-true, and_from, and_parts}
 use Rattle.byteorder.specs.Endian.{little_bytes, little_number, little_from}
-use Rattle.byteorder.specs.Numbers.{little_number-reads_back, length-bytes_low_first}
+use Rattle.byteorder.specs.Numbers.{little_number-reads_back}
 use Rattle.spec_file.specs.Image.{number_at}
 use Rattle.spec_rows.specs.Rows.{PageRow, DataRow, IndexRow, Fits, row_bytes, row_of, is_data_row, is_index_row}
 
@@ -52,10 +52,10 @@ data_is_whole key payload fits =
     let bytes = row_bytes (DataRow key payload) in
     let size = data_length key payload in
     and_from _ _ (and_from _ _ (and_from _ _
-        (eq-eqb (slice_index bytes 0) 16 (data_status_is key payload))
-        (eq-eqb (number_at 2 1 bytes) (length bytes) (data_size key payload fits ∙ sym size)))
-        (le-leb 11 (length bytes) (omega arith)))
-        (le-leb (length bytes) 1024 (omega arith))
+    (eq-eqb (slice_index bytes 0) 16 (data_status_is key payload))
+    (eq-eqb (number_at 2 1 bytes) (length bytes) (data_size key payload fits ∙ sym size)))
+    (le-leb 11 (length bytes) (omega arith)))
+    (le-leb (length bytes) 1024 (omega arith))
 
 pub reads_back : (row : PageRow) → Fits row → row_of (row_bytes row) ≡ Some row
 reads_back (DataRow key payload) fits =
@@ -89,7 +89,7 @@ spelled_at : (n at : ℕ) (bytes : List ℕ) → ((k : ℕ) → slice_index byte
 unfolding number_at
 spelled_at n at bytes small within =
     spells n 0 0 (little_number n (drop at bytes)) (drop at bytes) (div-one (little_number n (drop at bytes)))
-      (λ k. small_behind at k bytes small) (omega (arith, length-drop at bytes))
+    (λ k. small_behind at k bytes small) (omega (arith, length-drop at bytes))
 
 -- a part and what stands behind it are what stands from the part
 join : (n at k : ℕ) (bytes : List ℕ) → at + n ≡ k → take n (drop at bytes) ++ drop k bytes ≡ drop at bytes

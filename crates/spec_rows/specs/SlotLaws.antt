@@ -1,14 +1,15 @@
 -- What it means of a slot that it has no fault.
-use Rattle.std.specs.Prelude.{◌≡◌, ℕ, ◌+◌, ◌<◌, ◌≤◌, ◌&&◌, Bool, true, false, not, IsTrue, List, nat_le, nat_lt, if◌then◌else◌, Some, None, refl}
+use Rattle.std.specs.Prelude.{◌≡◌, ℕ, ◌+◌, ◌*◌, ◌<◌, ◌≤◌, ◌&&◌, Bool, true, false, not, IsTrue, List, nat_le, nat_lt, if◌then◌else◌, Some, None, refl}
 use Rattle.std.specs.List.{range_with_len, sum_by}
 use Rattle.std.proofs.Common.{arith, ap, sym, ◌∙◌}
 use Rattle.std.proofs.lemmas.Bool.{and_parts, leb-true, ltb-true, ltb-false}
 use Rattle.std.proofs.lemmas.List.{map-id}
 use Rattle.std.proofs.lemmas.List.FromFn.{sum_by-map-range_with_len_more}
+use Rattle.spec_file.specs.declared.header.Header.{Header}
 use Rattle.spec_rows.specs.declared.fault.SlotFault.{SlotFault}
 use Rattle.spec_rows.specs.Rows.{data_head, row_limit}
-use Rattle.spec_rows.specs.Slots.{rows_end, has_index_rows, slot_at, has_row_header, begins_row, row_size, row_end, rows_size}
-use Rattle.spec_rows.specs.PageTest.{fault, slot_fault}
+use Rattle.spec_rows.specs.Slots.{slot_limit, rows_end, has_index_rows, slot_at, has_row_header, begins_row, row_size, row_end, rows_size}
+use Rattle.spec_rows.specs.PageTest.{fault, slot_fault, has_room}
 
 -- a row stands at the offset of slot i, whole before the end of the rows
 pub record RowStands (bytes : List ℕ) (i : ℕ) : Type 0 where
@@ -57,3 +58,19 @@ rows_size_more bytes n =
     let size = row_size bytes in
     let whole = sum_by-map-range_with_len_more size (λ i. i) 0 n n (omega arith) in
     ap (sum_by size) (sym (map-id (range_with_len 0 (n + 1)))) ∙ whole ∙ ap (λ (l : List ℕ). sum_by size l + size n) (map-id (range_with_len 0 n))
+
+-- where the rows may stand
+pub record RowsRoom (h : Header) : Type 0 where
+  pub few : h.slots ≤ slot_limit
+  pub from : 96 ≤ h.free_from
+  pub within : h.free_from + 2 * h.slots ≤ 8192
+
+pub rows_room : (h : Header) → IsTrue (has_room h) → RowsRoom h
+rows_room h test =
+    let outer = and_parts (nat_le h.slots slot_limit && nat_le 96 h.free_from) (nat_le (h.free_from + 2 * h.slots) 8192) test in
+    let inner = and_parts (nat_le h.slots slot_limit) (nat_le 96 h.free_from) outer.0 in
+    record {
+      few = leb-true h.slots slot_limit inner.0;
+      from = leb-true 96 h.free_from inner.1;
+      within = leb-true (h.free_from + 2 * h.slots) 8192 outer.1;
+    }

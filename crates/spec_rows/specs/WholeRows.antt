@@ -2,29 +2,15 @@
 use Rattle.std.specs.Prelude.{◌≡◌, ℕ, ◌+◌, ◌-◌, ◌<◌, ◌≤◌, ◌==◌, ◌&&◌, Bool, true, false, IsTrue, List, length, take, drop, nat_le, slice_index, if◌then◌else◌, refl}
 use Rattle.std.proofs.Common.{arith, ap, sym, ◌∙◌, length-drop}
 use Rattle.std.proofs.lemmas.Bool.{and_parts, and_from, eq-eqb, leb-true}
-use Rattle.std.proofs.lemmas.List.{drop-take, drop-drop, get_or-take, get_or-drop, length-take-le}
-use Rattle.byteorder.specs.Endian.{little_number}
-use Rattle.byteorder.specs.Numbers.{little_from-take}
+use Rattle.std.proofs.lemmas.List.{length-take-le}
 use Rattle.spec_file.specs.Image.{number_at}
 use Rattle.spec_rows.specs.Rows.{is_data_row, is_index_row}
 use Rattle.spec_rows.specs.Slots.{rows_end, has_index_rows, slot_at, row_size, row_end, page_row, fits_page}
+use Rattle.spec_rows.specs.PartLaws.{number_in_part, byte_in_part}
 use Rattle.spec_rows.specs.SlotLaws.{RowStands}
 
--- a number of a part of bytes is one of the bytes
-number_in_part : (n k m at : ℕ) (bytes : List ℕ) → k + n ≤ m → number_at n k (take m (drop at bytes)) ≡ number_at n (at + k) bytes
-unfolding number_at
-number_in_part n k m at bytes within =
-    let there : k + (m - k) ≡ m = omega arith in
-    ap (λ (i : ℕ). little_number n (drop k (take i (drop at bytes)))) (sym there)
-    ∙ ap (little_number n) (drop-take k (m - k) (drop at bytes))
-    ∙ little_from-take 0 n (m - k) (drop k (drop at bytes)) (omega arith)
-    ∙ ap (little_number n) (drop-drop k at bytes)
-
--- so is its first byte
-byte_in_part : (m at : ℕ) (bytes : List ℕ) → 0 < m → slice_index (take m (drop at bytes)) 0 ≡ slice_index bytes at
-byte_in_part m at bytes some =
-    let there : at + 0 ≡ at = omega arith in
-    get_or-take m (drop at bytes) 0 0 some ∙ get_or-drop at bytes 0 0 ∙ ap (slice_index bytes) there
+plus_zero : (n : ℕ) → n + 0 ≡ n
+plus_zero n = omega arith
 
 index_row_fits : (row : List ℕ) (status : ℕ) → (status == 6) ≡ true → slice_index row 0 ≡ status → length row ≡ 13 → is_index_row row ≡ true
 index_row_fits row status test first size =
@@ -59,7 +45,7 @@ row_fits bytes i within stands =
     let row = page_row bytes i in
     let long = row_length bytes i within stands in
     let size : row_end bytes i - at ≡ row_size bytes i = omega arith in
-    let first = byte_in_part (row_end bytes i - at) at bytes (omega (arith, size, stands.least)) in
+    let first = byte_in_part 0 (row_end bytes i - at) at bytes (omega (arith, size, stands.least)) ∙ ap (slice_index bytes) (plus_zero at) in
     pick (has_index_rows bytes) (is_index_row row) (is_data_row row)
     (λ index.
     let whole : row_size bytes i ≡ 13 = rw index refl in

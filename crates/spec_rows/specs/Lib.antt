@@ -9,3 +9,4 @@ pub mod ApartLaws
 pub mod TestLaws
 pub mod PartLaws
 pub mod WholeRows
+pub mod LayoutLaws

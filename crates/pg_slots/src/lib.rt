@@ -2,9 +2,11 @@
 //! (all are this project's own).
 #![tactic(auto)]
 
+mod change;
 mod header;
 mod order;
 mod passes;
+mod puts;
 mod rows;
 mod slot;
 mod view;

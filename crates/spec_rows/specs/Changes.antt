@@ -3,6 +3,8 @@
 use Rattle.std.specs.Prelude.{◌≡◌, ℕ, ◌+◌, ◌-◌, ◌*◌, ◌<◌, ◌≤◌, ◌==◌, List, length, replicate, slice_range, if◌then◌else◌}
 use Rattle.spec_file.specs.Header.{header_of}
 use Rattle.spec_file.specs.declared.header.Header.{Header}
+use Rattle.spec_file.specs.declared.data.Kind.{Kind}
+use Rattle.spec_rows.specs.PageTest.{PassesButRows, PassesTest}
 use Rattle.spec_rows.specs.Slots.{slot_count, rows_end, slot_at, row_size, rows_size, page_row}
 
 -- the header with other counts
@@ -26,6 +28,7 @@ Stays a b before now = slice_range now a b ≡ slice_range before a b
 
 -- The rows stand from 96 in the order of their slots, with zeros behind them up to the slots.
 pub record IsCompacted (before now : List ℕ) : Type 0 where
+  pub long : length now ≡ length before
   pub header : header_of now
       ≡ with_counts (slot_count before) (header_of before).free_count (96 + rows_size before (slot_count before)) (header_of before)
   pub front : Stays 0 20 before now
@@ -38,6 +41,7 @@ pub record IsCompacted (before now : List ℕ) : Type 0 where
 
 -- A row is put where the others end, and its slot moves the later ones by one.
 pub record IsPlaced (i : ℕ) (row : List ℕ) (before now : List ℕ) : Type 0 where
+  pub long : length now ≡ length before
   pub header : header_of now
       ≡ with_counts (slot_count before + 1) ((header_of before).free_count - (length row + 2)) (rows_end before + length row) (header_of before)
   pub front : Stays 0 20 before now
@@ -61,6 +65,7 @@ pub data IsInserted (i : ℕ) (row : List ℕ) (before now : List ℕ) : Type 0 
 -- Remove: later slots close up, the last entry becomes 0, and the row's bytes stay. Where no row is left,
 -- rows begin at 96 again.
 pub record IsRemoved (i : ℕ) (before now : List ℕ) : Type 0 where
+  pub long : length now ≡ length before
   pub header : header_of now
       ≡ with_counts (slot_count before - 1) ((header_of before).free_count + row_size before i + 2)
         (if slot_count before == 1 then 96 else rows_end before) (header_of before)
@@ -75,3 +80,11 @@ pub record IsReplaced (i : ℕ) (row : List ℕ) (before now : List ℕ) : Type 
   pub middle : List ℕ
   pub removed : IsRemoved i before middle
   pub inserted : IsInserted i row middle now
+
+-- what the page test asks beside rows is still met
+abbrev pub KeepsTest : List ℕ → List ℕ → Type 0
+KeepsTest before now = (p o : ℕ) (kind : Kind) → PassesButRows p o kind before → PassesButRows p o kind now
+
+-- the page passes its test again, whether or not it had rows
+abbrev pub MeetsTest : List ℕ → List ℕ → Type 0
+MeetsTest before now = (p o : ℕ) (kind : Kind) → PassesButRows p o kind before → PassesTest p o kind now

@@ -9,4 +9,3 @@ pub mod ApartLaws
 pub mod TestLaws
 pub mod PartLaws
 pub mod WholeRows
-pub mod LayoutLaws

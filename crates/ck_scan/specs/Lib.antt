@@ -1,0 +1,4 @@
+pub mod Owned
+pub mod Counted
+pub mod Tallies
+pub mod Lines

@@ -14,3 +14,7 @@ pub mod UsesOf
 pub mod MapLaws
 pub mod ExtentLaws
 pub mod PageLaws
+pub mod ChainSteps
+pub mod ReadMaps
+pub mod CatalogIds
+pub mod BootTested

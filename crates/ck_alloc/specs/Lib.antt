@@ -7,3 +7,4 @@ pub mod Held
 pub mod ExtentRules
 pub mod PageRules
 pub mod MapRules
+pub mod ChainsRead

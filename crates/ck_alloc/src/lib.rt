@@ -3,14 +3,16 @@
 #![tactic(auto)]
 
 mod check;
-mod map_bits;
 mod errors;
 mod extents;
+mod map_bits;
+mod objects;
 mod maps;
 mod markers;
 mod order;
-mod places;
 mod pages;
+mod places;
+mod read;
 mod runs;
 mod system;
 mod system_maps;
@@ -20,6 +22,7 @@ mod wrong;
 
 pub use check::check_still;
 pub use errors::alloc_errors;
+pub use read::read_maps;
 pub use spec_check::{CheckError, CheckReport, TableLine};
 pub use system_maps::{SystemMaps, read_system};
 pub use text::write_report;

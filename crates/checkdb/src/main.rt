@@ -42,13 +42,23 @@ fn device_name(which: Device) -> &'static str {
     }
 }
 
+fn why_name(why: FileWhy) -> &'static str {
+    match why {
+        FileWhy::Size => "size",
+        FileWhy::Header => "header",
+        FileWhy::Version => "version",
+        FileWhy::Geometry => "geometry",
+        FileWhy::Count => "count",
+        FileWhy::Later => "later",
+    }
+}
+
 // What standard error says of a status. Where it can't be written, the exit status alone tells.
 fn tell<R: Eprint>(rt: &R, status: Status) {
     let _ = match status {
         Status::Clean | Status::Errors => Ok(()),
         Status::Words { at } => eprintln!(rt; "checkdb: word {at}"),
-        Status::File(FileWhy::Size) => eprintln!(rt; "checkdb: file: size"),
-        Status::File(FileWhy::Later) => eprintln!(rt; "checkdb: file: later"),
+        Status::File(why) => eprintln!(rt; "checkdb: file: {}", why_name(why)),
         Status::Device { which } => eprintln!(rt; "checkdb: device {}", device_name(which)),
         Status::Memory => eprintln!(rt; "checkdb: out of memory"),
     };

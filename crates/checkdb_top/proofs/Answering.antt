@@ -1,39 +1,62 @@
 -- From what a status says of an image to what it says of the file.
-use Rattle.std.proofs.Common.{◌≡◌, ℕ, ◌/◌, ◌≤◌, Bool, true, IsTrue, List, Option, Some, None, IfSome, option_map, length, sym, ap, ◌∙◌, inr}
-use Rattle.spec_file.specs.Image.{pages_of}
+use Rattle.std.proofs.Common.{◌≡◌, ℕ, ◌/◌, Bool, true, false, IsTrue, List, Option, Some, None, IfSome, option_map, length, sym, ap, ◌∙◌, refl, inl, inr, ⊎_elim, not, if◌then◌else◌}
+use Rattle.spec_file.specs.declared.geometry.Geometry.{Geometry}
+use Rattle.spec_file.specs.Image.{page_size, pages_of, page}
+use Rattle.spec_file.specs.ImageLaws.{length-pages_of}
 use Rattle.spec_file.specs.FileForm.{size_passes}
+use Rattle.spec_check.specs.declared.report.CheckReport.{CheckReport}
+use Rattle.spec_check.specs.Written.{IsCheckOf}
 use Rattle.checkdb_top.specs.declared.status.Device.TheVariants as device
-use Rattle.checkdb_top.specs.declared.status.FileWhy.TheVariants.{Size, Later}
+use Rattle.checkdb_top.specs.declared.status.FileWhy.{FileWhy}
+use Rattle.checkdb_top.specs.declared.status.FileWhy.TheVariants as why
 use Rattle.checkdb_top.specs.declared.status.Status.{Status}
 use Rattle.checkdb_top.specs.declared.status.Status.TheVariants as status
-use Rattle.checkdb_top.specs.Answers.{Answers, AnswersImage}
+use Rattle.checkdb_top.specs.Form.{opening_fault, file_fault, IsRefusedFor, IsChecked, IsLeftFor, IsTaken}
+use Rattle.checkdb_top.specs.Answers.{Answers, AnswersImage, IsReportOf}
 
-pub answers_file : (told before after : Option (List ℕ)) (pages : ℕ) (s : Status)
-    → IfSome told (λ bytes. IsTrue (size_passes (length bytes))) → IfSome told (λ bytes. length bytes / 8192 ≡ pages) → pages ≤ 88
+first_of : (size : Bool) (fault : Option FileWhy) → size ≡ true → (if not size then Some why.Size else fault) ≡ fault
+first_of size fault passes = rw passes refl
+
+-- once the size has passed, page 0 decides
+after_size : (bytes : List ℕ) → IsTrue (size_passes (length bytes))
+    → opening_fault (length (pages_of bytes)) (page (pages_of bytes) 0) ≡ file_fault bytes
+after_size bytes passes =
+    ap (λ n. opening_fault n (page (pages_of bytes) 0)) (length-pages_of bytes)
+    ∙ sym (first_of (size_passes (length bytes)) (opening_fault (length bytes / page_size) (page (pages_of bytes) 0)) passes)
+
+refused : (bytes : List ℕ) (w : FileWhy) → IsTrue (size_passes (length bytes)) → IsLeftFor w (pages_of bytes) → IsRefusedFor w bytes
+refused bytes w passes left =
+    ⊎_elim (λ first. inl (sym (after_size bytes passes) ∙ first))
+    (λ later. inr (later.0, sym (after_size bytes passes) ∙ later.1, later.2)) left
+
+checked : (bytes : List ℕ) (g : Geometry) → IsTrue (size_passes (length bytes)) → IsTaken g (pages_of bytes) → IsChecked g bytes
+checked bytes g passes taken = record {
+  passes = sym (after_size bytes passes) ∙ taken.0.passes;
+  geometry = taken.0.geometry;
+  heaps = taken.1;
+}
+
+reported : (told : Option (List ℕ)) (report : CheckReport) → IfSome told (λ bytes. IsTrue (size_passes (length bytes)))
+    → IfSome (option_map pages_of told) (λ image. (g : Geometry) × IsTaken g image × IsCheckOf g image report) → IsReportOf told report
+reported None report passes h = tt
+reported (Some bytes) report passes (g, taken, is) = (g, checked bytes g passes taken, is)
+
+left : (told : Option (List ℕ)) (w : FileWhy) → IfSome told (λ bytes. IsTrue (size_passes (length bytes)))
+    → IfSome (option_map pages_of told) (IsLeftFor w) → IfSome told (IsRefusedFor w)
+left None w passes h = tt
+left (Some bytes) w passes h = refused bytes w passes h
+
+pub answers_file : (told before after : Option (List ℕ)) (s : Status) → IfSome told (λ bytes. IsTrue (size_passes (length bytes)))
     → AnswersImage (option_map pages_of told) before after s → Answers told before after s
-answers_file None before after pages status.Clean passes count few (report, told, reports) = (report, tt, reports.0, reports.1)
-answers_file None before after pages status.Errors passes count few (report, told, reports) = (report, tt, reports.0, reports.1)
-answers_file None before after pages (status.Words at) passes count few h = h
-answers_file None before after pages (status.File Size) passes count few h = absurd h
-answers_file None before after pages (status.File Later) passes count few h = (tt, h.1)
-answers_file None before after pages (status.Device device.Volume) passes count few h = h
-answers_file None before after pages (status.Device device.Log) passes count few h = h
-answers_file None before after pages (status.Device device.Source) passes count few h = h
-answers_file None before after pages (status.Device device.Sink) passes count few (report, told, reports) = (report, tt, reports)
-answers_file None before after pages status.Memory passes count few h = (tt, h)
-answers_file (Some bytes) before after pages status.Clean passes count few (report, told, reports) =
-    (report, ((passes, rw count few, told.0), told.1), reports.0, reports.1)
-answers_file (Some bytes) before after pages status.Errors passes count few (report, told, reports) =
-    (report, ((passes, rw count few, told.0), told.1), reports.0, reports.1)
-answers_file (Some bytes) before after pages (status.Words at) passes count few h = h
-answers_file (Some bytes) before after pages (status.File Size) passes count few h = absurd h
-answers_file (Some bytes) before after pages (status.File Later) passes count few h = ((passes, inr h.0), h.1)
-answers_file (Some bytes) before after pages (status.Device device.Volume) passes count few h = h
-answers_file (Some bytes) before after pages (status.Device device.Log) passes count few h = h
-answers_file (Some bytes) before after pages (status.Device device.Source) passes count few h = h
-answers_file (Some bytes) before after pages (status.Device device.Sink) passes count few (report, told, reports) =
-    (report, ((passes, rw count few, told.0), told.1), reports)
-answers_file (Some bytes) before after pages status.Memory passes count few h = (passes, h)
+answers_file told before after status.Clean passes (report, is, reports) = (report, reported told report passes is, reports.0, reports.1)
+answers_file told before after status.Errors passes (report, is, reports) = (report, reported told report passes is, reports.0, reports.1)
+answers_file told before after (status.Words at) passes h = h
+answers_file told before after (status.File w) passes h = (left told w passes h.0, h.1)
+answers_file told before after (status.Device device.Volume) passes h = h
+answers_file told before after (status.Device device.Log) passes h = h
+answers_file told before after (status.Device device.Source) passes h = h
+answers_file told before after (status.Device device.Sink) passes (report, is, reports) = (report, reported told report passes is, reports)
+answers_file told before after status.Memory passes h = (passes, h)
 
 -- the size that a file told is the one that was tested
 pub told_passes : (told : Option (List ℕ)) (size : ℕ) (passed : Bool) → IfSome told (λ bytes. size ≡ length bytes)
@@ -41,7 +64,11 @@ pub told_passes : (told : Option (List ℕ)) (size : ℕ) (passed : Bool) → If
 told_passes None size passed is tested yes_ = tt
 told_passes (Some bytes) size passed is tested yes_ = rw (← is) (sym tested ∙ yes_)
 
-pub told_count : (told : Option (List ℕ)) (size : ℕ) → IfSome told (λ bytes. size ≡ length bytes)
-    → IfSome told (λ bytes. length bytes / 8192 ≡ size / 8192)
-told_count None size is = tt
-told_count (Some bytes) size is = ap (λ n. n / 8192) (sym is)
+-- a file of a wrong size fails that test first
+fails_first : (size : Bool) (fault : Option FileWhy) → size ≡ false → (if not size then Some why.Size else fault) ≡ Some why.Size
+fails_first size fault fails = rw fails refl
+
+pub told_fails : (told : Option (List ℕ)) (size : ℕ) (passed : Bool) → IfSome told (λ bytes. size ≡ length bytes)
+    → passed ≡ size_passes size → passed ≡ false → IfSome told (IsRefusedFor why.Size)
+told_fails None size passed is tested no_ = tt
+told_fails (Some bytes) size passed is tested no_ = inl (fails_first (size_passes (length bytes)) _ (rw (← is) (sym tested ∙ no_)))

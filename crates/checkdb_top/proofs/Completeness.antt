@@ -1,58 +1,74 @@
--- The status of a check is fixed by the file's form, where no device fails.
-use Rattle.std.proofs.Common.{◌≡◌, ◌⊎◌, ℕ, IsTrue, false, List, Option, Some, None, IfSome, length, arith, refl, inl, inr, ⊎_elim}
+-- The status of a check is fixed by the file, where no device fails.
+use Rattle.std.proofs.Common.{◌≡◌, ◌⊎◌, ℕ, IsTrue, Bool, false, not, if◌then◌else◌, List, Option, Some, None, IfSome, length, refl, sym, ap, ◌∙◌, inl, inr, ⊎_elim}
+use Rattle.spec_file.specs.declared.geometry.Geometry.{Geometry}
 use Rattle.spec_file.specs.FileForm.{size_passes}
 use Rattle.checkdb_top.specs.declared.status.Device.TheVariants as device
-use Rattle.checkdb_top.specs.declared.status.FileWhy.TheVariants.{Size, Later}
+use Rattle.checkdb_top.specs.declared.status.FileWhy.{FileWhy}
+use Rattle.checkdb_top.specs.declared.status.FileWhy.TheVariants as why
 use Rattle.checkdb_top.specs.declared.status.Status.{Status}
 use Rattle.checkdb_top.specs.declared.status.Status.TheVariants as status
-use Rattle.checkdb_top.specs.Form.{IsChecked, IsLater}
+use Rattle.checkdb_top.specs.Form.{file_fault, IsRefusedFor, IsChecked}
 use Rattle.checkdb_top.specs.Answers.{Answers, IsDevice}
 use Rattle.checkdb_top.specs.Completeness.{Completes}
 
--- no file is checked both now and later
-not_later : (bytes : List ℕ) → IsChecked bytes → IsLater bytes → ⊥
-not_later bytes checked later =
-    ⊎_elim (λ many. omega (arith, many, checked.1)) (λ left. ⊎_elim (λ closed. closed checked.2.0) (λ tables. checked.2.1 tables) left) later.1
+same_fault : (fault : Option FileWhy) (w v : FileWhy) → fault ≡ Some w → fault ≡ Some v → w ≡ v
+same_fault fault w v a b = let same : Some w ≡ Some v = sym a ∙ b in cc
 
-wrong_size : (bytes : List ℕ) → IsTrue (size_passes (length bytes)) → size_passes (length bytes) ≡ false → ⊥
-wrong_size bytes right wrong = cc
+no_fault : (fault : Option FileWhy) (w : FileWhy) → fault ≡ Some w → fault ≡ None → ⊥
+no_fault fault w a b = let same : Some w ≡ None = sym a ∙ b in cc
 
-checked_completes : (bytes : List ℕ) (s : Status) → IsChecked bytes → ((s ≡ status.Clean) ⊎ (s ≡ status.Errors)) ⊎ (s ≡ status.Memory)
+-- a file is refused for one reason
+one_reason : (bytes : List ℕ) (w v : FileWhy) → IsRefusedFor w bytes → IsRefusedFor v bytes → w ≡ v
+one_reason bytes w v a b =
+    ⊎_elim (λ first. ⊎_elim (λ other. same_fault (file_fault bytes) w v first other) (λ later. absurd (no_fault (file_fault bytes) w first later.1)) b)
+    (λ later. ⊎_elim (λ other. absurd (no_fault (file_fault bytes) v other later.1)) (λ again. later.0 ∙ sym again.0) b) a
+
+-- and none that is checked is refused
+not_refused : (bytes : List ℕ) (g : Geometry) (w : FileWhy) → IsChecked g bytes → IsRefusedFor w bytes → ⊥
+not_refused bytes g w checked refused =
+    ⊎_elim (λ first. no_fault (file_fault bytes) w first checked.passes) (λ later. checked.heaps later.2) refused
+
+size_first : (size : Bool) (fault : Option FileWhy) → size ≡ false → (if not size then Some why.Size else fault) ≡ Some why.Size
+size_first size fault fails = rw fails refl
+
+wrong_size : (bytes : List ℕ) → size_passes (length bytes) ≡ false → IsRefusedFor why.Size bytes
+wrong_size bytes fails = inl (size_first (size_passes (length bytes)) _ fails)
+
+checked_completes : (bytes : List ℕ) (g : Geometry) (s : Status) → IsChecked g bytes → ((s ≡ status.Clean) ⊎ (s ≡ status.Errors)) ⊎ (s ≡ status.Memory)
     → Completes bytes s
-checked_completes bytes s checked is = record {
-  size = λ wrong. absurd (wrong_size bytes checked.0 wrong);
-  later = λ later. absurd (not_later bytes checked later);
-  checked = λ _. is;
+checked_completes bytes g s checked is = record {
+  size = λ wrong. absurd (not_refused bytes g why.Size checked (wrong_size bytes wrong));
+  refused = λ w for. absurd (not_refused bytes g w checked for);
+  checked = λ _ _. is;
 }
+
+refused_completes : (bytes : List ℕ) (w : FileWhy) → IsRefusedFor w bytes → Completes bytes (status.File w)
+refused_completes bytes w refused = record {
+  size = λ wrong. ap (λ v. status.File v) (one_reason bytes w why.Size refused (wrong_size bytes wrong));
+  refused = λ v for. inl (ap (λ u. status.File u) (one_reason bytes w v refused for));
+  checked = λ g checked. absurd (not_refused bytes g w checked refused);
+}
+
+right_size : (bytes : List ℕ) → IsTrue (size_passes (length bytes)) → size_passes (length bytes) ≡ false → ⊥
+right_size bytes right wrong = cc
 
 pub completes : (told before after : Option (List ℕ)) (s : Status) (RoseVolume RoseSink : Type 0) → Answers told before after s
     → (IsDevice device.Volume s → RoseVolume) → (IsDevice device.Sink s → RoseSink)
     → IfSome told (λ bytes. (RoseVolume → ⊥) → (RoseSink → ⊥) → Completes bytes s)
 completes None before after s RoseVolume RoseSink a volume sink = tt
 completes (Some bytes) before after status.Clean RoseVolume RoseSink a volume sink =
-    λ _ _. checked_completes bytes status.Clean a.1.0 (inl (inl refl))
+    λ _ _. checked_completes bytes a.1.0 status.Clean a.1.1 (inl (inl refl))
 completes (Some bytes) before after status.Errors RoseVolume RoseSink a volume sink =
-    λ _ _. checked_completes bytes status.Errors a.1.0 (inl (inr refl))
+    λ _ _. checked_completes bytes a.1.0 status.Errors a.1.1 (inl (inr refl))
 completes (Some bytes) before after (status.Words at) RoseVolume RoseSink a volume sink = absurd a
-completes (Some bytes) before after (status.File Size) RoseVolume RoseSink a volume sink =
-    λ _ _. record {
-      size = λ _. refl;
-      later = λ later. absurd (wrong_size bytes later.0 a.0);
-      checked = λ checked. absurd (wrong_size bytes checked.0 a.0);
-    }
-completes (Some bytes) before after (status.File Later) RoseVolume RoseSink a volume sink =
-    λ _ _. record {
-      size = λ wrong. absurd (wrong_size bytes a.0.0 wrong);
-      later = λ _. inl refl;
-      checked = λ checked. absurd (not_later bytes checked a.0);
-    }
+completes (Some bytes) before after (status.File w) RoseVolume RoseSink a volume sink = λ _ _. refused_completes bytes w a.0
 completes (Some bytes) before after (status.Device device.Volume) RoseVolume RoseSink a volume sink = λ none _. absurd (none (volume refl))
 completes (Some bytes) before after (status.Device device.Sink) RoseVolume RoseSink a volume sink = λ _ none. absurd (none (sink refl))
 completes (Some bytes) before after (status.Device device.Log) RoseVolume RoseSink a volume sink = absurd a
 completes (Some bytes) before after (status.Device device.Source) RoseVolume RoseSink a volume sink = absurd a
 completes (Some bytes) before after status.Memory RoseVolume RoseSink a volume sink =
     λ _ _. record {
-      size = λ wrong. absurd (wrong_size bytes a.0 wrong);
-      later = λ _. inr refl;
-      checked = λ _. inr refl;
+      size = λ wrong. absurd (right_size bytes a.0 wrong);
+      refused = λ _ _. inr refl;
+      checked = λ _ _. inr refl;
     }

@@ -1,3 +1,3 @@
-pub mod Forms
 pub mod Answering
 pub mod Completeness
+pub mod Forms

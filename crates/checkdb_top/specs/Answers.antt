@@ -1,7 +1,7 @@
 -- What the status of a check says of the file and of the output.
-use Rattle.std.specs.Prelude.{◌≡◌, ◌≢◌, ℕ, false, IsTrue, List, [], length, Option, IfSome}
+use Rattle.std.specs.Prelude.{◌≡◌, ◌≢◌, ℕ, IsTrue, List, [], length, Option, IfSome}
 use Rattle.std.specs.Io.KnownBytes.{append_known}
-use Rattle.spec_file.specs.declared.geometry.Geometry.TheVariants.{Small}
+use Rattle.spec_file.specs.declared.geometry.Geometry.{Geometry}
 use Rattle.spec_file.specs.Image.{Image, pages_of}
 use Rattle.spec_file.specs.FileForm.{size_passes}
 use Rattle.spec_check.specs.declared.report.CheckReport.{CheckReport}
@@ -10,12 +10,11 @@ use Rattle.spec_check.specs.Text.{report_text}
 use Rattle.vol_dev.specs.Devices.{WroteFront}
 use Rattle.checkdb_top.specs.declared.status.Device.{Device}
 use Rattle.checkdb_top.specs.declared.status.Device.TheVariants as device
-use Rattle.checkdb_top.specs.declared.status.FileWhy.TheVariants.{Size, Later}
 use Rattle.checkdb_top.specs.declared.status.Status.{Status}
 use Rattle.checkdb_top.specs.declared.status.Status.TheVariants as status
 use Rattle.pg_base.specs.declared.reader.ReadStop.{ReadStop}
 use Rattle.pg_base.specs.declared.reader.ReadStop.TheVariants.{Fault, Ended, NoMemory}
-use Rattle.checkdb_top.specs.Form.{IsTaken, IsLeft, IsChecked, IsLater}
+use Rattle.checkdb_top.specs.Form.{IsRefusedFor, IsChecked, IsLeftFor, IsTaken}
 
 -- the status names this device
 abbrev pub IsDevice : Device → Status → Type 0
@@ -27,9 +26,9 @@ abbrev pub IsWordsAt : ℕ → Status → Type 0
 IsWordsAt at (status.Words place) = place ≡ at
 IsWordsAt at _ = ⊥
 
--- the report is the written check of the file, where the file is told
+-- the file passes its tests, and the report is its written check, where the file is told
 abbrev pub IsReportOf : Option (List ℕ) → CheckReport → Type 0
-IsReportOf told report = IfSome told (λ bytes. IsChecked bytes × IsCheckOf Small (pages_of bytes) report)
+IsReportOf told report = IfSome told (λ bytes. (g : Geometry) × IsChecked g bytes × IsCheckOf g (pages_of bytes) report)
 
 -- what each status of a check says of the file, and of the output before and after: the whole report
 -- was added at Clean and Errors, a front of it after a failure of the output, and else nothing. No
@@ -39,9 +38,7 @@ Answers told before after status.Clean =
     (report : CheckReport) × IsReportOf told report × (report.errors ≡ []) × (after ≡ append_known before (report_text report))
 Answers told before after status.Errors =
     (report : CheckReport) × IsReportOf told report × (report.errors ≢ []) × (after ≡ append_known before (report_text report))
-Answers told before after (status.File Size) =
-    IfSome told (λ bytes. size_passes (length bytes) ≡ false) × (after ≡ before)
-Answers told before after (status.File Later) = IfSome told IsLater × (after ≡ before)
+Answers told before after (status.File why) = IfSome told (IsRefusedFor why) × (after ≡ before)
 Answers told before after (status.Device device.Volume) = after ≡ before
 Answers told before after (status.Device device.Sink) =
     (report : CheckReport) × IsReportOf told report × WroteFront before after (report_text report)
@@ -57,17 +54,16 @@ Reports report before after status.Errors = (report.errors ≢ []) × (after ≡
 Reports report before after (status.Device device.Sink) = WroteFront before after (report_text report)
 Reports report before after _ = ⊥
 
--- the same for an image of few enough pages, once its size has passed
+-- the same for the image of a file whose size has passed
 abbrev pub AnswersImage : Option Image → Option (List ℕ) → Option (List ℕ) → Status → Type 0
-AnswersImage told before after (status.File Later) = IfSome told IsLeft × (after ≡ before)
+AnswersImage told before after (status.File why) = IfSome told (IsLeftFor why) × (after ≡ before)
 AnswersImage told before after (status.Device device.Volume) = after ≡ before
 AnswersImage told before after status.Memory = after ≡ before
-AnswersImage told before after (status.File Size) = ⊥
 AnswersImage told before after (status.Words at) = ⊥
 AnswersImage told before after (status.Device device.Log) = ⊥
 AnswersImage told before after (status.Device device.Source) = ⊥
 AnswersImage told before after s =
-    (report : CheckReport) × IfSome told (λ image. IsTaken image × IsCheckOf Small image report) × Reports report before after s
+    (report : CheckReport) × IfSome told (λ image. (g : Geometry) × IsTaken g image × IsCheckOf g image report) × Reports report before after s
 
 -- the status of a check that met a stop in reading
 abbrev pub stopped : ReadStop → Status

@@ -1,39 +1,68 @@
--- Which files are checked now, and which later.
-use Rattle.std.specs.Prelude.{◌≡◌, ◌⊎◌, ℕ, ◌/◌, ◌<◌, ◌≤◌, IsTrue, List, length, Some}
+-- Which test a file fails first, and which files that pass are checked later.
+use Rattle.std.specs.Prelude.{◌≡◌, ◌⊎◌, ℕ, ◌/◌, Bool, true, false, not, IsTrue, List, length, Option, Some, None, if◌then◌else◌}
+use Rattle.std.specs.List.{list_any}
 use Rattle.spec_file.specs.declared.geometry.Geometry.{Geometry}
-use Rattle.spec_file.specs.declared.geometry.Geometry.TheVariants.{Small}
+use Rattle.spec_file.specs.declared.data.Kind.{Kind}
+use Rattle.spec_file.specs.declared.data.Kind.TheVariants.{Heap, Clustered}
 use Rattle.spec_file.specs.Image.{Image, page_size, pages_of, page}
 use Rattle.spec_file.specs.Header.{says}
-use Rattle.spec_file.specs.Catalog.{PassesCatalog, HasTable}
+use Rattle.spec_file.specs.Catalog.{PassesCatalog}
+use Rattle.spec_file.specs.CatalogRows.{CatalogRow, rows_of}
 use Rattle.spec_file.specs.FileForm.{size_passes, header_passes, version_passes, geometry_of, count_passes}
+use Rattle.checkdb_top.specs.declared.status.FileWhy.{FileWhy}
+use Rattle.checkdb_top.specs.declared.status.FileWhy.TheVariants as why
 
--- page 0 passes the file's tests after the size, in this geometry
-pub record Opens (g : Geometry) (pages : ℕ) (first : List ℕ) : Type 0 where
-  pub header : IsTrue (header_passes first)
-  pub version : IsTrue (version_passes first)
-  pub geometry : geometry_of first ≡ Some g
-  pub count : IsTrue (count_passes g pages first)
+-- page 0 names a geometry, and gives the number of pages
+abbrev pub count_fault : Option Geometry → ℕ → List ℕ → Option FileWhy
+count_fault None pages first = Some why.Geometry
+count_fault (Some g) pages first = if count_passes g pages first then None else Some why.Count
 
--- page 9 is a boot page whose catalog passes its test and has a table
-pub record HasTables (boot : List ℕ) : Type 0 where
+-- the first test of page 0 that fails
+abbrev pub opening_fault : ℕ → List ℕ → Option FileWhy
+opening_fault pages first =
+    if not (header_passes first) then Some why.Header
+    else (if not (version_passes first) then Some why.Version else count_fault (geometry_of first) pages first)
+
+-- the first of the file's tests that fails
+abbrev pub file_fault : List ℕ → Option FileWhy
+file_fault bytes =
+    if not (size_passes (length bytes)) then Some why.Size
+    else opening_fault (length bytes / page_size) (page (pages_of bytes) 0)
+
+abbrev pub is_clustered_kind : Kind → Bool
+is_clustered_kind Heap = false
+is_clustered_kind Clustered = true
+
+abbrev pub is_clustered : CatalogRow → Bool
+is_clustered row = is_clustered_kind row.kind
+
+-- page 9 is a boot page whose catalog passes its test and has a clustered table
+pub record HasClustered (boot : List ℕ) : Type 0 where
   pub says : IsTrue (says 13 9 boot)
   pub passes : PassesCatalog boot
-  pub table : HasTable boot
+  pub table : IsTrue (list_any is_clustered (rows_of boot))
 
--- the image is one that is checked now: it opens as a small file, and has no table that can be read
-abbrev pub IsTaken : Image → Type 0
-IsTaken image = Opens Small (length image) (page image 0) × (HasTables (page image 9) → ⊥)
+-- the file is refused for the first of its tests that fails; where none fails, it is one for later if its
+-- catalog has a clustered table
+abbrev pub IsRefusedFor : FileWhy → List ℕ → Type 0
+IsRefusedFor w bytes =
+    (file_fault bytes ≡ Some w) ⊎ ((w ≡ why.Later) × (file_fault bytes ≡ None) × HasClustered (page (pages_of bytes) 9))
 
--- the image doesn't open as a small file, or has a table
-abbrev pub IsLeft : Image → Type 0
-IsLeft image = (Opens Small (length image) (page image 0) → ⊥) ⊎ HasTables (page image 9)
+-- the file passes its tests, in this geometry, and has no clustered table that can be read
+pub record IsChecked (g : Geometry) (bytes : List ℕ) : Type 0 where
+  pub passes : file_fault bytes ≡ None
+  pub geometry : geometry_of (page (pages_of bytes) 0) ≡ Some g
+  pub heaps : HasClustered (page (pages_of bytes) 9) → ⊥
 
--- the size passes, and the file is one that is checked later: it has more pages than one PFS page speaks
--- of, doesn't open as a small file, or has a table
-abbrev pub IsLater : List ℕ → Type 0
-IsLater bytes = IsTrue (size_passes (length bytes)) × ((88 < length bytes / page_size) ⊎ IsLeft (pages_of bytes))
+-- the same of the image of a file whose size has passed
+pub record IsOpenedAs (g : Geometry) (image : Image) : Type 0 where
+  pub passes : opening_fault (length image) (page image 0) ≡ None
+  pub geometry : geometry_of (page image 0) ≡ Some g
 
--- the size passes, and the file is one that is checked now
-abbrev pub IsChecked : List ℕ → Type 0
-IsChecked bytes =
-    IsTrue (size_passes (length bytes)) × (length bytes / page_size ≤ 88) × IsTaken (pages_of bytes)
+abbrev pub IsLeftFor : FileWhy → Image → Type 0
+IsLeftFor w image =
+    (opening_fault (length image) (page image 0) ≡ Some w)
+    ⊎ ((w ≡ why.Later) × (opening_fault (length image) (page image 0) ≡ None) × HasClustered (page image 9))
+
+abbrev pub IsTaken : Geometry → Image → Type 0
+IsTaken g image = IsOpenedAs g image × (HasClustered (page image 9) → ⊥)

@@ -1,23 +1,32 @@
 // The check of a still file, from its size to the bytes of its report.
-ghost use Rattle.std.specs.Prelude.{◌≡◌, ◌≢◌, ◌⊎◌, ◌*◌, ◌≤◌, false, IsTrue, IfOk, IfSome, MatchBool, option_map};
+ghost use Rattle.std.specs.Prelude.{◌≡◌, ◌≢◌, ◌⊎◌, ◌*◌, ◌%◌, ◌≤◌, false, IsTrue, IfOk, IfSome, MatchBool, option_map};
 ghost use Rattle.pg_base.specs.Faults.{Rose};
-ghost use Rattle.spec_file.specs.declared.geometry.Geometry.TheVariants.{Small};
-ghost use Rattle.spec_file.specs.Image.{pages_of};
+ghost use Rattle.spec_file.specs.Image.{pages_of, page};
 ghost use Rattle.pg_base.specs.Reading.{StopHasCause};
 ghost use Rattle.pg_base.specs.declared.reader.ReadStop.TheVariants.{Ended};
 ghost use Rattle.spec_check.specs.Written.{IsCheckOf};
-ghost use Rattle.checkdb_top.specs.Form.{IsTaken, IsLeft};
+ghost use Rattle.ck_facts.specs.Maps.{HasShape};
+ghost use Rattle.checkdb_top.specs.Form.{HasClustered, IsOpenedAs};
+ghost use Rattle.checkdb_top.specs.Opening.{SaysOpened, FitsLimit};
 ghost use Rattle.checkdb_top.specs.Answers.{Answers, AnswersImage, IsDevice, Reports, stopped};
 ghost use Rattle.checkdb_top.specs.declared.status.Device.TheVariants.{Volume, Sink};
 
-use crate::form::{MOST_PAGES, passes_size, takes};
+use crate::form::{has_clustered, passes_size, tested_geometry};
 use crate::reader::VolumeReader;
 use crate::{Device, FileWhy, Status};
-use ck_alloc::{CheckReport, check_still, write_report};
-use pg_base::{PageNo, ReadStop, SnapReader, read_page};
+use ck_alloc::{CheckReport, read_maps, write_report};
+use ck_scan::scan_one;
+use pg_base::{Geometry, PageNo, ReadStop, SnapReader, read_page};
 use std::alloc::Global;
 
 const PAGE: u64 = 8192;
+
+/// What page 0 of a file says.
+#[derive(Clone, Copy, Debug, PartialEq, Eq)]
+pub enum Opened {
+    As(Geometry),
+    Refused(FileWhy),
+}
 
 /// How a check ended, and the file that it was of.
 pub struct Checked<V> {
@@ -44,19 +53,55 @@ fn print<K: vol_dev::Sink>(report: &CheckReport, out: &mut K) -> Status
     }
 }
 
-// Whether an image is one that is checked now, by its pages 0 and 9.
-fn is_taken<R: SnapReader>(alloc: Global, reader: &mut R, pages: u32) -> Result<bool, ReadStop>
+// The geometry of an image whose page 0 passes the file's tests, or the first test that fails.
+fn open_image<R: SnapReader>(alloc: Global, reader: &mut R, pages: u32) -> Result<Opened, ReadStop>
     requires count { R.pages reader.old ≡ pages }
     requires low { 16 ≤ pages }
-    ensures taken { IfOk result (λ taken. IfSome (R.image reader.old) (λ image. MatchBool taken (IsTaken image) (IsLeft image))) }
+    ensures opened { IfOk result (λ opened. IfSome (R.image reader.old) (SaysOpened opened)) }
+    ensures limit { IfOk result (FitsLimit pages) }
     ensures cause { StopHasCause (R.faults reader.old) (R.faults reader.new) (R.failed reader.new) (R.ended reader.new) result }
     ensures faults { R.faults reader.old ≤ R.faults reader.new }
     ensures pages { R.pages reader.new ≡ R.pages reader.old }
     ensures image { R.image reader.new ≡ R.image reader.old }
 {
     let first = read_page(alloc, reader, PageNo(0))?;
+    match tested_geometry(&first, pages) {
+        Ok(g) => Ok(Opened::As(g)),
+        Err(why) => Ok(Opened::Refused(why)),
+    }
+}
+
+fn has_clustered_table<R: SnapReader>(alloc: Global, reader: &mut R) -> Result<bool, ReadStop>
+    requires { 16 ≤ R.pages reader.old }
+    ensures clustered { IfOk result (λ has. IfSome (R.image reader.old) (λ image.
+        MatchBool has (HasClustered (page image 9)) (¬ HasClustered (page image 9)))) }
+    ensures cause { StopHasCause (R.faults reader.old) (R.faults reader.new) (R.failed reader.new) (R.ended reader.new) result }
+    ensures faults { R.faults reader.old ≤ R.faults reader.new }
+    ensures pages { R.pages reader.new ≡ R.pages reader.old }
+    ensures image { R.image reader.new ≡ R.image reader.old }
+{
     let boot = read_page(alloc, reader, PageNo(9))?;
-    Ok(takes(&first, &boot, pages))
+    Ok(has_clustered(alloc, &boot)?)
+}
+
+// The report of an image of this geometry.
+fn scanned<R: SnapReader>(
+    alloc: Global,
+    reader: &mut R,
+    g: Geometry,
+    pages: u32,
+) -> Result<CheckReport, ReadStop>
+    requires count { R.pages reader.old ≡ pages }
+    requires shape { HasShape g pages }
+    ensures report { IfOk result (λ report. IfSome (R.image reader.old) (λ image. IsCheckOf g image report)) }
+    ensures cause { StopHasCause (R.faults reader.old) (R.faults reader.new) (R.failed reader.new) (R.ended reader.new) result }
+    ensures faults { R.faults reader.old ≤ R.faults reader.new }
+    ensures pages { R.pages reader.new ≡ R.pages reader.old }
+    ensures image { R.image reader.new ≡ R.image reader.old }
+{
+    let map = read_maps(alloc, reader, g, pages)?;
+    let report = scan_one(alloc, reader, &map)?;
+    Ok(report)
 }
 
 // The status of a check that met a stop in reading. Only a reader for a session's check ever ends.
@@ -73,16 +118,15 @@ fn status_of(stop: ReadStop) -> Status
     }
 }
 
-// The check of a file of few enough pages, whose reader nobody ends.
-fn report<V: vol_dev::Volume, K: vol_dev::Sink>(
+// The check of a file that has passed its tests, whose reader nobody ends.
+fn report_as<V: vol_dev::Volume, K: vol_dev::Sink>(
     alloc: Global,
     reader: &mut VolumeReader<V>,
-    pages: u32,
+    g: Geometry,
     out: &mut K,
 ) -> Status
-    requires count { reader.old.pages ≡ pages }
-    requires low { 16 ≤ pages }
-    requires high { pages ≤ 88 }
+    requires shape { HasShape g reader.old.pages }
+    requires opened { IfSome (option_map pages_of (V.contents reader.old.volume)) (IsOpenedAs g) }
     ensures answers { AnswersImage (option_map pages_of (V.contents reader.old.volume)) (K.contents out.old) (K.contents out.new) result }
     ensures volume_fault { IsDevice Volume result → Rose (V.faults reader.old.volume) (V.faults reader.new.volume) }
     ensures sink_fault { IsDevice Sink result → Rose (K.faults out.old) (K.faults out.new) }
@@ -91,14 +135,40 @@ fn report<V: vol_dev::Volume, K: vol_dev::Sink>(
     ensures image { option_map pages_of (V.contents reader.new.volume) ≡ option_map pages_of (V.contents reader.old.volume) }
     ensures pages { reader.new.pages ≡ reader.old.pages }
 {
-    match is_taken(alloc, reader, pages) {
+    match has_clustered_table(alloc, reader) {
         Err(stop) => return status_of(stop),
-        Ok(false) => return Status::File(FileWhy::Later),
-        Ok(true) => {}
+        Ok(true) => return Status::File(FileWhy::Later),
+        Ok(false) => {}
     }
-    match check_still(alloc, reader, pages) {
+    let pages = reader.pages;
+    match scanned(alloc, reader, g, pages) {
         Err(stop) => status_of(stop),
         Ok(found) => print(&found, out),
+    }
+}
+
+// The check of a file whose size has passed, whose reader nobody ends.
+fn report<V: vol_dev::Volume, K: vol_dev::Sink>(
+    alloc: Global,
+    reader: &mut VolumeReader<V>,
+    pages: u32,
+    out: &mut K,
+) -> Status
+    requires count { reader.old.pages ≡ pages }
+    requires low { 16 ≤ pages }
+    requires whole { pages % 8 ≡ 0 }
+    ensures answers { AnswersImage (option_map pages_of (V.contents reader.old.volume)) (K.contents out.old) (K.contents out.new) result }
+    ensures volume_fault { IsDevice Volume result → Rose (V.faults reader.old.volume) (V.faults reader.new.volume) }
+    ensures sink_fault { IsDevice Sink result → Rose (K.faults out.old) (K.faults out.new) }
+    ensures volume_faults { V.faults reader.old.volume ≤ V.faults reader.new.volume }
+    ensures sink_faults { K.faults out.old ≤ K.faults out.new }
+    ensures image { option_map pages_of (V.contents reader.new.volume) ≡ option_map pages_of (V.contents reader.old.volume) }
+    ensures pages { reader.new.pages ≡ reader.old.pages }
+{
+    match open_image(alloc, reader, pages) {
+        Err(stop) => status_of(stop),
+        Ok(Opened::Refused(why)) => Status::File(why),
+        Ok(Opened::As(g)) => report_as(alloc, reader, g, out),
     }
 }
 
@@ -127,10 +197,6 @@ pub fn check<V: vol_dev::Volume, K: vol_dev::Sink>(
         return Checked { status, volume };
     }
     let pages = (size / PAGE) as u32;
-    if pages > MOST_PAGES {
-        let status = Status::File(FileWhy::Later);
-        return Checked { status, volume };
-    }
     let mut reader = VolumeReader::of(volume, pages);
     let status = report(alloc, &mut reader, pages, out);
     Checked {

@@ -1,22 +1,22 @@
-// Whether a file has the form that is checked now.
-ghost use Rattle.std.specs.Prelude.{◌≡◌, ◌⊎◌, ◌↔◌, ◌==◌, IsTrue, Some, bytes_eq, codes, slice_range, MatchBool};
-ghost use Rattle.spec_file.specs.declared.geometry.Geometry.TheVariants.{Small};
-ghost use Rattle.spec_file.specs.FileForm.{size_passes, header_passes, version_passes, geometry_of, count_passes};
-ghost use Rattle.checkdb_top.specs.Form.{Opens, HasTables};
+// The tests of a file.
+ghost use Rattle.std.specs.Prelude.{◌≡◌, ◌==◌, ◌≤◌, Some, None, bytes_eq, codes, slice_range, IfOk, MatchBool, MatchResult};
+ghost use Rattle.std.specs.List.{list_any};
+ghost use Rattle.spec_file.specs.Places.{page_limit as limit_of};
+ghost use Rattle.spec_file.specs.FileForm as form;
+ghost use Rattle.db_cat.specs.Rows.{row_of};
+ghost use Rattle.checkdb_top.specs.Form as spec;
 
+use crate::FileWhy;
 use ck_alloc::is_page_of;
-use db_cat::{catalog_passes, has_table};
-use pg_base::{Geometry, Page, u16_at, u32_at};
+use db_cat::{CatRow, CatStop, read_catalog};
+use pg_base::{Geometry, Kind, NoMemory, Page, u16_at, u32_at};
+use pg_geom::page_limit;
+use std::alloc::Global;
 
 const MAGIC: [u8; 8] = *b"PGCHKDB1";
 
-/// The most pages of a small file that are checked now: one PFS page speaks of them.
-pub const MOST_PAGES: u32 = 88;
-
-const PAGE_LIMIT_SMALL: u32 = 4096;
-
 pub fn passes_size(bytes: u64) -> bool
-    ensures { result ≡ size_passes bytes }
+    ensures { result ≡ form.size_passes bytes }
 {
     bytes % 65_536 == 0 && bytes >= 131_072 && bytes <= 4_294_967_296
 }
@@ -28,47 +28,67 @@ fn has_magic(first: &Page) -> bool
 }
 
 fn passes_header(first: &Page) -> bool
-    ensures { result ≡ header_passes first.now.bytes }
+    ensures { result ≡ form.header_passes first.now.bytes }
 {
     first.bytes[0] == 1 && is_page_of(first, 15, 0) && has_magic(first)
 }
 
 fn passes_version(first: &Page) -> bool
-    ensures { result ≡ version_passes first.now.bytes }
+    ensures { result ≡ form.version_passes first.now.bytes }
 {
     u16_at(&first.bytes, 104) == 1
 }
 
-fn is_small(first: &Page) -> bool
-    ensures { IsTrue result ↔ (geometry_of first.now.bytes ≡ Some Small) }
+fn geometry_of(first: &Page) -> Option<Geometry>
+    ensures { result ≡ form.geometry_of first.now.bytes }
 {
-    Geometry::of_byte(first.bytes[106]) == Some(Geometry::Small)
+    Geometry::of_byte(first.bytes[106])
 }
 
-fn passes_count(first: &Page, pages: u32) -> bool
-    ensures { result ≡ count_passes Small pages first.now.bytes }
+fn passes_count(g: Geometry, pages: u32, first: &Page) -> bool
+    ensures { result ≡ form.count_passes g pages first.now.bytes }
 {
-    u32_at(&first.bytes, 108) == pages && pages <= PAGE_LIMIT_SMALL
+    u32_at(&first.bytes, 108) == pages && pages <= page_limit(g)
 }
 
-fn opens_small(first: &Page, pages: u32) -> bool
-    ensures { IsTrue result ↔ Opens Small pages first.now.bytes }
+/// The geometry of a file whose page 0 passes its tests, or the first test that fails.
+pub fn tested_geometry(first: &Page, pages: u32) -> Result<Geometry, FileWhy>
+    ensures fault { MatchResult result
+        (λ g. (spec.opening_fault pages first.now.bytes ≡ None) × (form.geometry_of first.now.bytes ≡ Some g))
+        (λ why. spec.opening_fault pages first.now.bytes ≡ Some why) }
+    ensures limit { IfOk result (λ g. pages ≤ limit_of g) }
 {
-    passes_header(first) && passes_version(first) && is_small(first) && passes_count(first, pages)
+    if !passes_header(first) {
+        return Err(FileWhy::Header);
+    }
+    if !passes_version(first) {
+        return Err(FileWhy::Version);
+    }
+    let Some(g) = geometry_of(first) else {
+        return Err(FileWhy::Geometry);
+    };
+    if !passes_count(g, pages, first) {
+        return Err(FileWhy::Count);
+    }
+    Ok(g)
 }
 
-fn has_tables(boot: &Page) -> bool
-    ensures { IsTrue result ↔ HasTables boot.now.bytes }
+fn any_clustered(rows: &[CatRow]) -> bool
+    ensures { result ≡ list_any (λ row. spec.is_clustered (row_of row)) rows.now }
 {
-    is_page_of(boot, 13, 9) && catalog_passes(boot) && has_table(boot)
+    rows.iter().any(|row| row.kind == Kind::Clustered)
 }
 
-/// Whether pages 0 and 9 are those of a small file without tables, or of one whose system pages are
-/// to be reported.
-pub fn takes(first: &Page, boot: &Page, pages: u32) -> bool
-    ensures { MatchBool result
-        (Opens Small pages first.now.bytes × (HasTables boot.now.bytes → ⊥))
-        ((Opens Small pages first.now.bytes → ⊥) ⊎ HasTables boot.now.bytes) }
+/// Whether page 9 is a boot page with a catalog that passes its test and has a clustered table.
+pub fn has_clustered(alloc: Global, boot: &Page) -> Result<bool, NoMemory>
+    ensures { IfOk result (λ has. MatchBool has (spec.HasClustered boot.now.bytes) (¬ spec.HasClustered boot.now.bytes)) }
 {
-    opens_small(first, pages) && !has_tables(boot)
+    if !is_page_of(boot, 13, 9) {
+        return Ok(false);
+    }
+    match read_catalog(alloc, boot) {
+        Ok(rows) => Ok(any_clustered(&rows)),
+        Err(CatStop::Bad) => Ok(false),
+        Err(CatStop::NoMemory) => Err(NoMemory),
+    }
 }

@@ -1,6 +1,10 @@
 pub mod Gathering
 pub mod Together
 pub mod Images
+pub mod PlaceBounds
+pub mod ToldPlaces
+pub mod Ranges
+pub mod OfImage
 pub mod Filtering
 pub mod Marking
 pub mod Growing

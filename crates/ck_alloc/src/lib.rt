@@ -3,21 +3,27 @@
 #![tactic(auto)]
 
 mod check;
+mod map_bits;
 mod errors;
 mod extents;
 mod maps;
 mod markers;
 mod order;
+mod places;
 mod pages;
 mod runs;
 mod system;
+mod system_maps;
+mod system_pages;
 mod text;
+mod wrong;
 
 pub use check::check_still;
 pub use errors::alloc_errors;
 pub use spec_check::{CheckError, CheckReport, TableLine};
-pub use system::is_page_of;
+pub use system_maps::{SystemMaps, read_system};
 pub use text::write_report;
+pub use wrong::is_page_of;
 
 #[cfg(test)]
 mod rule_tests;

@@ -1,14 +1,14 @@
 // The pages that every other rule rests on, and the errors that they show.
 ghost use Rattle.std.specs.Prelude.{◌≡◌, ◌≢◌, ◌+◌, ◌<◌, ◌≤◌, ◌↔◌, IsTrue, IfOk, OnOk, Some};
 ghost use Rattle.spec_file.specs.declared.geometry.Geometry.TheVariants.{Small};
-ghost use Rattle.spec_file.specs.Header.{says};
 ghost use Rattle.spec_file.specs.Roles.{role_of, system_type};
 ghost use Rattle.spec_check.specs.System.{IsWrong, IsErrorOf, wrong_page, wrong_interval};
 ghost use Rattle.ck_alloc.specs.Gathered.{Gathers, Adds};
 ghost use Rattle.ck_alloc.specs.SystemParts.{GivesError, IsErrorOfPages};
 
+use crate::wrong::is_page_of;
 use db_cat::catalog_passes;
-use pg_base::{NoMemory, Page, read_header};
+use pg_base::{NoMemory, Page};
 use spec_check::CheckError;
 use std::alloc::Global;
 
@@ -19,14 +19,6 @@ pub struct SystemPages {
     pub gam: Box<Page>,
     pub sgam: Box<Page>,
     pub boot: Box<Page>,
-}
-
-/// Whether a page has this type, and this number as its own.
-pub fn is_page_of(page: &Page, page_type: u8, p: u32) -> bool
-    ensures { result ≡ says page_type p page.now.bytes }
-{
-    let header = read_header(page);
-    header.page_type == page_type && header.page_id.0 == p
 }
 
 fn is_wrong_map(page: &Page, page_type: u8, p: u32) -> bool

@@ -107,3 +107,9 @@ lists_in_order xs ys P sorted same h = record {
   sound = λ x c. h.sound x ((same x).0 c);
   complete = λ x p. (same x).1 (h.complete x p);
 }
+
+-- an error under a condition that a test decides
+pub adds_if : (xs ys : List CheckError) (b : Bool) (e f : CheckError) (P : Type 0) → (IsTrue b ↔ P) → e ≡ f
+    → Adds xs ys (λ x. IsTrue b × (x ≡ e)) → Adds xs ys (λ x. P × (x ≡ f))
+adds_if xs ys b e f P decides same a =
+    adds_as xs ys (λ x. IsTrue b × (x ≡ e)) (λ x. P × (x ≡ f)) (λ x h. (decides.0 h.0, h.1 ∙ same)) (λ x h. (decides.1 h.0, h.1 ∙ sym same)) a

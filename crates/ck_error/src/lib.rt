@@ -4,7 +4,7 @@
 mod grow;
 mod order;
 
-pub use grow::push_if;
+pub use grow::{push_if, push_some};
 pub use order::in_order;
 pub use spec_check::{CheckError, CheckReport, TableLine};
 

@@ -97,21 +97,77 @@ fn a_file_of_a_wrong_size_is_refused(rt: HostRuntime) -> Result<(), Fail> {
     Ok(())
 }
 
+// Changes of a new file of 16 pages, and the test that it then fails first.
+#[derive(Drop)]
+struct Refusal<'a> {
+    changes: &'a [(usize, &'a [u8])],
+    why: FileWhy,
+}
+
 #[test]
-fn a_file_for_later_is_refused(rt: HostRuntime) -> Result<(), Fail> {
+fn the_first_test_that_fails_is_named(rt: HostRuntime) -> Result<(), Fail> {
     let alloc = rt.alloc();
-    let heap: &[u8] = &[1, 0, 0, 0, 1, 1, b't'];
-    let changes: [(u8, usize, &[u8]); 6] = [
-        (96, 0, &[1]),
-        (16, 1, &[14]),
-        (16, 104, &[9]),
-        (16, 106, &[1]),
-        (16, 108, &[17]),
-        (16, CATALOG, heap),
+    let refusals = [
+        Refusal {
+            changes: &[(0, &[2])],
+            why: FileWhy::Header,
+        },
+        Refusal {
+            changes: &[(1, &[14]), (104, &[9])],
+            why: FileWhy::Header,
+        },
+        Refusal {
+            changes: &[(4, &[1])],
+            why: FileWhy::Header,
+        },
+        Refusal {
+            changes: &[(103, b"2")],
+            why: FileWhy::Header,
+        },
+        Refusal {
+            changes: &[(104, &[9]), (106, &[3])],
+            why: FileWhy::Version,
+        },
+        Refusal {
+            changes: &[(105, &[1])],
+            why: FileWhy::Version,
+        },
+        Refusal {
+            changes: &[(106, &[0]), (108, &[17])],
+            why: FileWhy::Geometry,
+        },
+        Refusal {
+            changes: &[(106, &[3])],
+            why: FileWhy::Geometry,
+        },
+        Refusal {
+            changes: &[(108, &[17])],
+            why: FileWhy::Count,
+        },
+        Refusal {
+            changes: &[(106, &[1]), (108, &[24])],
+            why: FileWhy::Count,
+        },
     ];
-    for (pages, at, bytes) in changes.iter() {
-        let mut file = base(alloc, *pages)?;
-        put(&mut file, *at, bytes);
+    for refusal in refusals.iter() {
+        let mut file = base(alloc, 16)?;
+        for (at, bytes) in refusal.changes.iter() {
+            put(&mut file, *at, bytes);
+        }
+        let (status, text) = check(alloc, file)?;
+        assert_eq!(rt; status, Status::File(refusal.why));
+        assert!(rt; text.is_empty());
+    }
+    Ok(())
+}
+
+#[test]
+fn a_clustered_table_is_left_for_later(rt: HostRuntime) -> Result<(), Fail> {
+    let alloc = rt.alloc();
+    let clustered: &[u8] = &[1, 0, 0, 0, 2, 1, b't'];
+    for place in [0, 40 * 127] {
+        let mut file = base(alloc, 16)?;
+        put(&mut file, CATALOG + place, clustered);
         let (status, text) = check(alloc, file)?;
         assert_eq!(rt; status, Status::File(FileWhy::Later));
         assert!(rt; text.is_empty());
@@ -154,6 +210,25 @@ fn a_failing_read_names_the_volume(rt: HostRuntime) -> Result<(), Fail> {
         assert_eq!(rt; status, Status::Device { which });
         assert!(rt; text.is_empty());
     }
+    Ok(())
+}
+
+// A test of page 0 needs no other page.
+#[test]
+fn a_refused_file_is_read_no_further(rt: HostRuntime) -> Result<(), Fail> {
+    let alloc = rt.alloc();
+    let failing = vec![in alloc;
+        FailAt {
+            page: PageNo(9),
+            write: false,
+            nth: 1
+        },
+    ]?;
+    let mut file = base(alloc, 16)?;
+    put(&mut file, 104, &[9]);
+    let (status, text) = run(alloc, &["check", "d"], file, failing, None)?;
+    assert_eq!(rt; status, Status::File(FileWhy::Version));
+    assert!(rt; text.is_empty());
     Ok(())
 }
 

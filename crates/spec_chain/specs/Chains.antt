@@ -46,7 +46,7 @@ is_ordinary g p = is_for_objects (role_of g p)
 
 -- the k-th pointer of an object's chain, from 0: the first stands in the catalog, each other in the page
 -- that the pointer before it names
-pub pointer : Image → CatalogRow → ℕ → ℕ
+abbrev pub pointer : Image → CatalogRow → ℕ → ℕ
 pointer image row zero = row.first_iam
 pointer image row (suc k) = next_of (page image (pointer image row k))
 

@@ -1,12 +1,11 @@
 use Rattle.std.proofs.Common.{ap, ◌∙◌}
 use Rattle.checkdb_top.specs.WholeFiles.{same_contents}
-use Rattle.checkdb_top.proofs.Answering.{answers_file, told_passes, told_count}
+use Rattle.checkdb_top.proofs.Answering.{answers_file, told_passes}
 use Rattle.checkdb_top.proofs.check.check.Goals as goal
 
 pub returns-clause-answers : goal.returns-clause-answers
 returns-clause-answers g c =
-    answers_file _ _ _ _ _ (told_passes _ _ _ c.in-Ok.ensures.ok c.passes_size.ensures c.if-not-passes_size.false)
-    (told_count _ _ c.in-Ok.ensures.ok) c.if-pages-gt-MOST_PAGES.false
+    answers_file _ _ _ _ (told_passes _ _ _ c.in-Ok.ensures.ok c.passes_size.ensures c.if-not-passes_size.false)
     (rw (c.of-reader.ensures.volume, c.in-Ok.ensures.same) at c.report-status.ensures.answers)
 
 pub returns-clause-contents : goal.returns-clause-contents

@@ -1,0 +1,8 @@
+use Rattle.ck_error.specs.GatheringLaws.{adds_given, adds_not}
+use Rattle.ck_alloc.proofs.wrong.note.Goals as goal
+
+pub returns-then-not-is_wrong : goal.returns-then-not-is_wrong
+returns-then-not-is_wrong c = adds_not _ _ _ (λ h. let right = c.is_wrong.ensures.1 h in let wrong = c.if-not-is_wrong.true in cc)
+
+pub returns : goal.returns
+returns c = adds_given _ _ _ _ (c.is_wrong.ensures.0 c.if-not-is_wrong.false) c.in_ok-add_both.ensures

@@ -1,0 +1,47 @@
+// Where the system places of a file stand, and how many it has.
+ghost use Rattle.std.specs.Prelude.{◌≡◌, ◌*◌, ◌<◌};
+ghost use Rattle.spec_file.specs.Places.{page_limit};
+ghost use Rattle.ck_facts.specs.Maps.{HasShape};
+ghost use Rattle.ck_alloc.specs.SystemPlaces as spec;
+
+use pg_base::{ExtentNo, Geometry, PageNo};
+use pg_geom::{gam_of, interval_pages, interval_size, pfs_of, pfs_span, sgam_of};
+
+/// The kinds of system places.
+#[derive(Clone, Copy, Debug, PartialEq, Eq)]
+pub enum SystemKind {
+    Pfs,
+    Gam,
+    Sgam,
+}
+
+/// How many pages one system place of this kind speaks of.
+pub fn span_of(kind: SystemKind, g: Geometry) -> u32
+    ensures { result ≡ spec.span_of kind g }
+{
+    match kind {
+        SystemKind::Pfs => pfs_span(g),
+        SystemKind::Gam | SystemKind::Sgam => interval_pages(g),
+    }
+}
+
+/// The k-th system place of this kind, from 0.
+pub fn place_of(kind: SystemKind, g: Geometry, k: u32) -> PageNo
+    requires { spec.span_of kind g * k < page_limit g }
+    ensures { result.0 ≡ spec.place_of kind g k }
+{
+    match kind {
+        SystemKind::Pfs => pfs_of(g, PageNo(pfs_span(g) * k)).0,
+        SystemKind::Gam => gam_of(g, ExtentNo(interval_size(g) * k)).0,
+        SystemKind::Sgam => sgam_of(g, ExtentNo(interval_size(g) * k)).0,
+    }
+}
+
+/// How many system places of this kind a file of so many pages has.
+pub fn place_count(kind: SystemKind, g: Geometry, pages: u32) -> u32
+    requires { HasShape g pages }
+    ensures { result ≡ spec.place_count kind g pages }
+{
+    let span = span_of(kind, g);
+    (pages + span - 1) / span
+}

@@ -1,0 +1,5 @@
+use Rattle.ck_error.specs.GatheringLaws.{adds_both}
+use Rattle.ck_chain.proofs.found.note_all.Goals as goal
+
+pub returns : goal.returns
+returns c = adds_both _ _ _ _ _ (adds_both _ _ _ _ _ c.in_ok-note_page.ensures c.in_ok-note_marks.ensures) c.in_ok-note_first_slots.ensures

@@ -1,0 +1,6 @@
+use Rattle.std.proofs.Common.{arith}
+use Rattle.ck_error.specs.GatheringLaws.{adds_given}
+use Rattle.ck_chain.proofs.found.note_first_slots.Goals as goal
+
+pub returns : goal.returns
+returns c = adds_given _ _ _ _ (omega (arith, c.if-link-ne0.false)) c.in_ok-note_slots.ensures

@@ -1,0 +1,5 @@
+use Rattle.ck_error.specs.GatheringLaws.{adds_both}
+use Rattle.ck_chain.proofs.pages.note_page.Goals as goal
+
+pub returns : goal.returns
+returns c = adds_both _ _ _ _ _ c.in_ok-note_prev.ensures (adds_both _ _ _ _ _ c.in_ok-note_sequence.ensures c.in_ok-note_interval.ensures)

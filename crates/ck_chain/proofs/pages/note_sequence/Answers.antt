@@ -1,0 +1,10 @@
+use Rattle.std.proofs.Common.{◌≡◌, ap}
+use Rattle.spec_file.specs.Iam.{iam_sequence}
+use Rattle.pg_iam.specs.Views.{bytes_of}
+use Rattle.ck_error.specs.GatheringLaws.{adds_if}
+use Rattle.ck_chain.proofs.pages.note_sequence.Goals as goal
+
+pub returns : goal.returns
+returns c =
+    let is : c.args.iam.now.sequence ≡ iam_sequence (bytes_of c.args.iam.now) = c.requires.sequence in
+    rw is at (adds_if _ _ _ _ _ _ c.differ.ensures c.error.ensures c.in_ok-push_if.ensures)

@@ -1,0 +1,4 @@
+pub mod Inside
+pub mod Pages
+pub mod Marking
+pub mod Walks

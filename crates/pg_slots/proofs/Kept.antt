@@ -1,0 +1,75 @@
+-- What a change of rows leaves of the page test.
+use Rattle.std.specs.Prelude.{◌≡◌, ◌≢◌, ◌⊎◌, ℕ, zero, suc, ◌+◌, ◌-◌, ◌*◌, ◌<◌, ◌≤◌, ◌==◌, ◌&&◌, Bool, true, false, IsTrue, List, [], ◌∷◌, length, take, drop, nat_le, slice_index, slice_range, if◌then◌else◌, refl}
+use Rattle.std.specs.List.{insert, remove, sum_by}
+use Rattle.std.proofs.Common.{arith, ap, sym, subst, ◌∙◌, inl, inr, get_or}
+use Rattle.std.proofs.lemmas.Bool.{cases_order, cases_eq, cases_lt, and_from, le-leb, eq-eqb, eqb-true, ne_eqb}
+use Rattle.std.proofs.lemmas.List.{get_or_default}
+use Rattle.std.proofs.lemmas.List.Sums.{sum_by-cons}
+use Rattle.std.proofs.lemmas.List.FromFn.{length-map-range_with_len, get_or-map-range_with_len}
+use Rattle.std.proofs.lemmas.List.Edits.{length-insert, get_or-insert_below, get_or-insert_at, get_or-insert_above, length-remove, get_or-remove_below, get_or-remove_above}
+use Rattle.std.proofs.lemmas.List.Sorted.{IsPermutation-insert, IsPermutation-remove, sum_by-IsPermutation}
+use Rattle.spec_file.specs.Header.{header_of, header_version}
+use Rattle.spec_file.specs.declared.header.Header.{Header}
+use Rattle.spec_file.specs.declared.data.Kind.{Kind}
+use Rattle.spec_file.specs.declared.data.Kind.TheVariants.{Heap, Clustered}
+use Rattle.spec_rows.specs.Slots.{slot_limit, slot_count, rows_end, has_index_rows, slot_at, row_size, row_end, page_row, page_rows, rows_size, fits_page}
+use Rattle.spec_rows.specs.PageTest as spec
+use Rattle.spec_rows.specs.Changes.{with_counts, Stays, IsCompacted, IsPlaced, FitsBehind, IsInserted, AtEnd, Compacted, IsRemoved, IsReplaced}
+use Rattle.spec_rows.specs.SlotLaws.{RowStands, RowsRoom, row_stands, rows_room, rows_size_more}
+use Rattle.spec_rows.specs.ApartLaws.{AreApart}
+use Rattle.spec_rows.specs.PartLaws.{byte_stays_in, part_stays_in}
+use Rattle.spec_rows.specs.WholeRows.{row_length, row_fits}
+use Rattle.pg_slots.proofs.Arranged.{HasRow, has_row, Layout, layout_of, layout_size, layout_rows, holds_of}
+use Rattle.pg_slots.proofs.Moved.{same_kind, fits_still, moved, Came, came, apart_still, room_from, row_count, row_of_slot, parts}
+use Rattle.pg_slots.proofs.Placed.{placed_holds}
+use Rattle.pg_slots.proofs.Removed.{removed_holds}
+use Rattle.pg_slots.proofs.Compacted.{compacted_holds}
+
+-- the row fits behind the others once they are moved together
+pub fits_compacted : (row before middle : List ℕ) → length before ≡ 8192 → spec.HoldsRows before → IsCompacted before middle
+    → length row + 2 ≤ (header_of before).free_count → FitsBehind row middle
+fits_compacted row before middle long holds compacted enough =
+    let whole = parts before long holds in
+    let size = layout_size before (page_rows before) (layout_of before long holds) in
+    let count : slot_count middle ≡ slot_count before = ap (λ (h : Header). h.slots) compacted.header in
+    let ends : rows_end middle ≡ 96 + rows_size before (slot_count before) = ap (λ (h : Header). h.free_from) compacted.header in
+    omega (arith, whole, size, count, ends, enough)
+
+pub inserted_holds : (i : ℕ) (row before now : List ℕ) → length before ≡ 8192 → spec.HoldsRows before → IsTrue (fits_page before row)
+    → i ≤ slot_count before → length row + 2 ≤ (header_of before).free_count → IsInserted i row before now
+    → spec.HoldsRows now × (page_rows now ≡ insert (page_rows before) i row)
+inserted_holds i row before now long holds fits within enough (AtEnd behind placed) =
+    placed_holds i row before now long holds fits within behind enough placed
+inserted_holds i row before now long holds fits within enough (Compacted middle full compacted placed) =
+    let first = compacted_holds before middle long holds compacted in
+    let count : slot_count middle ≡ slot_count before = ap (λ (h : Header). h.slots) compacted.header in
+    let free : (header_of middle).free_count ≡ (header_of before).free_count = ap (λ (h : Header). h.free_count) compacted.header in
+    let second = placed_holds i row middle now (compacted.long ∙ long) first.0
+      (fits_still before middle row (same_kind before middle _ _ _ compacted.header) fits) (omega (arith, count, within))
+      (fits_compacted row before middle long holds compacted enough) (omega (arith, free, enough)) placed in
+    (second.0, second.1 ∙ ap (λ (rows : List (List ℕ)). insert rows i row) first.1)
+
+kept_type : (kind : Kind) (before now : List ℕ) (a b c : ℕ) → header_of now ≡ with_counts a b c (header_of before)
+    → IsTrue (spec.has_row_type kind (header_of before)) → IsTrue (spec.has_row_type kind (header_of now))
+kept_type Heap before now a b c header test = subst (λ (h : Header). IsTrue (spec.has_row_type Heap h)) (sym header) test
+kept_type Clustered before now a b c header test = subst (λ (h : Header). IsTrue (spec.has_row_type Clustered h)) (sym header) test
+
+kept_links : (kind : Kind) (before now : List ℕ) (a b c : ℕ) → header_of now ≡ with_counts a b c (header_of before)
+    → IsTrue (spec.has_links kind (header_of before)) → IsTrue (spec.has_links kind (header_of now))
+kept_links Heap before now a b c header test = subst (λ (h : Header). IsTrue (spec.has_links Heap h)) (sym header) test
+kept_links Clustered before now a b c header test = refl
+
+pub with_counts_twice : (before middle now : List ℕ) (a b c d e f : ℕ) → header_of middle ≡ with_counts a b c (header_of before)
+    → header_of now ≡ with_counts d e f (header_of middle) → header_of now ≡ with_counts d e f (header_of before)
+with_counts_twice before middle now a b c d e f first second = second ∙ ap (with_counts d e f) first
+
+-- what the page test asks beside its rows stays
+pub passes_still : (p o : ℕ) (kind : Kind) (before now : List ℕ) (a b c : ℕ) → header_of now ≡ with_counts a b c (header_of before)
+    → spec.HoldsRows now → spec.PassesButRows p o kind before → spec.PassesButRows p o kind now
+passes_still p o kind before now a b c header holds passes = record {
+  own = subst (λ (h : Header). IsTrue (spec.is_own_page p h)) (sym header) passes.own;
+  type = kept_type kind before now a b c header passes.type;
+  object = subst (λ (h : Header). IsTrue (spec.belongs_to o h)) (sym header) passes.object;
+  links = kept_links kind before now a b c header passes.links;
+  holds = holds;
+}

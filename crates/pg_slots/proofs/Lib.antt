@@ -1,0 +1,10 @@
+pub mod Rising
+pub mod Sorted
+pub mod Steps
+pub mod Bytes
+pub mod Arranged
+pub mod Moved
+pub mod Placed
+pub mod Removed
+pub mod Compacted
+pub mod Kept

@@ -1,0 +1,11 @@
+pub mod Rows
+pub mod RowLaws
+pub mod Slots
+pub mod PageTest
+pub mod Changes
+pub mod SlotLaws
+pub mod OrderLaws
+pub mod ApartLaws
+pub mod TestLaws
+pub mod PartLaws
+pub mod WholeRows

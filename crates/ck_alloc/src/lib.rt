@@ -1,5 +1,5 @@
-//! The check of a still file without tables: its system pages, the bits of its maps, and the bytes of
-//! the report.
+//! The allocation rules over a file's maps; and the check of a still file without tables: its system
+//! pages, the bits of its maps, and the bytes of the report.
 #![tactic(auto)]
 
 mod check;

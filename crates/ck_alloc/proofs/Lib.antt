@@ -10,6 +10,7 @@ pub mod Marking
 pub mod Growing
 pub mod Members
 pub mod MarkersOf
+pub mod CatalogIds
 pub mod UsesOf
 pub mod MapLaws
 pub mod ExtentLaws

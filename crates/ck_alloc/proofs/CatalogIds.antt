@@ -1,5 +1,5 @@
 -- The ids of a catalog's objects differ, and they are at most 128: so their list by id rises.
-use Rattle.std.proofs.Common.{◌≡◌, ℕ, ◌+◌, ◌<◌, ◌≤◌, ◌↔◌, Bool, true, false, List, [], ◌∷◌, length, map, filter, get_or, eqb, zero, suc, arith, sym, refl, subst, ap, Contains}
+use Rattle.std.proofs.Common.{◌≡◌, ℕ, ◌+◌, ◌<◌, ◌≤◌, ◌↔◌, Bool, true, false, List, [], ◌∷◌, length, map, filter, eqb, zero, suc, arith, sym, refl, subst, ap, Contains}
 use Rattle.std.specs.List.{AllByRecursion, IsDistinct, range_with_len}
 use Rattle.std.specs.List.Sorted.{IsStrictlySortedBy, IsNonDecreasing, IsNonDecreasingBy, IsPermutation}
 use Rattle.std.specs.Ordering.{nat_cmp, on}

@@ -34,9 +34,9 @@ pushed {X} xs y z i h = ⊎_elim
     (λ less. inl (slice_get_read xs (length xs) i z refl less (sym (get_or_from_slice_get (xs ++ y ∷ []) i z z h) ∙ get_or-append xs (y ∷ []) z i less)))
     (λ here. inr (here, sym (get_or_from_slice_get (xs ++ y ∷ []) i z z h) ∙ ap (λ n. get_or (xs ++ y ∷ []) n z) here ∙ get_or-append_seam xs y [] z))
     (upto i (length xs) (subst (λ n. i < n) (grown xs) (slice_get_within (xs ++ y ∷ []) i z h))) where
-  grown : (xs : List X) → length (xs ++ y ∷ []) ≡ length xs + 1
-  grown [] = refl
-  grown (x ∷ xs) = let less = grown xs in omega (arith, less)
+      grown : (xs : List X) → length (xs ++ y ∷ []) ≡ length xs + 1
+      grown [] = refl
+      grown (x ∷ xs) = let less = grown xs in omega (arith, less)
 
 pub zero_marks : (free mixed : Bool) (i : ℕ) → i < 128 → has_mark (record { free = free; mixed = mixed; marks = replicate 16 0 }) i ≡ false
 zero_marks free mixed i low =
@@ -70,12 +70,12 @@ read_more g image rows n row old mid new at h c = record {
   errors = adds_as _ _ (λ x. ChainError g image rows n x ⊎ IsErrorOfChain g image row x) (ChainError g image rows (n + 1))
       (λ x s. ⊎_elim (λ (i, r, (low, is), e). (i, r, (omega (arith, low), is), e)) (λ e. (n, row, (omega arith, at), e)) s)
       (λ x (i, r, (low, is), e). ⊎_elim (λ less. inl (i, r, (less, is), e))
-          (λ here. inr (subst (λ k. IsErrorOfChain g image k x) (row_is i r is here) e)) (upto i n low))
+      (λ here. inr (subst (λ k. IsErrorOfChain g image k x) (row_is i r is here) e)) (upto i n low))
       (adds_both _ _ _ (ChainError g image rows n) (IsErrorOfChain g image row) h.errors c.errors);
   uses = adds_as _ _ (λ u. ChainUse g image rows n u ⊎ IsUseOf g image row u) (ChainUse g image rows (n + 1))
       (λ u s. ⊎_elim (λ (i, r, (low, is), e). (i, r, (omega (arith, low), is), e)) (λ e. (n, row, (omega arith, at), e)) s)
       (λ u (i, r, (low, is), e). ⊎_elim (λ less. inl (i, r, (less, is), e))
-          (λ here. inr (subst (λ k. IsUseOf g image k u) (row_is i r is here) e)) (upto i n low))
+      (λ here. inr (subst (λ k. IsUseOf g image k u) (row_is i r is here) e)) (upto i n low))
       (adds_both _ _ _ (ChainUse g image rows n) (IsUseOf g image row) h.uses c.uses);
   count = c.extents.count ∙ h.count;
   extents = λ e x z was now.
@@ -89,11 +89,12 @@ read_more g image rows n row old mid new at h c = record {
         mixed = second.mixed ∙ first.mixed;
         done = λ i r (low, is). ⊎_elim
             (λ less. let same = second.others i (λ k. omega (arith, k, less)) in
-                (λ m. (first.done i r (less, is)).0 (sym same ∙ m), λ s. same ∙ (first.done i r (less, is)).1 s))
+            (λ m. (first.done i r (less, is)).0 (sym same ∙ m), λ s. same ∙ (first.done i r (less, is)).1 s))
             (λ here. subst (λ k. IsTrue (has_mark z k) ↔ (IsTrue (has_mark x k) ⊎ IsMarked g image r e)) (sym here)
-                (subst (λ k. IsTrue (has_mark z n) ↔ (IsTrue (has_mark x n) ⊎ IsMarked g image k e)) (sym (row_is i r is here))
-                (λ m. ⊎_elim (λ old_. inl (sym (first.left n (omega arith)) ∙ old_)) (λ marked. inr marked) (second.mark.0 m),
-                 λ s. second.mark.1 (⊎_elim (λ old_. inl (first.left n (omega arith) ∙ old_)) (λ marked. inr marked) s))))
+            (subst (λ k. IsTrue (has_mark z n) ↔ (IsTrue (has_mark x n) ⊎ IsMarked g image k e)) (sym (row_is i r is here)) (
+              λ m. ⊎_elim (λ old_. inl (sym (first.left n (omega arith)) ∙ old_)) (λ marked. inr marked) (second.mark.0 m),
+              λ s. second.mark.1 (⊎_elim (λ old_. inl (first.left n (omega arith) ∙ old_)) (λ marked. inr marked) s),
+            )))
             (upto i n low);
         left = λ i low. second.others i (λ k. omega (arith, k, low)) ∙ first.left i (omega (arith, low));
       };

@@ -57,7 +57,7 @@ chains_are image m found free mixed objects f =
     gathers_as found.errors.items (ChainError m.geometry image (rows_of_objects m.objects.items) (length (rows_of_objects m.objects.items))) (IsChainError m.geometry image)
     (λ x (i, r, (low, at), e). (r, (objects.same r).0 (member (rows_of_objects m.objects.items) i r at), e))
     (λ x (r, is, e). let (i, low, at) = (objects.same r).1 is in
-        (i, r, (low, slice_get_read (rows_of_objects m.objects.items) (length (rows_of_objects m.objects.items)) i r refl low (sym at)), e))
+    (i, r, (low, slice_get_read (rows_of_objects m.objects.items) (length (rows_of_objects m.objects.items)) i r refl low (sym at)), e))
     (gathers_first found.errors.items _ (subst (λ l. Adds l found.errors.items (ChainError m.geometry image (rows_of_objects m.objects.items) (length (rows_of_objects m.objects.items)))) f.errors f.read.errors))
 
 nobody : {T : Type 0} (x : T) → Contains {X = T} [] x → ⊥
@@ -97,9 +97,10 @@ extents_are image m maps found said made f = record {
         mixed = became.mixed ∙ bit_is (is_mixed m.geometry image) (extent_count image) e maps.mixed.items x.mixed said.mixed bare.mixed_is;
         marks = λ i row at.
             let low = slice_get_within (rows_of_objects m.objects.items) i row at in
-            let none = bare.marks i (omega (arith, low, made.few)) in
-            (λ h. ⊎_elim (λ old_. absurd (unset (has_mark x i) none old_)) (λ marked. marked) ((became.done i row (low, at)).0 h),
-             λ marked. (became.done i row (low, at)).1 (inr marked));
+            let none = bare.marks i (omega (arith, low, made.few)) in (
+              λ h. ⊎_elim (λ old_. absurd (unset (has_mark x i) none old_)) (λ marked. marked) ((became.done i row (low, at)).0 h),
+              λ marked. (became.done i row (low, at)).1 (inr marked),
+            );
       };
 } where
   unset : (b : Bool) → b ≡ false → IsTrue b → ⊥

@@ -1,6 +1,3 @@
-pub mod Gathered
-pub mod MapParts
-pub mod SystemParts
 pub mod SystemPlaces
 pub mod SystemMaps
 pub mod Held

@@ -1,30 +1,24 @@
-//! The allocation rules over a file's maps; and the check of a still file without tables: its system
-//! pages, the bits of its maps, and the bytes of the report.
+//! The maps of a file, and the allocation rules: what GAM, SGAM, PFS bytes, IAM chains and uses of pages
+//! say against each other.
 #![tactic(auto)]
 
-mod check;
 mod errors;
 mod extents;
 mod map_bits;
-mod objects;
-mod maps;
 mod markers;
-mod order;
+mod objects;
 mod pages;
 mod places;
 mod read;
 mod runs;
-mod system;
 mod system_maps;
 mod system_pages;
 mod text;
 mod wrong;
 
-pub use check::check_still;
 pub use errors::alloc_errors;
 pub use read::read_maps;
 pub use spec_check::{CheckError, CheckReport, TableLine};
-pub use system_maps::{SystemMaps, read_system};
 pub use text::write_report;
 pub use wrong::is_page_of;
 

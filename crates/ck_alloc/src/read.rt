@@ -100,12 +100,7 @@ fn read_chains<R: SnapReader>(
 }
 
 // The maps of a file with system errors: these stand alone.
-fn map_of_errors(
-    alloc: Global,
-    g: Geometry,
-    pages: u32,
-    system: Vec<CheckError>,
-) -> AllocMap
+fn map_of_errors(alloc: Global, g: Geometry, pages: u32, system: Vec<CheckError>) -> AllocMap
     requires shape { HasShape g pages }
     requires some { system.items ≡ [] → ⊥ }
     ensures geometry { result.geometry ≡ g }

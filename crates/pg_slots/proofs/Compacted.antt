@@ -31,7 +31,7 @@ record Compacting (before now : List ℕ) : Type 0 where
   holds : spec.HoldsRows before
   compacted : IsCompacted before now
 
-rises : (bytes : List ℕ) (a b : ℕ) → a ≤ b → rows_size bytes a ≤ rows_size bytes b
+pub rises : (bytes : List ℕ) (a b : ℕ) → a ≤ b → rows_size bytes a ≤ rows_size bytes b
 rises bytes a zero below = omega (arith, ap (rows_size bytes) (none_below a below))
 rises bytes a (suc b) below = elim (cases_order a (suc b)) [
   | inl same ↦ omega (arith, ap (rows_size bytes) same)
@@ -107,3 +107,24 @@ compacted_all before now g =
 pub compacted_holds : (before now : List ℕ) → length before ≡ 8192 → spec.HoldsRows before → IsCompacted before now
     → spec.HoldsRows now × (page_rows now ≡ page_rows before)
 compacted_holds before now long holds compacted = compacted_all before now (record { long = long; holds = holds; compacted = compacted })
+
+-- there is room for the first rows, from 96 on
+pub room_for : (bytes : List ℕ) (k : ℕ) → length bytes ≡ 8192 → spec.HoldsRows bytes → k ≤ slot_count bytes
+    → 96 + rows_size bytes k + 2 * slot_count bytes ≤ 8192
+room_for bytes k long holds within =
+    let whole = parts bytes long holds in
+    let size = layout_size bytes (page_rows bytes) (layout_of bytes long holds) in
+    omega (arith, whole, size, rises bytes k (slot_count bytes) within)
+
+-- the row of a slot, put where the rows before it end, ends where the next begins, before the slots
+pub row_ends : (bytes row : List ℕ) (slot at : ℕ) → length bytes ≡ 8192 → spec.HoldsRows bytes → slot < slot_count bytes
+    → at ≡ 96 + rows_size bytes slot → row ≡ page_row bytes slot
+    → (at + length row ≡ 96 + rows_size bytes (slot + 1)) × (at + length row + 2 * slot_count bytes ≤ 8192)
+row_ends bytes row slot at long holds within start is =
+    let room = rows_room (header_of bytes) holds.room in
+    let size : length (page_row bytes slot) ≡ row_size bytes slot =
+    row_length bytes slot (omega (arith, room.within, long)) (row_stands bytes slot (holds.slots slot within)) in
+    let same : length row ≡ row_size bytes slot = ap length is ∙ size in
+    let more = rows_size_more bytes slot in
+    let below = room_for bytes (slot + 1) long holds (omega arith) in
+    (omega (arith, same, more), omega (arith, same, more, below))

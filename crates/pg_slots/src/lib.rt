@@ -3,6 +3,7 @@
 #![tactic(auto)]
 
 mod change;
+mod compact;
 mod header;
 mod order;
 mod passes;

@@ -125,9 +125,9 @@ layout_of bytes long holds =
     record {
       count = sym count;
       each = λ j within.
-        let stands = row_stands bytes j (holds.slots j (omega (arith, count))) in
-        let size = row_length bytes j (omega (arith, long, room.within)) stands in
-        subst (HasRow bytes j) (sym (get_or-map-range_with_len (page_row bytes) 0 n j j [] (omega (arith, count)) (omega arith)))
+          let stands = row_stands bytes j (holds.slots j (omega (arith, count))) in
+          let size = row_length bytes j (omega (arith, long, room.within)) stands in
+          subst (HasRow bytes j) (sym (get_or-map-range_with_len (page_row bytes) 0 n j j [] (omega (arith, count)) (omega arith)))
           (record { size = sym size; stands = stands; same = refl });
       apart = apart_from_order bytes room.few holds.slots holds.order;
     }

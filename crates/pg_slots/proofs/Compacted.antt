@@ -25,7 +25,6 @@ use Rattle.pg_slots.proofs.Moved.{same_kind, fits_still, moved, Came, came, apar
 none_below : (a : ℕ) → a ≤ 0 → a ≡ 0
 none_below a below = omega arith
 
-
 record Compacting (before now : List ℕ) : Type 0 where
   long : length before ≡ 8192
   holds : spec.HoldsRows before
@@ -53,8 +52,8 @@ compacted_new before now g j within =
     let ends : rows_end now ≡ 96 + rows_size before (slot_count before) = ap (λ (h : Header). h.free_from) g.compacted.header in
     let stop : 96 + rows_size before j + length row ≡ 96 + rows_size before (j + 1) = omega (arith, size, more) in
     has_row now j row (fits_still before now row kind (row_fits before j (omega (arith, g.long, room.within)) stands)) (omega (arith, start))
-      (omega (arith, start, stop, ends, rises before (j + 1) (slot_count before) (omega arith)))
-      (ap (λ (n : ℕ). slice_range now n (n + length row)) start ∙ ap (slice_range now (96 + rows_size before j)) stop ∙ g.compacted.rows j within)
+    (omega (arith, start, stop, ends, rises before (j + 1) (slot_count before) (omega arith)))
+    (ap (λ (n : ℕ). slice_range now n (n + length row)) start ∙ ap (slice_range now (96 + rows_size before j)) stop ∙ g.compacted.rows j within)
 
 compacted_count : (before now : List ℕ) → Compacting before now → slot_count now ≡ slot_count before
 compacted_count before now g = ap (λ (h : Header). h.slots) g.compacted.header
@@ -74,15 +73,15 @@ compacted_layout before now g =
       count = omega (arith, count, rows);
       each = λ j within. subst (HasRow now j) (sym (row_of_slot before j (omega (arith, within, rows)))) (compacted_new before now g j (omega (arith, within, rows)));
       apart = λ j k j_in k_in other.
-        let j_before : j < slot_count before = omega (arith, count) in
-        let k_before : k < slot_count before = omega (arith, count) in
-        elim (cases_order j k) [
-          | inl same ↦ absurd (other same)
-          | inr (inl below) ↦
-              inl (omega (arith, compacted_stop before now g j j_before, g.compacted.slots k k_before, rises before (j + 1) k (omega (arith, below))))
-          | inr (inr above) ↦
-              inr (omega (arith, compacted_stop before now g k k_before, g.compacted.slots j j_before, rises before (k + 1) j (omega (arith, above))))
-        ];
+          let j_before : j < slot_count before = omega (arith, count) in
+          let k_before : k < slot_count before = omega (arith, count) in
+          elim (cases_order j k) [
+            | inl same ↦ absurd (other same)
+            | inr (inl below) ↦
+                inl (omega (arith, compacted_stop before now g j j_before, g.compacted.slots k k_before, rises before (j + 1) k (omega (arith, below))))
+            | inr (inr above) ↦
+                inr (omega (arith, compacted_stop before now g k k_before, g.compacted.slots j j_before, rises before (k + 1) j (omega (arith, above))))
+          ];
     }
 
 compacted_all : (before now : List ℕ) → Compacting before now → spec.HoldsRows now × (page_rows now ≡ page_rows before)
@@ -94,15 +93,16 @@ compacted_all before now g =
     let whole = parts before g.long g.holds in
     let size = layout_size before (page_rows before) (layout_of before g.long g.holds) in
     let free : (header_of now).free_count ≡ (header_of before).free_count = ap (λ (h : Header). h.free_count) header in
-    let ends : rows_end now ≡ 96 + rows_size before (slot_count before) = ap (λ (h : Header). h.free_from) header in
-    (holds_of now (page_rows before) layout
-        (subst (λ (h : Header). IsTrue (spec.has_row_type Clustered h)) (sym header) g.holds.type)
-        (byte_stays_in 0 20 0 before now g.compacted.front (omega arith) (omega arith) ∙ g.holds.version)
-        (subst (λ (h : Header). IsTrue (spec.has_level h)) (sym header) g.holds.level)
-        (room_from (header_of now) (record { few = omega (arith, count, room.few); from = omega (arith, ends); within = omega (arith, ends, count, whole, size) }))
-        (subst (λ (h : Header). IsTrue (spec.has_no_ghosts h)) (sym header) g.holds.ghosts)
-        (omega (arith, free, whole, count)),
-      layout_rows now (page_rows before) layout)
+    let ends : rows_end now ≡ 96 + rows_size before (slot_count before) = ap (λ (h : Header). h.free_from) header in (
+      holds_of now (page_rows before) layout
+          (subst (λ (h : Header). IsTrue (spec.has_row_type Clustered h)) (sym header) g.holds.type)
+          (byte_stays_in 0 20 0 before now g.compacted.front (omega arith) (omega arith) ∙ g.holds.version)
+          (subst (λ (h : Header). IsTrue (spec.has_level h)) (sym header) g.holds.level)
+          (room_from (header_of now) (record { few = omega (arith, count, room.few); from = omega (arith, ends); within = omega (arith, ends, count, whole, size) }))
+          (subst (λ (h : Header). IsTrue (spec.has_no_ghosts h)) (sym header) g.holds.ghosts)
+          (omega (arith, free, whole, count)),
+      layout_rows now (page_rows before) layout,
+    )
 
 pub compacted_holds : (before now : List ℕ) → length before ≡ 8192 → spec.HoldsRows before → IsCompacted before now
     → spec.HoldsRows now × (page_rows now ≡ page_rows before)

@@ -46,8 +46,8 @@ inserted_holds i row before now long holds fits within enough (Compacted middle 
     let count : slot_count middle ≡ slot_count before = ap (λ (h : Header). h.slots) compacted.header in
     let free : (header_of middle).free_count ≡ (header_of before).free_count = ap (λ (h : Header). h.free_count) compacted.header in
     let second = placed_holds i row middle now (compacted.long ∙ long) first.0
-      (fits_still before middle row (same_kind before middle _ _ _ compacted.header) fits) (omega (arith, count, within))
-      (fits_compacted row before middle long holds compacted enough) (omega (arith, free, enough)) placed in
+    (fits_still before middle row (same_kind before middle _ _ _ compacted.header) fits) (omega (arith, count, within))
+    (fits_compacted row before middle long holds compacted enough) (omega (arith, free, enough)) placed in
     (second.0, second.1 ∙ ap (λ (rows : List (List ℕ)). insert rows i row) first.1)
 
 kept_type : (kind : Kind) (before now : List ℕ) (a b c : ℕ) → header_of now ≡ with_counts a b c (header_of before)

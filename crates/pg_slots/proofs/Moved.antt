@@ -41,9 +41,9 @@ moved before now j from long holds within kind start ends stays =
     let here : Stays (slot_at before from) (row_end before from) before now =
     part_stays_in 26 (rows_end before) (slot_at before from) (row_end before from) before now stays (omega (arith, stands.from)) (omega arith) stands.within in
     has_row now j (page_row before from) (fits_still before now (page_row before from) kind fits) (omega (arith, start, stands.from))
-      (omega (arith, start, size, stands.within, ends))
-      (ap (λ (n : ℕ). slice_range now n (n + length (page_row before from))) start
-      ∙ ap (λ (n : ℕ). slice_range now (slot_at before from) (slot_at before from + n)) size ∙ here)
+    (omega (arith, start, size, stands.within, ends))
+    (ap (λ (n : ℕ). slice_range now n (n + length (page_row before from))) start
+    ∙ ap (λ (n : ℕ). slice_range now (slot_at before from) (slot_at before from + n)) size ∙ here)
 
 -- where a row stood before
 pub record Came (before now : List ℕ) (j : ℕ) : Type 0 where

@@ -41,14 +41,14 @@ placed_new i row before now g =
     let room = rows_room (header_of before) g.holds.room in
     let kind = same_kind before now _ _ _ g.placed.header in
     has_row now i row (fits_still before now row kind g.fits) (omega (arith, g.placed.here, room.from))
-      (omega (arith, g.placed.here, placed_end i row before now g))
-      (ap (λ (n : ℕ). slice_range now n (n + length row)) g.placed.here ∙ g.placed.placed)
+    (omega (arith, g.placed.here, placed_end i row before now g))
+    (ap (λ (n : ℕ). slice_range now n (n + length row)) g.placed.here ∙ g.placed.placed)
 
 placed_old : (i : ℕ) (row before now : List ℕ) → Placing i row before now → (j from : ℕ) → from < slot_count before
     → slot_at now j ≡ slot_at before from → HasRow now j (page_row before from)
 placed_old i row before now g j from within start =
     moved before now j from g.long g.holds within (same_kind before now _ _ _ g.placed.header) start
-      (omega (arith, placed_end i row before now g)) g.placed.others
+    (omega (arith, placed_end i row before now g)) g.placed.others
 
 -- slot j had another number, or the same
 record Shifted (i : ℕ) (row before now : List ℕ) (j : ℕ) : Type 0 where
@@ -65,12 +65,12 @@ shifted i row before now g j within other =
     elim (cases_order j i) [
       | inl same ↦ absurd (other same)
       | inr (inl below) ↦ record {
-          from = j;
-          within = omega (arith, below, g.within);
-          start = g.placed.earlier j below;
-          place = inl (below, refl);
-          row_is = get_or-insert_below (page_rows before) i row [] j below (omega (arith, rows, g.within)) ∙ row_of_slot before j (omega (arith, below, g.within));
-        }
+        from = j;
+        within = omega (arith, below, g.within);
+        start = g.placed.earlier j below;
+        place = inl (below, refl);
+        row_is = get_or-insert_below (page_rows before) i row [] j below (omega (arith, rows, g.within)) ∙ row_of_slot before j (omega (arith, below, g.within));
+      }
       | inr (inr above) ↦
           let next : j ≡ (j - 1) + 1 = omega (arith, above) in
           record {
@@ -79,8 +79,8 @@ shifted i row before now g j within other =
             start = ap (slot_at now) next ∙ g.placed.later (j - 1) (omega (arith, above)) (omega (arith, above, within, count));
             place = inr (above, sym next);
             row_is = ap (λ (k : ℕ). get_or (insert (page_rows before) i row) k []) next
-            ∙ get_or-insert_above (page_rows before) i row [] (j - 1) (omega (arith, above)) (omega (arith, rows, g.within))
-            ∙ row_of_slot before (j - 1) (omega (arith, above, within, count));
+                ∙ get_or-insert_above (page_rows before) i row [] (j - 1) (omega (arith, above)) (omega (arith, rows, g.within))
+                ∙ row_of_slot before (j - 1) (omega (arith, above, within, count));
           }
     ]
 
@@ -95,14 +95,14 @@ placed_layout i row before now g =
     let fresh = placed_new i row before now g in
     let size = length-insert (page_rows before) i row (omega (arith, rows, g.within)) in
     let old = λ (j : ℕ) (j_in : j < slot_count now) (other : j ≢ i).
-      let s = shifted i row before now g j j_in other in
-      came before now j s.from g.long g.holds s.within s.start (placed_old i row before now g j s.from s.within s.start) in
+    let s = shifted i row before now g j j_in other in
+    came before now j s.from g.long g.holds s.within s.start (placed_old i row before now g j s.from s.within s.start) in
     record {
       count = omega (arith, count, size, rows);
       each = λ j within. elim (cases_eq j i) [
         | inl same ↦
             subst (λ (k : ℕ). HasRow now k (get_or (insert (page_rows before) i row) k [])) (sym same)
-              (subst (HasRow now i) (sym (get_or-insert_at (page_rows before) i row [] (omega (arith, rows, g.within)))) fresh)
+            (subst (HasRow now i) (sym (get_or-insert_at (page_rows before) i row [] (omega (arith, rows, g.within)))) fresh)
         | inr other ↦
             let s = shifted i row before now g j (omega (arith, within, count, size, rows)) other in
             subst (HasRow now j) (sym s.row_is) (placed_old i row before now g j s.from s.within s.start)
@@ -113,16 +113,16 @@ placed_layout i row before now g =
             let stands = row_stands before k_old.from (g.holds.slots k_old.from k_old.within) in
             inr (omega (arith, ap (slot_at now) first, g.placed.here, k_old.stop, stands.within))
         | inr j_old ↦ elim (cases_eq k i) [
-            | inl second ↦
-                let j_came = old j j_in j_old in
-                let stands = row_stands before j_came.from (g.holds.slots j_came.from j_came.within) in
-                inl (omega (arith, ap (slot_at now) second, g.placed.here, j_came.stop, stands.within))
-            | inr k_old ↦
-                let s = shifted i row before now g j j_in j_old in
-                let t = shifted i row before now g k k_in k_old in
-                apart_still before now j k (layout_of before g.long g.holds).apart (old j j_in j_old) (old k k_in k_old)
-                  (places_differ i j k s.from t.from s.place t.place other)
-          ]
+          | inl second ↦
+              let j_came = old j j_in j_old in
+              let stands = row_stands before j_came.from (g.holds.slots j_came.from j_came.within) in
+              inl (omega (arith, ap (slot_at now) second, g.placed.here, j_came.stop, stands.within))
+          | inr k_old ↦
+              let s = shifted i row before now g j j_in j_old in
+              let t = shifted i row before now g k k_in k_old in
+              apart_still before now j k (layout_of before g.long g.holds).apart (old j j_in j_old) (old k k_in k_old)
+              (places_differ i j k s.from t.from s.place t.place other)
+        ]
       ];
     }
 
@@ -138,15 +138,16 @@ placed_all i row before now g enough =
     let sum : sum_by length (insert (page_rows before) i row) ≡ length row + sum_by length (page_rows before) =
     sum_by-IsPermutation length (row ∷ page_rows before) (insert (page_rows before) i row) (IsPermutation-insert (page_rows before) i row)
     ∙ sum_by-cons length row (page_rows before) in
-    let free : (header_of now).free_count ≡ (header_of before).free_count - (length row + 2) = ap (λ (h : Header). h.free_count) header in
-    (holds_of now (insert (page_rows before) i row) layout
-        (subst (λ (h : Header). IsTrue (spec.has_row_type Clustered h)) (sym header) g.holds.type)
-        (byte_stays_in 0 20 0 before now g.placed.front (omega arith) (omega arith) ∙ g.holds.version)
-        (subst (λ (h : Header). IsTrue (spec.has_level h)) (sym header) g.holds.level)
-        (room_from (header_of now) (record { few = omega (arith, count, g.behind, room.from); from = omega (arith, ends, room.from); within = omega (arith, count, ends, g.behind) }))
-        (subst (λ (h : Header). IsTrue (spec.has_no_ghosts h)) (sym header) g.holds.ghosts)
-        (omega (arith, free, sum, whole, count, enough)),
-      layout_rows now (insert (page_rows before) i row) layout)
+    let free : (header_of now).free_count ≡ (header_of before).free_count - (length row + 2) = ap (λ (h : Header). h.free_count) header in (
+      holds_of now (insert (page_rows before) i row) layout
+          (subst (λ (h : Header). IsTrue (spec.has_row_type Clustered h)) (sym header) g.holds.type)
+          (byte_stays_in 0 20 0 before now g.placed.front (omega arith) (omega arith) ∙ g.holds.version)
+          (subst (λ (h : Header). IsTrue (spec.has_level h)) (sym header) g.holds.level)
+          (room_from (header_of now) (record { few = omega (arith, count, g.behind, room.from); from = omega (arith, ends, room.from); within = omega (arith, count, ends, g.behind) }))
+          (subst (λ (h : Header). IsTrue (spec.has_no_ghosts h)) (sym header) g.holds.ghosts)
+          (omega (arith, free, sum, whole, count, enough)),
+      layout_rows now (insert (page_rows before) i row) layout,
+    )
 
 pub placed_holds : (i : ℕ) (row before now : List ℕ) → length before ≡ 8192 → spec.HoldsRows before → IsTrue (fits_page before row)
     → i ≤ slot_count before → FitsBehind row before → length row + 2 ≤ (header_of before).free_count → IsPlaced i row before now

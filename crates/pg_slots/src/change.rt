@@ -5,7 +5,7 @@ ghost use Rattle.spec_rows.specs.Slots as slots;
 ghost use Rattle.spec_rows.specs.PageTest.{HoldsRows};
 ghost use Rattle.spec_rows.specs.Changes as spec;
 
-use crate::compact::compact;
+use crate::pack::compact;
 use crate::puts::{close_slot, is_whole, open_slot, put_row, set_counts};
 use crate::slot::{size_at, slot_at};
 use pg_base::{Header, Page, read_header};
@@ -45,7 +45,11 @@ fn take_out(page: &mut Page, i: u16)
 fn end_without_one(header: &Header) -> u16
     ensures { result ≡ (if header.now.slots == 1 then 96 else header.now.free_from) }
 {
-    if header.slots == 1 { 96 } else { header.free_from }
+    if header.slots == 1 {
+        96
+    } else {
+        header.free_from
+    }
 }
 
 // Puts a row where the others end, as row i.

@@ -6,7 +6,7 @@ use Rattle.spec_rows.specs.WholeRows.{row_length}
 use Rattle.pg_base.specs.NumberLaws.{same_front}
 use Rattle.pg_slots.proofs.Bytes.{stays_front, slot_stays_back}
 use Rattle.pg_slots.proofs.Compacted.{row_ends}
-use Rattle.pg_slots.proofs.compact.move_row.Goals as goal
+use Rattle.pg_slots.proofs.pack.move_row.Goals as goal
 
 pub put_row-requires : goal.put_row-requires
 put_row-requires c =
@@ -37,7 +37,7 @@ returns-clause-moved c =
     record {
       front = same_front at (8190 - 2 * slot) new put slot_facts.front (omega (arith, facts.1)) ∙ row_facts.front;
       placed = stays_front at stop (8190 - 2 * slot) put new slot_facts.front (omega arith) (omega (arith, facts.1))
-      ∙ row_facts.here ∙ c.row_at-row.ensures.row;
+          ∙ row_facts.here ∙ c.row_at-row.ensures.row;
       here = slot_facts.here;
       earlier = λ j below. slot_facts.others j (omega (arith, room.few)) (omega arith) ∙ slot_stays_back j stop old put row_facts.back (omega (arith, facts.1));
     }

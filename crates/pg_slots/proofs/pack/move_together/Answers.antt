@@ -7,7 +7,7 @@ use Rattle.spec_rows.specs.SlotLaws.{rows_room}
 use Rattle.pg_base.specs.NumberLaws.{same_front}
 use Rattle.pg_slots.proofs.Bytes.{same_header, stays_front, stays_back, slot_stays_back}
 use Rattle.pg_slots.proofs.Compacted.{rises}
-use Rattle.pg_slots.proofs.compact.move_together.Goals as goal
+use Rattle.pg_slots.proofs.pack.move_together.Goals as goal
 
 pub returns : goal.returns
 returns c =
@@ -30,25 +30,25 @@ returns c =
     record {
       long = c.is_whole-2.ensures ∙ sym c.is_whole.ensures;
       header = counts.header ∙ ap (with_counts said.slots said.free_count end) kept
-      ∙ ap (λ (n : ℕ). with_counts said.slots said.free_count n (header_of old)) ends
-      ∙ ap (λ (h : Header). with_counts h.slots h.free_count (96 + rows_size old (slot_count old)) (header_of old)) read;
+          ∙ ap (λ (n : ℕ). with_counts said.slots said.free_count n (header_of old)) ends
+          ∙ ap (λ (h : Header). with_counts h.slots h.free_count (96 + rows_size old (slot_count old)) (header_of old)) read;
       front = counts.front ∙ same_front 20 end cleared moved clears.front (omega (arith, ends)) ∙ same_front 20 96 moved old moves.front (omega arith);
       unused = stays_back 26 96 26 cleared new counts.behind (omega arith)
-      ∙ stays_front 26 96 end moved cleared clears.front (omega arith) (omega (arith, ends))
-      ∙ stays_front 26 96 96 old moved moves.front (omega arith) (omega arith);
+          ∙ stays_front 26 96 end moved cleared clears.front (omega arith) (omega (arith, ends))
+          ∙ stays_front 26 96 96 old moved moves.front (omega arith) (omega arith);
       slots = λ i inside.
-        slot_stays_back i 26 cleared new counts.behind (omega (arith, room.few))
-        ∙ slot_stays_back i (8192 - 2 * said.slots) moved cleared clears.back (omega (arith, slots, room.few))
-        ∙ moves.slots i (omega (arith, slots));
+          slot_stays_back i 26 cleared new counts.behind (omega (arith, room.few))
+          ∙ slot_stays_back i (8192 - 2 * said.slots) moved cleared clears.back (omega (arith, slots, room.few))
+          ∙ moves.slots i (omega (arith, slots));
       rows = λ i inside.
-        stays_back (96 + rows_size old i) (96 + rows_size old (i + 1)) 26 cleared new counts.behind (omega arith)
-        ∙ stays_front (96 + rows_size old i) (96 + rows_size old (i + 1)) end moved cleared clears.front
+          stays_back (96 + rows_size old i) (96 + rows_size old (i + 1)) 26 cleared new counts.behind (omega arith)
+          ∙ stays_front (96 + rows_size old i) (96 + rows_size old (i + 1)) end moved cleared clears.front
           (omega (arith, rises old i (i + 1) (omega arith))) (omega (arith, ends, rises old (i + 1) (slot_count old) (omega arith)))
-        ∙ moves.rows i (omega (arith, slots));
+          ∙ moves.rows i (omega (arith, slots));
       zeros = stays_back (96 + rows_size old (slot_count old)) (8192 - 2 * slot_count old) 26 cleared new counts.behind (omega arith)
-      ∙ ap (λ (n : ℕ). slice_range cleared n (8192 - 2 * slot_count old)) (sym ends)
-      ∙ ap (λ (n : ℕ). slice_range cleared end (8192 - 2 * n)) (sym slots)
-      ∙ clears.zeros
-      ∙ ap (λ (n : ℕ). replicate (8192 - 2 * n - end) 0) slots
-      ∙ ap (λ (n : ℕ). replicate (8192 - 2 * slot_count old - n) 0) ends;
+          ∙ ap (λ (n : ℕ). slice_range cleared n (8192 - 2 * slot_count old)) (sym ends)
+          ∙ ap (λ (n : ℕ). slice_range cleared end (8192 - 2 * n)) (sym slots)
+          ∙ clears.zeros
+          ∙ ap (λ (n : ℕ). replicate (8192 - 2 * n - end) 0) slots
+          ∙ ap (λ (n : ℕ). replicate (8192 - 2 * slot_count old - n) 0) ends;
     }

@@ -1,6 +1,6 @@
 use Rattle.pg_slots.proofs.Compacted.{compacted_holds}
 use Rattle.pg_slots.proofs.Kept.{passes_still}
-use Rattle.pg_slots.proofs.compact.compact.Goals as goal
+use Rattle.pg_slots.proofs.pack.compact.Goals as goal
 
 pub returns-clause-rows : goal.returns-clause-rows
 returns-clause-rows c = (compacted_holds c.args.page.now.bytes c.move_together.new.page.bytes c.is_whole.ensures c.requires c.move_together.ensures).1

@@ -4,7 +4,7 @@ use Rattle.spec_rows.specs.Slots.{slot_at, rows_size, page_row}
 use Rattle.pg_base.specs.NumberLaws.{same_front}
 use Rattle.pg_slots.proofs.Bytes.{stays_front}
 use Rattle.pg_slots.proofs.Compacted.{rises, room_for}
-use Rattle.pg_slots.proofs.compact.move_rows.Goals as goal
+use Rattle.pg_slots.proofs.pack.move_rows.Goals as goal
 
 pub loop-slot-preserved : goal.loop-slot-preserved
 loop-slot-preserved c =
@@ -32,7 +32,7 @@ loop-slot-preserved c =
               ∙ ap (slice_range new c.loop-slot.at) (sym stop) ∙ moved.placed ∙ ap (page_row bytes) (sym same)
           | inr (inl below) ↦
               stays_front (96 + rows_size bytes i) (96 + rows_size bytes (i + 1)) c.loop-slot.at before new moved.front
-                (omega (arith, rises bytes i (i + 1) (omega arith))) (omega (arith, at, rises bytes (i + 1) slot (omega (arith, below))))
+              (omega (arith, rises bytes i (i + 1) (omega arith))) (omega (arith, at, rises bytes (i + 1) slot (omega (arith, below))))
               ∙ so_far.rows i below
           | inr (inr above) ↦ absurd (omega (arith, above))
         ];

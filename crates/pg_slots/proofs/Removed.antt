@@ -1,26 +1,22 @@
 -- A row that is removed.
-use Rattle.std.specs.Prelude.{◌≡◌, ◌≢◌, ◌⊎◌, ℕ, zero, suc, ◌+◌, ◌-◌, ◌*◌, ◌<◌, ◌≤◌, ◌==◌, ◌&&◌, Bool, true, false, IsTrue, List, [], ◌∷◌, length, take, drop, nat_le, slice_index, slice_range, if◌then◌else◌, refl}
-use Rattle.std.specs.List.{insert, remove, sum_by}
+use Rattle.std.specs.Prelude.{◌≡◌, ◌≢◌, ◌⊎◌, ℕ, ◌+◌, ◌-◌, ◌*◌, ◌<◌, ◌≤◌, ◌==◌, false, IsTrue, List, [], ◌∷◌, length, refl}
+use Rattle.std.specs.List.{remove, sum_by}
 use Rattle.std.proofs.Common.{arith, ap, sym, subst, ◌∙◌, inl, inr, get_or}
-use Rattle.std.proofs.lemmas.Bool.{cases_order, cases_eq, cases_lt, and_from, le-leb, eq-eqb, eqb-true, ne_eqb}
+use Rattle.std.proofs.lemmas.Bool.{cases_eq, cases_lt, eq-eqb, ne_eqb}
 use Rattle.std.proofs.lemmas.List.{get_or_default}
 use Rattle.std.proofs.lemmas.List.Sums.{sum_by-cons}
-use Rattle.std.proofs.lemmas.List.FromFn.{length-map-range_with_len, get_or-map-range_with_len}
-use Rattle.std.proofs.lemmas.List.Edits.{length-insert, get_or-insert_below, get_or-insert_at, get_or-insert_above, length-remove, get_or-remove_below, get_or-remove_above}
-use Rattle.std.proofs.lemmas.List.Sorted.{IsPermutation-insert, IsPermutation-remove, sum_by-IsPermutation}
-use Rattle.spec_file.specs.Header.{header_of, header_version}
+use Rattle.std.proofs.lemmas.List.Edits.{length-remove, get_or-remove_below, get_or-remove_above}
+use Rattle.std.proofs.lemmas.List.Sorted.{IsPermutation-remove, sum_by-IsPermutation}
+use Rattle.spec_file.specs.Header.{header_of}
 use Rattle.spec_file.specs.declared.header.Header.{Header}
-use Rattle.spec_file.specs.declared.data.Kind.{Kind}
-use Rattle.spec_file.specs.declared.data.Kind.TheVariants.{Heap, Clustered}
-use Rattle.spec_rows.specs.Slots.{slot_limit, slot_count, rows_end, has_index_rows, slot_at, row_size, row_end, page_row, page_rows, rows_size, fits_page}
+use Rattle.spec_file.specs.declared.data.Kind.TheVariants.{Clustered}
+use Rattle.spec_rows.specs.Slots.{slot_count, rows_end, slot_at, row_size, page_row, page_rows}
 use Rattle.spec_rows.specs.PageTest as spec
-use Rattle.spec_rows.specs.Changes.{with_counts, Stays, IsCompacted, IsPlaced, FitsBehind, IsInserted, AtEnd, Compacted, IsRemoved, IsReplaced}
-use Rattle.spec_rows.specs.SlotLaws.{RowStands, RowsRoom, row_stands, rows_room, rows_size_more}
-use Rattle.spec_rows.specs.ApartLaws.{AreApart}
+use Rattle.spec_rows.specs.Changes.{IsRemoved}
+use Rattle.spec_rows.specs.SlotLaws.{rows_room}
 use Rattle.spec_rows.specs.PartLaws.{byte_stays_in, part_stays_in}
-use Rattle.spec_rows.specs.WholeRows.{row_length, row_fits}
-use Rattle.pg_slots.proofs.Arranged.{HasRow, has_row, Layout, layout_of, layout_size, layout_rows, holds_of}
-use Rattle.pg_slots.proofs.Moved.{same_kind, fits_still, moved, Came, came, apart_still, room_from, row_count, row_of_slot, parts}
+use Rattle.pg_slots.proofs.Arranged.{HasRow, Layout, layout_of, layout_rows, holds_of}
+use Rattle.pg_slots.proofs.Moved.{same_kind, moved, came, apart_still, room_from, row_count, row_of_slot, parts}
 
 record Removing (i : ℕ) (before now : List ℕ) : Type 0 where
   long : length before ≡ 8192

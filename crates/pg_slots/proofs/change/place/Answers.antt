@@ -1,7 +1,7 @@
-use Rattle.std.proofs.Common.{ℕ, ◌≡◌, ◌+◌, ◌-◌, ◌*◌, ◌<◌, ◌≤◌, length, slice_range, arith, ap, sym, ◌∙◌}
+use Rattle.std.proofs.Common.{ℕ, ◌≡◌, ◌+◌, ◌-◌, ◌*◌, ◌≤◌, length, slice_range, arith, ap, sym, ◌∙◌}
 use Rattle.spec_file.specs.declared.header.Header.{Header}
 use Rattle.spec_file.specs.Header.{header_of}
-use Rattle.spec_rows.specs.Slots.{slot_at, slot_count, rows_end}
+use Rattle.spec_rows.specs.Slots.{slot_count, rows_end}
 use Rattle.spec_rows.specs.Changes.{with_counts}
 use Rattle.spec_rows.specs.SlotLaws.{rows_room}
 use Rattle.pg_base.specs.NumberLaws.{same_front}

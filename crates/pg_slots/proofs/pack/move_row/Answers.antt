@@ -1,8 +1,6 @@
-use Rattle.std.proofs.Common.{ℕ, ◌≡◌, ◌+◌, ◌-◌, ◌*◌, ◌≤◌, length, slice_range, arith, ap, sym, ◌∙◌}
+use Rattle.std.proofs.Common.{◌+◌, ◌-◌, ◌*◌, length, arith, ◌∙◌}
 use Rattle.spec_file.specs.Header.{header_of}
-use Rattle.spec_rows.specs.Slots.{slot_count, row_size, rows_size, page_row}
-use Rattle.spec_rows.specs.SlotLaws.{row_stands, rows_room, rows_size_more}
-use Rattle.spec_rows.specs.WholeRows.{row_length}
+use Rattle.spec_rows.specs.SlotLaws.{rows_room}
 use Rattle.pg_base.specs.NumberLaws.{same_front}
 use Rattle.pg_slots.proofs.Bytes.{stays_front, slot_stays_back}
 use Rattle.pg_slots.proofs.Compacted.{row_ends}

@@ -9,9 +9,13 @@ use Rattle.spec_script.specs.declared.statement.Statement.TheVariants.{Begin, Co
 abbrev pub is_printable : ℕ → Bool
 is_printable b = nat_le 32 b && nat_le b 126
 
--- printable bytes other than `'`, up to 1,013
+-- a printable byte other than `'`
+abbrev pub is_payload_byte : ℕ → Bool
+is_payload_byte b = is_printable b && not (b == 39)
+
+-- up to 1,013 of these
 abbrev pub is_payload : List ℕ → Bool
-is_payload payload = list_all (λ b. is_printable b && not (b == 39)) payload && nat_le (length payload) 1013
+is_payload payload = list_all is_payload_byte payload && nat_le (length payload) 1013
 
 -- a statement that a line can have: a name of the catalog, a key below 2^64, 1 to 16 workers
 abbrev pub is_statement : Statement → Bool

@@ -3,5 +3,13 @@
 #![tactic(auto)]
 
 mod name;
+mod print;
+mod read;
 mod statement;
+mod stop;
+mod text;
 mod words;
+
+pub use print::print_statement;
+pub use read::{read_schedule, read_script};
+pub use stop::ScriptStop;

@@ -120,3 +120,14 @@ pub(crate) fn statement_of(alloc: Global, line: &[u8]) -> Result<Option<Statemen
     }
     Ok(keyword_of(line))
 }
+
+/// The session and the count of a schedule's line.
+#[tactic(auto, unfolding(crate::specs::Reading::turns_of))]
+pub(crate) fn turns_of(sessions: u32, line: &[u8]) -> Option<(u32, u32)>
+    ensures { result ≡ spec.turns_of sessions line.now }
+{
+    let (session, count) = cut_at_space(line)?;
+    let session = number_within(1, sessions, session)?;
+    let count = number_within(1, 10_000_000, count)?;
+    Some((session, count))
+}

@@ -1,21 +1,7 @@
 use super::*;
 use spec_file::{ExtentNo, Lsn, ObjId, PageNo, Resource, Tran};
 use spec_log::Values;
-use std::alloc::Global;
 use std::test::Fail;
-
-// A byte of page 1 that becomes 0x70.
-fn first_change(alloc: Global) -> Result<Record, Fail> {
-    Ok(Record::Change {
-        tran: Tran(1),
-        cell: Cell::Bytes {
-            page: PageNo(1),
-            off: 104,
-        },
-        before: Values::copied(alloc, &[0])?,
-        after: Values::copied(alloc, &[0x70])?,
-    })
-}
 
 // The log of CREATE HEAP in a new file begins so.
 #[test]
@@ -55,10 +41,20 @@ fn the_start_of_a_new_heap_has_58_bytes(rt: HostRuntime) -> Result<(), Fail> {
     Ok(())
 }
 
+// A byte of page 1 becomes 0x70, and its transaction ends.
 #[test]
 fn changes_stand_one_behind_another(rt: HostRuntime) -> Result<(), Fail> {
     let mut bytes = Vec::new(rt.alloc());
-    encode(&first_change(rt.alloc())?, &mut bytes)?;
+    let change = Record::Change {
+        tran: Tran(1),
+        cell: Cell::Bytes {
+            page: PageNo(1),
+            off: 104,
+        },
+        before: Values::copied(rt.alloc(), &[0])?,
+        after: Values::copied(rt.alloc(), &[0x70])?,
+    };
+    encode(&change, &mut bytes)?;
     assert_eq!(rt; bytes[..10], [2, 1, 0, 0, 0, 0, 0, 0, 0, 1][..]);
     assert_eq!(rt; bytes[10..], [1, 0, 0, 0, 104, 0, 0, 0, 1, 0, 0, 0x70][..]);
     encode(&Record::Commit { tran: Tran(1) }, &mut bytes)?;

@@ -15,7 +15,7 @@ use Rattle.sql_script.proofs.Numbers.{own, numeral_digits}
 use Rattle.sql_script.proofs.Spelling.{HasNoSpace, bind_ok, after_spelled, after_parts, before_spelled, before_parts}
 
 -- a test that implies another
-weaken : (p q : ℕ → Bool) → ((b : ℕ) → p b ≡ true → q b ≡ true) → (bytes : List ℕ) → list_all p bytes ≡ true → list_all q bytes ≡ true
+pub weaken : (p q : ℕ → Bool) → ((b : ℕ) → p b ≡ true → q b ≡ true) → (bytes : List ℕ) → list_all p bytes ≡ true → list_all q bytes ≡ true
 weaken p q h [] all = refl
 weaken p q h (b ∷ bytes) all =
     let parts = and_parts (p b) (list_all p bytes) all in

@@ -24,7 +24,7 @@ found_none p xs e i d h =
     fails_before_first p xs i d (omega (arith, past))
 
 -- the parts of a text are never none, so one more part in front is a line
-first_of_parts : (x : List ℕ) (parts : List (List ℕ)) → 0 < length parts → lines_of_parts (x ∷ parts) ≡ strip_carriage_return x ∷ lines_of_parts parts
+pub first_of_parts : (x : List ℕ) (parts : List (List ℕ)) → 0 < length parts → lines_of_parts (x ∷ parts) ≡ strip_carriage_return x ∷ lines_of_parts parts
 first_of_parts x [] h = absurd (omega (arith, h))
 first_of_parts x (part ∷ parts) h = refl
 

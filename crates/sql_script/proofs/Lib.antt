@@ -3,6 +3,8 @@ mod FirstLines
 mod Fronts
 mod Names
 mod Numbers
+mod OneReading
+mod Printed
 mod Sentences
 mod Spelling
 mod TextSteps

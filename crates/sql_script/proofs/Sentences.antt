@@ -206,3 +206,9 @@ turns_tell_of sessions line (Some t) few e = turns_sound sessions line t e
 
 pub turns_tell : (sessions : ℕ) (line : List ℕ) → sessions < 2 ^ 32 → Tells (IsTurnsLine sessions) line (turns_of sessions line)
 turns_tell sessions line few = turns_tell_of sessions line (turns_of sessions line) few refl
+
+pub one_statement : (line : List ℕ) (a b : Statement) → IsStatementLine line a → IsStatementLine line b → a ≡ b
+one_statement line a b p q = same_Some a b (sym (complete line a p) ∙ complete line b q)
+
+pub one_turns : (sessions : ℕ) → sessions < 2 ^ 32 → (line : List ℕ) (a b : ℕ × ℕ) → IsTurnsLine sessions line a → IsTurnsLine sessions line b → a ≡ b
+one_turns sessions few line a b p q = same_Some a b (sym (turns_complete sessions line a few p) ∙ turns_complete sessions line b few q)

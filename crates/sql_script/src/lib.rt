@@ -2,6 +2,7 @@
 //! own).
 #![tactic(auto)]
 
+mod laws;
 mod name;
 mod print;
 mod read;
@@ -10,6 +11,10 @@ mod stop;
 mod text;
 mod words;
 
+pub use laws::{schedule_law, script_law};
 pub use print::print_statement;
 pub use read::{read_schedule, read_script};
 pub use stop::ScriptStop;
+
+#[cfg(test)]
+mod tests;

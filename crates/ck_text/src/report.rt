@@ -1,39 +1,14 @@
 // The bytes of a report, line by line. No memory is taken.
 ghost use Rattle.std.specs.Prelude.{◌≡◌, ◌+◌, ◌≤◌, ◌++◌, length, count_by, flat_map, decimal, not, OnOk, OnErr};
 ghost use Rattle.std.specs.Io.KnownBytes.{append_known};
-ghost use Rattle.arrayvec.specs.ArrayString.{array_string_len};
 ghost use Rattle.pg_base.specs.Faults.{Rose};
 ghost use Rattle.vol_dev.specs.Devices.{WroteFront};
 ghost use Rattle.spec_check.specs.Errors.{is_allocation};
 ghost use Rattle.spec_check.specs.Text.{error_line, table_line, total_line, report_text};
 
-use arrayvec::ArrayString;
-use itoa::Buffer;
+use crate::line::{Line, push_field, write_line};
 use spec_check::{CheckError, CheckReport, TableLine};
 use vol_dev::{DeviceFailed, Sink};
-
-const LINE: usize = 192;
-
-type Line = ArrayString<LINE>;
-
-fn push_number(line: &mut Line, n: u64)
-    requires { array_string_len line.old + 20 ≤ LINE }
-    ensures bytes { line.new.bytes ≡ line.old.bytes ++ decimal n }
-    ensures len { array_string_len line.new ≤ array_string_len line.old + 20 }
-{
-    let mut buffer = Buffer::new();
-    line.push_str(buffer.format(n));
-}
-
-// A field behind its name.
-fn push_field(line: &mut Line, name: &str, n: u64)
-    requires { array_string_len line.old + length name.now + 20 ≤ LINE }
-    ensures bytes { line.new.bytes ≡ line.old.bytes ++ name.now ++ decimal n }
-    ensures len { array_string_len line.new ≤ array_string_len line.old + length name.now + 20 }
-{
-    line.push_str(name);
-    push_number(line, n);
-}
 
 #[tactic(auto, unfolding(spec_check::specs::Text::error_line))]
 fn error_text(error: &CheckError) -> Line
@@ -87,15 +62,6 @@ fn total_text(errors: &[CheckError]) -> Line
     );
     line.push_str(" consistency errors\n");
     line
-}
-
-fn write_line<K: Sink>(line: &Line, out: &mut K) -> Result<(), DeviceFailed>
-    ensures ok { OnOk result (K.contents out.new ≡ append_known (K.contents out.old) line.now.bytes) }
-    ensures err { OnErr result (WroteFront (K.contents out.old) (K.contents out.new) line.now.bytes) }
-    ensures fault { OnErr result (Rose (K.faults out.old) (K.faults out.new)) }
-    ensures faults { K.faults out.old ≤ K.faults out.new }
-{
-    out.write(line.as_str().as_bytes())
 }
 
 fn write_errors<K: Sink>(errors: &[CheckError], out: &mut K) -> Result<(), DeviceFailed>

@@ -3,6 +3,14 @@
 #![tactic(auto)]
 
 mod line;
+mod page;
+mod payload;
+mod reply;
 mod report;
 
+pub use page::write_page;
+pub use reply::write_reply;
 pub use report::write_report;
+
+#[cfg(test)]
+mod tests;

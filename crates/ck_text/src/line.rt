@@ -10,7 +10,7 @@ use itoa::Buffer;
 use vol_dev::{DeviceFailed, Sink};
 
 /// The most bytes of a line.
-pub(crate) const LINE: usize = 192;
+pub(crate) const LINE: usize = 320;
 
 pub(crate) type Line = ArrayString<LINE>;
 

@@ -1,5 +1,5 @@
 -- The lines of the script language (this project's own): words parted by one space.
-use Rattle.std.specs.Prelude.{◌≡◌, ◌⊎◌, ℕ, ◌^◌, ◌==◌, ◌&&◌, Bool, IsTrue, not, true, nat_lt, nat_le, List, [], ◌∷◌, ◌++◌, length, codes, decimal}
+use Rattle.std.specs.Prelude.{◌≡◌, ◌⊎◌, ℕ, ◌^◌, ◌==◌, ◌&&◌, Bool, IsTrue, not, true, nat_lt, nat_le, List, ◌++◌, length, codes, decimal}
 use Rattle.std.specs.List.{list_all}
 use Rattle.spec_file.specs.Catalog.{is_name}
 use Rattle.spec_script.specs.declared.statement.Statement.{Statement}

@@ -1,13 +1,13 @@
 -- Numbers and their digits.
-use Rattle.std.specs.Prelude.{◌≡◌, ℕ, ◌^◌, ◌<◌, ◌≤◌, ◌&&◌, ◌||◌, ◌==◌, Bool, not, nat_lt, List, [], ◌∷◌, length, get_or, Option, Some, None, Result, Ok, Err, decimal, true, false}
-use Rattle.std.proofs.Common.{refl, ap, sym, ◌∙◌, arith, rules, cond}
+use Rattle.std.specs.Prelude.{◌≡◌, ℕ, ◌^◌, ◌<◌, ◌≤◌, ◌||◌, ◌==◌, not, List, [], ◌∷◌, length, Some, Result, Ok, Err, true}
+use Rattle.std.proofs.Common.{refl, ap, sym, arith, rules}
 use Rattle.std.specs.Result.{result_ok, OkIff}
 use Rattle.std.specs.Str.{IsUtf8}
 use Rattle.std.specs.Str.Parse.{ParsesUnsigned, digits_value}
 use Rattle.std.proofs.lemmas.Str.{IsUtf8-from_ascii}
-use Rattle.std.proofs.lemmas.Fmt.{IsAscii-from_digits, digits_decimal, digits_value-decimal, decimal-digits_value, decimal_nonempty, decimal_digit, first_decimal}
+use Rattle.std.proofs.lemmas.Fmt.{IsAscii-from_digits}
 use Rattle.std.proofs.lemmas.Str.Parse.{IsNumeralModel, IsDigitsTest, numerals_by_value, parse_digits}
-use Rattle.std.proofs.lemmas.Bool.{and_parts, and_from, lt-ltb, le-ltb, ltb-true, cases_Bool, or_cases, true≢false}
+use Rattle.std.proofs.lemmas.Bool.{and_parts, lt-ltb, le-ltb, true≢false}
 use Rattle.sql_script.specs.Reading.{are_digits, is_numeral, number_of}
 
 are_tests : IsDigitsTest (λ ds. are_digits ds ≡ true)

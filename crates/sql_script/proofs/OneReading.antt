@@ -1,12 +1,12 @@
 -- A text has one reading, or one first fault.
-use Rattle.std.specs.Prelude.{◌≡◌, ◌≢◌, ℕ, suc, zero, ◌+◌, ◌-◌, ◌<◌, ◌≤◌, IsTrue, Bool, not, List, [], ◌∷◌, ◌++◌, length, take, drop, filter, true, false}
+use Rattle.std.specs.Prelude.{◌≡◌, ℕ, ◌<◌, IsTrue, Bool, not, List, [], ◌∷◌, ◌++◌, length, drop}
 use Rattle.std.specs.Str.Lines.{lines}
-use Rattle.std.proofs.Common.{refl, ap, sym, ◌∙◌, arith, cond, append_assoc, length-append, subst, ⊎_elim}
+use Rattle.std.proofs.Common.{refl, ap, sym, ◌∙◌, arith, cond, subst, ⊎_elim}
 use Rattle.std.proofs.lemmas.Bool.{cases_order}
 use Rattle.std.proofs.lemmas.List.Elements.{filter-append}
 use Rattle.spec_script.specs.declared.stop.ScriptWhy.{ScriptWhy}
 use Rattle.spec_script.specs.declared.stop.ScriptWhy.TheVariants as why
-use Rattle.spec_script.specs.Texts.{AreLines, IsText, IsWrongAt, Reaches, kept, is_skipped, most_lines, longest_text}
+use Rattle.spec_script.specs.Texts.{AreLines, IsWrongAt, Reaches, kept, is_skipped}
 use Rattle.sql_script.specs.Laws.{SaysOne, IsNeverBoth, HasOneFault}
 
 abbrev first_or : {A : Type 0} → A → List A → A

@@ -1,8 +1,8 @@
 -- Statements that are printed are read again.
-use Rattle.std.specs.Prelude.{◌≡◌, ℕ, zero, suc, ◌+◌, ◌-◌, ◌<◌, ◌≤◌, ◌^◌, ◌==◌, ◌&&◌, ◌||◌, Bool, IsTrue, not, nat_lt, nat_le, List, [], ◌∷◌, ◌++◌, length, take, drop, get_or, map, flat_map, codes, decimal, slice_index, true, false}
+use Rattle.std.specs.Prelude.{◌≡◌, ℕ, zero, suc, ◌-◌, ◌<◌, ◌^◌, ◌==◌, ◌&&◌, ◌||◌, Bool, IsTrue, not, nat_lt, nat_le, List, [], ◌∷◌, ◌++◌, length, take, drop, get_or, map, flat_map, codes, decimal, slice_index, true, false}
 use Rattle.std.specs.List.{All, list_all, slice_split}
 use Rattle.std.specs.Str.Lines.{lines, lines_of_parts, strip_carriage_return}
-use Rattle.std.proofs.Common.{refl, ap, sym, ◌∙◌, arith, cond, append_assoc, length-append, subst, inl}
+use Rattle.std.proofs.Common.{refl, ap, sym, ◌∙◌, arith, cond, append_assoc, subst, inl}
 use Rattle.std.proofs.lemmas.Bool.{and_parts, and_from, ne_eqb, ltb-true, leb-true}
 use Rattle.std.proofs.lemmas.Bool.Decides.{nat_tests}
 use Rattle.std.proofs.lemmas.List.Folds.{list_all-append}
@@ -10,7 +10,7 @@ use Rattle.std.proofs.lemmas.List.Splits.{slice_split_at, length-slice_split}
 use Rattle.std.proofs.lemmas.Fmt.{digits_decimal}
 use Rattle.spec_file.specs.Catalog.{is_name, is_name_byte}
 use Rattle.spec_script.specs.Lines.{is_printable, is_payload, is_payload_byte, is_statement, statement_line, IsStatementLine}
-use Rattle.spec_script.specs.Texts.{AreLines, IsText, kept, is_skipped}
+use Rattle.spec_script.specs.Texts.{AreLines, kept, is_skipped}
 use Rattle.spec_script.specs.declared.statement.Statement.{Statement}
 use Rattle.spec_script.specs.declared.statement.Statement.TheVariants.{Begin, Commit, Rollback, Insert, Count, Check}
 use Rattle.sql_script.specs.Laws.{IsReadAgain, printed}

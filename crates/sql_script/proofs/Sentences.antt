@@ -1,5 +1,5 @@
 -- Lines and their statements: each line of the language is read into its statement, and no other line is read.
-use Rattle.std.specs.Prelude.{◌≡◌, ℕ, ◌^◌, ◌<◌, ◌&&◌, ◌⊎◌, Bool, IsTrue, nat_lt, nat_le, List, [], ◌∷◌, ◌++◌, codes, decimal, bytes_eq, Option, Some, None, option_map, true, false}
+use Rattle.std.specs.Prelude.{◌≡◌, ℕ, ◌^◌, ◌<◌, ◌&&◌, ◌⊎◌, Bool, IsTrue, nat_lt, nat_le, List, ◌++◌, codes, decimal, bytes_eq, Option, Some, None, option_map, true, false}
 use Rattle.std.proofs.Common.{refl, ap, sym, ◌∙◌, arith, cond, subst, inl, inr, ⊎_elim}
 use Rattle.std.proofs.lemmas.Bool.{and_parts, and_from, lt-ltb, ltb-true, leb-true}
 use Rattle.std.proofs.lemmas.Option.{none-some, same_Some}
@@ -10,7 +10,7 @@ use Rattle.spec_script.specs.declared.statement.Statement.{Statement}
 use Rattle.spec_script.specs.declared.statement.Statement.TheVariants.{Begin, Commit, Rollback, Insert, Count, Check}
 use Rattle.sql_script.specs.Reading.{◌>>=◌, after, cut_at_space, number_of, number_within, name_of, payload_of, row_of, insert_of, count_of, check_of, keyword_of, said, statement_of, turns_of}
 use Rattle.sql_script.specs.Stops.{Tells}
-use Rattle.sql_script.proofs.Spelling.{bind_ok, map_ok, after_spelled, after_parts, cut_spelled, cut_parts}
+use Rattle.sql_script.proofs.Spelling.{bind_ok, map_ok, after_parts, cut_spelled, cut_parts}
 use Rattle.sql_script.proofs.Figures.{decimal_no_space, name_no_space, number_spelled, number_parts, within_spelled, within_parts, name_spelled, name_parts, payload_spelled, payload_parts}
 
 -- the words of a row

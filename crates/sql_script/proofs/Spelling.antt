@@ -1,17 +1,14 @@
 -- Words of a line: what is spelled is read, and what is read is spelled so.
-use Rattle.std.specs.Prelude.{◌≡◌, ℕ, suc, ◌^◌, ◌+◌, ◌-◌, ◌<◌, ◌≤◌, ◌&&◌, ◌||◌, ◌==◌, Bool, IsTrue, not, nat_lt, nat_le, List, [], ◌∷◌, ◌++◌, length, take, drop, get_or, codes, decimal, bytes_eq, Option, Some, None, option_map, true, false}
+use Rattle.std.specs.Prelude.{◌≡◌, ℕ, ◌+◌, ◌-◌, Bool, not, nat_lt, List, [], ◌∷◌, ◌++◌, length, take, drop, get_or, bytes_eq, Option, Some, None, option_map, true, false}
 use Rattle.std.specs.List.{list_all, position, position_or_len}
-use Rattle.std.specs.Str.Parse.{digits_value}
-use Rattle.std.proofs.Common.{refl, ap, sym, ◌∙◌, arith, cond, subst, length-append}
-use Rattle.std.proofs.lemmas.Bool.{and_parts, and_from, lt-ltb, ltb-true, true≢false, eqb-true, not-true}
+use Rattle.std.proofs.Common.{refl, ap, sym, ◌∙◌, arith, cond, length-append}
+use Rattle.std.proofs.lemmas.Bool.{and_parts, lt-ltb, eqb-true, not-true}
 use Rattle.std.proofs.lemmas.Option.{cond_some, none-some, same_Some}
 use Rattle.std.proofs.lemmas.List.{take-append-drop}
 use Rattle.std.proofs.lemmas.List.Sums.{split_at_first, passes_at_first}
 use Rattle.std.proofs.Math.Seq.{take-append_seam, drop-append_seam, drop-append-add}
 use Rattle.std.proofs.lemmas.Slice.Eq.{bytes_eq-Decides}
-use Rattle.std.proofs.lemmas.Fmt.{digits_decimal, digits_value-decimal, decimal-digits_value, decimal_nonempty, first_decimal}
-use Rattle.sql_script.specs.Reading.{◌>>=◌, after, before, is_space, cut_at_space, are_digits, is_numeral, number_of, number_within}
-use Rattle.sql_script.proofs.Numbers.{own, numeral_digits}
+use Rattle.sql_script.specs.Reading.{◌>>=◌, after, before, is_space, cut_at_space}
 use Rattle.sql_script.proofs.FirstLines.{found_at}
 
 pub bind_some : {A B : Type 0} (o : Option A) (f : A → Option B) (x : A) → o ≡ Some x → (o >>= f) ≡ f x

@@ -1,8 +1,7 @@
 -- The steps by which a text is read, for any kind of lines.
-use Rattle.std.specs.Prelude.{◌≡◌, ℕ, ◌+◌, ◌-◌, ◌<◌, ◌≤◌, IsTrue, Bool, not, List, [], ◌∷◌, ◌++◌, length, take, drop, get_or, filter, true, false, Result, Ok, Err, Option, Some, None, OnOk}
+use Rattle.std.specs.Prelude.{◌≡◌, ℕ, ◌+◌, ◌≤◌, IsTrue, Bool, not, List, [], ◌∷◌, ◌++◌, length, Result, Ok, Err, Option, Some, None, OnOk}
 use Rattle.std.specs.Str.Lines.{lines}
 use Rattle.std.proofs.Common.{refl, ap, sym, ◌∙◌, arith, cond, append_assoc, append-nil, length-append, subst}
-use Rattle.std.proofs.lemmas.List.{take-append-drop, take_all, drop-drop, take_more, length-take-le, length-drop}
 use Rattle.std.proofs.lemmas.List.Elements.{filter-append}
 use Rattle.spec_script.specs.declared.stop.ScriptWhy.{ScriptWhy}
 use Rattle.spec_script.specs.declared.stop.ScriptWhy.TheVariants as why

@@ -1,5 +1,5 @@
 -- What holds of texts of lines, whatever the lines are of.
-use Rattle.std.specs.Prelude.{◌≡◌, ℕ, ◌≤◌, Bool, IsTrue, List, ◌++◌, length, codes, flat_map}
+use Rattle.std.specs.Prelude.{◌≡◌, ℕ, ◌≤◌, IsTrue, List, ◌++◌, length, codes, flat_map}
 use Rattle.std.specs.List.{list_all}
 use Rattle.spec_script.specs.declared.statement.Statement.{Statement}
 use Rattle.spec_script.specs.declared.stop.ScriptWhy.{ScriptWhy}

@@ -1,7 +1,6 @@
 -- How a line is taken apart, from the left. That this reads the lines of the language and no others is a law.
 use Rattle.std.specs.Prelude.{ℕ, ◌+◌, ◌-◌, ◌^◌, ◌==◌, ◌&&◌, ◌||◌, Bool, false, not, nat_lt, nat_le, if◌then◌else◌, List, [], ◌∷◌, length, take, drop, codes, bytes_eq, Option, Some, None, option_map}
 use Rattle.std.specs.List.{list_all, position}
-use Rattle.std.specs.Option.{option_map_or}
 use Rattle.std.specs.Str.Parse.{digits_value}
 use Rattle.spec_file.specs.Catalog.{is_name}
 use Rattle.spec_script.specs.Lines.{is_payload}

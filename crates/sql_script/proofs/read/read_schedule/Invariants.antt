@@ -1,4 +1,4 @@
-use Rattle.std.specs.Prelude.{◌≡◌, ℕ, ◌+◌, ◌≤◌, length}
+use Rattle.std.specs.Prelude.{◌+◌, ◌≤◌, length}
 use Rattle.spec_script.specs.Lines.{IsTurnsLine}
 use Rattle.spec_script.specs.Texts.{longest_text}
 use Rattle.sql_script.proofs.TextSteps.{HasRead}

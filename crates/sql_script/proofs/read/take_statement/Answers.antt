@@ -1,4 +1,4 @@
-use Rattle.std.proofs.Common.{sym, ap, ◌∙◌, subst, not}
+use Rattle.std.proofs.Common.{sym, ap, subst, not}
 use Rattle.spec_script.specs.Lines.{IsStatementLine}
 use Rattle.sql_script.specs.Stops.{Tells}
 use Rattle.sql_script.proofs.TextSteps.{takes, stops_line}

@@ -1,5 +1,4 @@
-use Rattle.std.proofs.Common.{sym, ◌∙◌, ap, ◌∷◌}
-use Rattle.std.specs.Str.Lines.{lines}
+use Rattle.std.proofs.Common.{sym, ◌∙◌}
 use Rattle.sql_script.proofs.FirstLines.{line_to_end, line_without_end}
 use Rattle.sql_script.proofs.text.first_line.Goals as goal
 

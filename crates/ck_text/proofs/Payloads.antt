@@ -1,9 +1,9 @@
 -- Plain payloads are shown as they are.
-use Rattle.std.specs.Prelude.{◌≡◌, ℕ, Bool, List, [], ◌∷◌, ◌++◌, flat_map, true}
+use Rattle.std.specs.Prelude.{◌≡◌, ℕ, List, [], ◌∷◌, ◌++◌, flat_map, true}
 use Rattle.std.specs.List.{list_all}
-use Rattle.std.proofs.Common.{refl, ap, ◌∙◌, cond}
+use Rattle.std.proofs.Common.{refl, ap, ◌∙◌}
 use Rattle.std.proofs.lemmas.Bool.{and_parts}
-use Rattle.spec_script.specs.Replies.{is_plain, shown_byte, hex_digit}
+use Rattle.spec_script.specs.Replies.{is_plain, shown_byte}
 
 shown_plain : (b : ℕ) → is_plain b ≡ true → shown_byte b ≡ b ∷ []
 shown_plain b h = rw h refl

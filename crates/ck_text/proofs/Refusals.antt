@@ -1,7 +1,7 @@
 -- The line of a refusal that names an object.
-use Rattle.std.specs.Prelude.{◌≡◌, ℕ, Bool, List, ◌++◌, codes, decimal, true}
+use Rattle.std.specs.Prelude.{◌≡◌, Bool, ◌++◌, codes, decimal, true}
 use Rattle.std.proofs.Common.{ap, sym, ◌∙◌, append_assoc, cond}
-use Rattle.spec_script.specs.Replies.{is_named, place_text, detail_text, refusal_line}
+use Rattle.spec_script.specs.Replies.{is_named, place_text, refusal_line}
 use Rattle.spec_script.specs.declared.reply.Refusal.{Refusal}
 
 pub named_line : (refusal : Refusal) → is_named refusal.number ≡ true

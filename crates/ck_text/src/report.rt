@@ -1,5 +1,5 @@
 // The bytes of a report, line by line. No memory is taken.
-ghost use Rattle.std.specs.Prelude.{◌≡◌, ◌+◌, ◌≤◌, ◌++◌, length, count_by, flat_map, decimal, not, OnOk, OnErr};
+ghost use Rattle.std.specs.Prelude.{◌≡◌, ◌≤◌, count_by, flat_map, not, OnOk, OnErr};
 ghost use Rattle.std.specs.Io.KnownBytes.{append_known};
 ghost use Rattle.pg_base.specs.Faults.{Rose};
 ghost use Rattle.vol_dev.specs.Devices.{WroteFront};

@@ -13,13 +13,11 @@ mod read;
 mod runs;
 mod system_maps;
 mod system_pages;
-mod text;
 mod wrong;
 
 pub use errors::alloc_errors;
 pub use read::read_maps;
 pub use spec_check::{CheckError, CheckReport, TableLine};
-pub use text::write_report;
 pub use wrong::is_page_of;
 
 #[cfg(test)]

@@ -21,4 +21,6 @@ pub use spec_check::{CheckError, CheckReport, TableLine};
 pub use wrong::is_page_of;
 
 #[cfg(test)]
+mod object_tests;
+#[cfg(test)]
 mod rule_tests;

@@ -5,7 +5,7 @@ use Rattle.spec_file.specs.declared.geometry.Geometry.{Geometry}
 use Rattle.spec_file.specs.Image.{Image, pages_of}
 use Rattle.spec_file.specs.FileForm.{size_passes}
 use Rattle.spec_check.specs.declared.report.CheckReport.{CheckReport}
-use Rattle.spec_check.specs.Written.{IsCheckOf}
+use Rattle.spec_tables.specs.Written.{IsCheckOf}
 use Rattle.spec_check.specs.Text.{report_text}
 use Rattle.vol_dev.specs.Devices.{WroteFront}
 use Rattle.checkdb_top.specs.declared.status.Device.{Device}

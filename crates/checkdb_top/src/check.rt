@@ -4,7 +4,7 @@ ghost use Rattle.pg_base.specs.Faults.{Rose};
 ghost use Rattle.spec_file.specs.Image.{pages_of, page};
 ghost use Rattle.pg_base.specs.Reading.{StopHasCause};
 ghost use Rattle.pg_base.specs.declared.reader.ReadStop.TheVariants.{Ended};
-ghost use Rattle.spec_check.specs.Written.{IsCheckOf};
+ghost use Rattle.spec_tables.specs.Written.{IsCheckOf};
 ghost use Rattle.ck_facts.specs.Maps.{HasShape};
 ghost use Rattle.checkdb_top.specs.Form.{HasClustered, IsOpenedAs};
 ghost use Rattle.checkdb_top.specs.Opening.{SaysOpened, FitsLimit};
@@ -14,9 +14,11 @@ ghost use Rattle.checkdb_top.specs.declared.status.Device.TheVariants.{Volume, S
 use crate::form::{has_clustered, passes_size, tested_geometry};
 use crate::reader::VolumeReader;
 use crate::{Device, FileWhy, Status};
-use ck_alloc::{CheckReport, read_maps, write_report};
+use ck_alloc::read_maps;
 use ck_scan::scan_one;
+use ck_text::write_report;
 use pg_base::{Geometry, PageNo, ReadStop, SnapReader, read_page};
+use spec_check::CheckReport;
 use std::alloc::Global;
 
 const PAGE: u64 = 8192;

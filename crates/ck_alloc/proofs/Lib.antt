@@ -1,6 +1,3 @@
-pub mod Gathering
-pub mod Together
-pub mod Images
 pub mod PlaceBounds
 pub mod ToldPlaces
 pub mod Ranges
@@ -10,7 +7,11 @@ pub mod Marking
 pub mod Growing
 pub mod Members
 pub mod MarkersOf
+pub mod CatalogIds
 pub mod UsesOf
 pub mod MapLaws
 pub mod ExtentLaws
 pub mod PageLaws
+pub mod ChainSteps
+pub mod ReadMaps
+pub mod BootTested

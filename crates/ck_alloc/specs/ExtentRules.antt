@@ -3,7 +3,7 @@ use Rattle.std.specs.Prelude.{◌≡◌, ◌⊎◌, ℕ, ◌==◌, ◌&&◌, ◌
 use Rattle.spec_check.specs.declared.report.CheckError.{CheckError}
 use Rattle.spec_check.specs.Maps.{both_maps, GivesTwoMarkers, lost_extent, Claims, claim_count, two_claims}
 use Rattle.ck_alloc.specs.declared.extents.ExtentState.{ExtentState}
-use Rattle.ck_alloc.specs.declared.extents.Claims.{Claims as RustClaims}
+use Rattle.ck_alloc.specs.declared.extents.Claimants.{Claimants}
 
 -- who claims the extent
 abbrev pub claims_of : ExtentState → List ℕ → Claims
@@ -22,7 +22,7 @@ abbrev pub has_two_claims : ExtentState → List ℕ → Bool
 has_two_claims s ids = nat_lt 1 (claim_count (claims_of s ids))
 
 -- the claims as the rules see them
-abbrev pub claims_seen : RustClaims → Claims
+abbrev pub claims_seen : Claimants → Claims
 claims_seen c = record { system = c.system; free = c.free; mixed = c.mixed; marked = c.marked }
 
 abbrev pub BothSay : ExtentState → CheckError → Type 0

@@ -1,9 +1,7 @@
-pub mod Gathered
-pub mod MapParts
-pub mod SystemParts
 pub mod SystemPlaces
 pub mod SystemMaps
 pub mod Held
 pub mod ExtentRules
 pub mod PageRules
 pub mod MapRules
+pub mod ChainsRead

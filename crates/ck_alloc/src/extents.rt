@@ -20,14 +20,14 @@ pub struct ExtentState {
 
 /// Who claims an extent.
 #[derive(Clone, Copy)]
-pub struct Claims {
+pub struct Claimants {
     pub system: bool,
     pub free: bool,
     pub mixed: bool,
     pub marked: bool,
 }
 
-impl Claims {
+impl Claimants {
     fn count(&self) -> u32
         ensures { result ≡ spec.claim_count (rules_of.claims_seen self.now) }
     {
@@ -48,10 +48,10 @@ fn worth(n: u32, claimed: bool) -> u32
     if claimed { n } else { 0 }
 }
 
-fn claims_of(state: &ExtentState, markers: &[u32]) -> Claims
+fn claims_of(state: &ExtentState, markers: &[u32]) -> Claimants
     ensures { rules_of.claims_seen result ≡ rules_of.claims_of state.now markers.now }
 {
-    Claims {
+    Claimants {
         system: state.system,
         free: state.free,
         mixed: state.used || state.mixed && !state.free,
@@ -124,7 +124,7 @@ fn lowest(markers: &[u32]) -> u32
     }
 }
 
-fn two_claims_error(extent: u32, markers: &[u32], claims: &Claims) -> CheckError
+fn two_claims_error(extent: u32, markers: &[u32], claims: &Claimants) -> CheckError
     requires { extent < 65536 }
     ensures { result ≡ spec.two_claims extent markers.now (rules_of.claims_seen claims.now) }
 {

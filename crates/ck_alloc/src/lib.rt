@@ -1,29 +1,26 @@
-//! The check of a still file without tables: its system pages, the bits of its maps, and the bytes of
-//! the report.
+//! The maps of a file, and the allocation rules: what GAM, SGAM, PFS bytes, IAM chains and uses of pages
+//! say against each other.
 #![tactic(auto)]
 
-mod check;
-mod map_bits;
 mod errors;
 mod extents;
-mod maps;
+mod map_bits;
 mod markers;
-mod order;
-mod places;
+mod objects;
 mod pages;
+mod places;
+mod read;
 mod runs;
-mod system;
 mod system_maps;
 mod system_pages;
-mod text;
 mod wrong;
 
-pub use check::check_still;
 pub use errors::alloc_errors;
+pub use read::read_maps;
 pub use spec_check::{CheckError, CheckReport, TableLine};
-pub use system_maps::{SystemMaps, read_system};
-pub use text::write_report;
 pub use wrong::is_page_of;
 
+#[cfg(test)]
+mod object_tests;
 #[cfg(test)]
 mod rule_tests;

@@ -1,5 +1,6 @@
 // From the system pages of a file to what they say.
-ghost use Rattle.std.specs.Prelude.{◌≡◌, ◌≤◌, ℕ, IfOk, IfSome, IsTrue};
+ghost use Rattle.spec_file.specs.Catalog.{PassesCatalog};
+ghost use Rattle.std.specs.Prelude.{◌≡◌, ◌≤◌, [], ℕ, IfOk, IfSome, IsTrue};
 ghost use Rattle.pg_base.specs.Reading.{StopHasCause};
 ghost use Rattle.ck_facts.specs.Maps.{HasShape};
 ghost use Rattle.ck_alloc.specs.SystemMaps.{AreSystemMaps, AreSaidBy, HaveCounts, HaveSizes};
@@ -64,6 +65,7 @@ pub fn read_system<R: SnapReader>(
     requires shape { HasShape g pages }
     ensures maps { IfOk result (λ maps. IfSome (R.image reader.old) (AreSystemMaps g maps)) }
     ensures sizes { IfOk result (HaveSizes pages) }
+    ensures boot { IfOk result (λ maps. maps.errors.items ≡ [] → (PassesCatalog maps.boot.value.bytes → ⊥) → ⊥) }
     ensures cause { StopHasCause (R.faults reader.old) (R.faults reader.new) (R.failed reader.new) (R.ended reader.new) result }
     ensures ended { IsTrue (R.ended reader.old) → IsTrue (R.ended reader.new) }
     ensures faults { R.faults reader.old ≤ R.faults reader.new }

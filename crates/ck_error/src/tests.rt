@@ -21,6 +21,9 @@ fn errors_stand_in_order_and_once(rt: HostRuntime) -> Result<(), Fail> {
     push_if(&mut errors, true, numbered(8903, 8))?;
     push_if(&mut errors, true, numbered(8905, 24))?;
     let listed = in_order(errors);
-    assert_eq!(rt; listed[..], [numbered(8903, 8), numbered(8903, 32), numbered(8905, 24)][..]);
+    assert_eq!(rt;
+        listed[..],
+        [numbered(8903, 8), numbered(8903, 32), numbered(8905, 24)][..]
+    );
     Ok(())
 }

@@ -1,5 +1,5 @@
 -- A page as a list of rows that stand apart.
-use Rattle.std.specs.Prelude.{◌≡◌, ◌≢◌, ◌⊎◌, ℕ, zero, suc, ◌+◌, ◌-◌, ◌*◌, ◌<◌, ◌≤◌, ◌==◌, ◌&&◌, Bool, true, false, not, IsTrue, List, [], length, map, take, drop, nat_le, nat_lt, slice_index, slice_range, if◌then◌else◌, None, refl}
+use Rattle.std.specs.Prelude.{◌≡◌, ℕ, zero, suc, ◌+◌, ◌-◌, ◌*◌, ◌<◌, ◌≤◌, ◌==◌, ◌&&◌, Bool, true, false, IsTrue, List, [], length, map, nat_le, nat_lt, slice_index, slice_range, if◌then◌else◌, None, refl}
 use Rattle.std.specs.List.{range_with_len, sum_by}
 use Rattle.std.proofs.Common.{arith, ap, sym, subst, ◌∙◌, get_or}
 use Rattle.std.proofs.lemmas.Bool.{and_parts, and_from, eq-eqb, eqb-true, leb-true, le-leb, lt-ltb, le-ltb}
@@ -8,12 +8,12 @@ use Rattle.spec_file.specs.Image.{number_at}
 use Rattle.spec_file.specs.Header.{header_of, header_version}
 use Rattle.spec_file.specs.declared.data.Kind.TheVariants.{Clustered}
 use Rattle.spec_rows.specs.Rows.{is_data_row, is_index_row, row_limit}
-use Rattle.spec_rows.specs.Slots.{slot_limit, slot_count, rows_end, has_index_rows, slot_at, has_row_header, begins_row, row_size, row_end, page_row, page_rows, rows_size, fits_page}
+use Rattle.spec_rows.specs.Slots.{slot_count, rows_end, has_index_rows, slot_at, begins_row, row_size, row_end, page_row, page_rows, rows_size, fits_page}
 use Rattle.spec_rows.specs.PageTest as spec
 use Rattle.spec_rows.specs.SlotLaws.{RowStands, row_stands, rows_size_more, rows_room}
 use Rattle.spec_rows.specs.ApartLaws.{AreApart, apart_from_order, order_from_apart}
 use Rattle.spec_rows.specs.PartLaws.{number_in_part, byte_in_part}
-use Rattle.spec_rows.specs.WholeRows.{row_length, row_fits}
+use Rattle.spec_rows.specs.WholeRows.{row_length}
 
 -- the row of slot j
 pub record HasRow (bytes : List ℕ) (j : ℕ) (row : List ℕ) : Type 0 where
@@ -125,9 +125,9 @@ layout_of bytes long holds =
     record {
       count = sym count;
       each = λ j within.
-        let stands = row_stands bytes j (holds.slots j (omega (arith, count))) in
-        let size = row_length bytes j (omega (arith, long, room.within)) stands in
-        subst (HasRow bytes j) (sym (get_or-map-range_with_len (page_row bytes) 0 n j j [] (omega (arith, count)) (omega arith)))
+          let stands = row_stands bytes j (holds.slots j (omega (arith, count))) in
+          let size = row_length bytes j (omega (arith, long, room.within)) stands in
+          subst (HasRow bytes j) (sym (get_or-map-range_with_len (page_row bytes) 0 n j j [] (omega (arith, count)) (omega arith)))
           (record { size = sym size; stands = stands; same = refl });
       apart = apart_from_order bytes room.few holds.slots holds.order;
     }

@@ -1,37 +1,28 @@
 -- Rows that are moved together.
-use Rattle.std.specs.Prelude.{◌≡◌, ◌≢◌, ◌⊎◌, ℕ, zero, suc, ◌+◌, ◌-◌, ◌*◌, ◌<◌, ◌≤◌, ◌==◌, ◌&&◌, Bool, true, false, IsTrue, List, [], ◌∷◌, length, take, drop, nat_le, slice_index, slice_range, if◌then◌else◌, refl}
-use Rattle.std.specs.List.{insert, remove, sum_by}
-use Rattle.std.proofs.Common.{arith, ap, sym, subst, ◌∙◌, inl, inr, get_or}
-use Rattle.std.proofs.lemmas.Bool.{cases_order, cases_eq, cases_lt, and_from, le-leb, eq-eqb, eqb-true, ne_eqb}
-use Rattle.std.proofs.lemmas.List.{get_or_default}
-use Rattle.std.proofs.lemmas.List.Sums.{sum_by-cons}
-use Rattle.std.proofs.lemmas.List.FromFn.{length-map-range_with_len, get_or-map-range_with_len}
-use Rattle.std.proofs.lemmas.List.Edits.{length-insert, get_or-insert_below, get_or-insert_at, get_or-insert_above, length-remove, get_or-remove_below, get_or-remove_above}
-use Rattle.std.proofs.lemmas.List.Sorted.{IsPermutation-insert, IsPermutation-remove, sum_by-IsPermutation}
-use Rattle.spec_file.specs.Header.{header_of, header_version}
+use Rattle.std.specs.Prelude.{◌≡◌, ℕ, zero, suc, ◌+◌, ◌*◌, ◌<◌, ◌≤◌, IsTrue, List, length, slice_range}
+use Rattle.std.proofs.Common.{arith, ap, sym, subst, ◌∙◌, inl, inr}
+use Rattle.std.proofs.lemmas.Bool.{cases_order}
+use Rattle.spec_file.specs.Header.{header_of}
 use Rattle.spec_file.specs.declared.header.Header.{Header}
-use Rattle.spec_file.specs.declared.data.Kind.{Kind}
-use Rattle.spec_file.specs.declared.data.Kind.TheVariants.{Heap, Clustered}
-use Rattle.spec_rows.specs.Slots.{slot_limit, slot_count, rows_end, has_index_rows, slot_at, row_size, row_end, page_row, page_rows, rows_size, fits_page}
+use Rattle.spec_file.specs.declared.data.Kind.TheVariants.{Clustered}
+use Rattle.spec_rows.specs.Slots.{slot_count, rows_end, row_size, row_end, page_row, page_rows, rows_size}
 use Rattle.spec_rows.specs.PageTest as spec
-use Rattle.spec_rows.specs.Changes.{with_counts, Stays, IsCompacted, IsPlaced, FitsBehind, IsInserted, AtEnd, Compacted, IsRemoved, IsReplaced}
-use Rattle.spec_rows.specs.SlotLaws.{RowStands, RowsRoom, row_stands, rows_room, rows_size_more}
-use Rattle.spec_rows.specs.ApartLaws.{AreApart}
-use Rattle.spec_rows.specs.PartLaws.{byte_stays_in, part_stays_in}
+use Rattle.spec_rows.specs.Changes.{IsCompacted}
+use Rattle.spec_rows.specs.SlotLaws.{row_stands, rows_room, rows_size_more}
+use Rattle.spec_rows.specs.PartLaws.{byte_stays_in}
 use Rattle.spec_rows.specs.WholeRows.{row_length, row_fits}
 use Rattle.pg_slots.proofs.Arranged.{HasRow, has_row, Layout, layout_of, layout_size, layout_rows, holds_of}
-use Rattle.pg_slots.proofs.Moved.{same_kind, fits_still, moved, Came, came, apart_still, room_from, row_count, row_of_slot, parts}
+use Rattle.pg_slots.proofs.Moved.{same_kind, fits_still, room_from, row_count, row_of_slot, parts}
 
 none_below : (a : ℕ) → a ≤ 0 → a ≡ 0
 none_below a below = omega arith
-
 
 record Compacting (before now : List ℕ) : Type 0 where
   long : length before ≡ 8192
   holds : spec.HoldsRows before
   compacted : IsCompacted before now
 
-rises : (bytes : List ℕ) (a b : ℕ) → a ≤ b → rows_size bytes a ≤ rows_size bytes b
+pub rises : (bytes : List ℕ) (a b : ℕ) → a ≤ b → rows_size bytes a ≤ rows_size bytes b
 rises bytes a zero below = omega (arith, ap (rows_size bytes) (none_below a below))
 rises bytes a (suc b) below = elim (cases_order a (suc b)) [
   | inl same ↦ omega (arith, ap (rows_size bytes) same)
@@ -53,8 +44,8 @@ compacted_new before now g j within =
     let ends : rows_end now ≡ 96 + rows_size before (slot_count before) = ap (λ (h : Header). h.free_from) g.compacted.header in
     let stop : 96 + rows_size before j + length row ≡ 96 + rows_size before (j + 1) = omega (arith, size, more) in
     has_row now j row (fits_still before now row kind (row_fits before j (omega (arith, g.long, room.within)) stands)) (omega (arith, start))
-      (omega (arith, start, stop, ends, rises before (j + 1) (slot_count before) (omega arith)))
-      (ap (λ (n : ℕ). slice_range now n (n + length row)) start ∙ ap (slice_range now (96 + rows_size before j)) stop ∙ g.compacted.rows j within)
+    (omega (arith, start, stop, ends, rises before (j + 1) (slot_count before) (omega arith)))
+    (ap (λ (n : ℕ). slice_range now n (n + length row)) start ∙ ap (slice_range now (96 + rows_size before j)) stop ∙ g.compacted.rows j within)
 
 compacted_count : (before now : List ℕ) → Compacting before now → slot_count now ≡ slot_count before
 compacted_count before now g = ap (λ (h : Header). h.slots) g.compacted.header
@@ -74,15 +65,15 @@ compacted_layout before now g =
       count = omega (arith, count, rows);
       each = λ j within. subst (HasRow now j) (sym (row_of_slot before j (omega (arith, within, rows)))) (compacted_new before now g j (omega (arith, within, rows)));
       apart = λ j k j_in k_in other.
-        let j_before : j < slot_count before = omega (arith, count) in
-        let k_before : k < slot_count before = omega (arith, count) in
-        elim (cases_order j k) [
-          | inl same ↦ absurd (other same)
-          | inr (inl below) ↦
-              inl (omega (arith, compacted_stop before now g j j_before, g.compacted.slots k k_before, rises before (j + 1) k (omega (arith, below))))
-          | inr (inr above) ↦
-              inr (omega (arith, compacted_stop before now g k k_before, g.compacted.slots j j_before, rises before (k + 1) j (omega (arith, above))))
-        ];
+          let j_before : j < slot_count before = omega (arith, count) in
+          let k_before : k < slot_count before = omega (arith, count) in
+          elim (cases_order j k) [
+            | inl same ↦ absurd (other same)
+            | inr (inl below) ↦
+                inl (omega (arith, compacted_stop before now g j j_before, g.compacted.slots k k_before, rises before (j + 1) k (omega (arith, below))))
+            | inr (inr above) ↦
+                inr (omega (arith, compacted_stop before now g k k_before, g.compacted.slots j j_before, rises before (k + 1) j (omega (arith, above))))
+          ];
     }
 
 compacted_all : (before now : List ℕ) → Compacting before now → spec.HoldsRows now × (page_rows now ≡ page_rows before)
@@ -94,16 +85,38 @@ compacted_all before now g =
     let whole = parts before g.long g.holds in
     let size = layout_size before (page_rows before) (layout_of before g.long g.holds) in
     let free : (header_of now).free_count ≡ (header_of before).free_count = ap (λ (h : Header). h.free_count) header in
-    let ends : rows_end now ≡ 96 + rows_size before (slot_count before) = ap (λ (h : Header). h.free_from) header in
-    (holds_of now (page_rows before) layout
-        (subst (λ (h : Header). IsTrue (spec.has_row_type Clustered h)) (sym header) g.holds.type)
-        (byte_stays_in 0 20 0 before now g.compacted.front (omega arith) (omega arith) ∙ g.holds.version)
-        (subst (λ (h : Header). IsTrue (spec.has_level h)) (sym header) g.holds.level)
-        (room_from (header_of now) (record { few = omega (arith, count, room.few); from = omega (arith, ends); within = omega (arith, ends, count, whole, size) }))
-        (subst (λ (h : Header). IsTrue (spec.has_no_ghosts h)) (sym header) g.holds.ghosts)
-        (omega (arith, free, whole, count)),
-      layout_rows now (page_rows before) layout)
+    let ends : rows_end now ≡ 96 + rows_size before (slot_count before) = ap (λ (h : Header). h.free_from) header in (
+      holds_of now (page_rows before) layout
+          (subst (λ (h : Header). IsTrue (spec.has_row_type Clustered h)) (sym header) g.holds.type)
+          (byte_stays_in 0 20 0 before now g.compacted.front (omega arith) (omega arith) ∙ g.holds.version)
+          (subst (λ (h : Header). IsTrue (spec.has_level h)) (sym header) g.holds.level)
+          (room_from (header_of now) (record { few = omega (arith, count, room.few); from = omega (arith, ends); within = omega (arith, ends, count, whole, size) }))
+          (subst (λ (h : Header). IsTrue (spec.has_no_ghosts h)) (sym header) g.holds.ghosts)
+          (omega (arith, free, whole, count)),
+      layout_rows now (page_rows before) layout,
+    )
 
 pub compacted_holds : (before now : List ℕ) → length before ≡ 8192 → spec.HoldsRows before → IsCompacted before now
     → spec.HoldsRows now × (page_rows now ≡ page_rows before)
 compacted_holds before now long holds compacted = compacted_all before now (record { long = long; holds = holds; compacted = compacted })
+
+-- there is room for the first rows, from 96 on
+pub room_for : (bytes : List ℕ) (k : ℕ) → length bytes ≡ 8192 → spec.HoldsRows bytes → k ≤ slot_count bytes
+    → 96 + rows_size bytes k + 2 * slot_count bytes ≤ 8192
+room_for bytes k long holds within =
+    let whole = parts bytes long holds in
+    let size = layout_size bytes (page_rows bytes) (layout_of bytes long holds) in
+    omega (arith, whole, size, rises bytes k (slot_count bytes) within)
+
+-- the row of a slot, put where the rows before it end, ends where the next begins, before the slots
+pub row_ends : (bytes row : List ℕ) (slot at : ℕ) → length bytes ≡ 8192 → spec.HoldsRows bytes → slot < slot_count bytes
+    → at ≡ 96 + rows_size bytes slot → row ≡ page_row bytes slot
+    → (at + length row ≡ 96 + rows_size bytes (slot + 1)) × (at + length row + 2 * slot_count bytes ≤ 8192)
+row_ends bytes row slot at long holds within start is =
+    let room = rows_room (header_of bytes) holds.room in
+    let size : length (page_row bytes slot) ≡ row_size bytes slot =
+    row_length bytes slot (omega (arith, room.within, long)) (row_stands bytes slot (holds.slots slot within)) in
+    let same : length row ≡ row_size bytes slot = ap length is ∙ size in
+    let more = rows_size_more bytes slot in
+    let below = room_for bytes (slot + 1) long holds (omega arith) in
+    (omega (arith, same, more), omega (arith, same, more, below))

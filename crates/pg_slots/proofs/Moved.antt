@@ -1,25 +1,19 @@
 -- Rows whose bytes stay, under slots that may be others.
-use Rattle.std.specs.Prelude.{◌≡◌, ◌≢◌, ◌⊎◌, ℕ, zero, suc, ◌+◌, ◌-◌, ◌*◌, ◌<◌, ◌≤◌, ◌==◌, ◌&&◌, Bool, true, false, IsTrue, List, [], ◌∷◌, length, take, drop, nat_le, slice_index, slice_range, if◌then◌else◌, refl}
-use Rattle.std.specs.List.{insert, remove, sum_by}
-use Rattle.std.proofs.Common.{arith, ap, sym, subst, ◌∙◌, inl, inr, get_or}
-use Rattle.std.proofs.lemmas.Bool.{cases_order, cases_eq, cases_lt, and_from, le-leb, eq-eqb, eqb-true, ne_eqb}
-use Rattle.std.proofs.lemmas.List.{get_or_default}
-use Rattle.std.proofs.lemmas.List.Sums.{sum_by-cons}
+use Rattle.std.specs.Prelude.{◌≡◌, ◌≢◌, ◌⊎◌, ℕ, ◌+◌, ◌*◌, ◌<◌, ◌≤◌, ◌==◌, IsTrue, List, [], length, slice_range}
+use Rattle.std.specs.List.{sum_by}
+use Rattle.std.proofs.Common.{arith, ap, ◌∙◌, inl, inr, get_or}
+use Rattle.std.proofs.lemmas.Bool.{and_from, le-leb, eqb-true}
 use Rattle.std.proofs.lemmas.List.FromFn.{length-map-range_with_len, get_or-map-range_with_len}
-use Rattle.std.proofs.lemmas.List.Edits.{length-insert, get_or-insert_below, get_or-insert_at, get_or-insert_above, length-remove, get_or-remove_below, get_or-remove_above}
-use Rattle.std.proofs.lemmas.List.Sorted.{IsPermutation-insert, IsPermutation-remove, sum_by-IsPermutation}
-use Rattle.spec_file.specs.Header.{header_of, header_version}
+use Rattle.spec_file.specs.Header.{header_of}
 use Rattle.spec_file.specs.declared.header.Header.{Header}
-use Rattle.spec_file.specs.declared.data.Kind.{Kind}
-use Rattle.spec_file.specs.declared.data.Kind.TheVariants.{Heap, Clustered}
 use Rattle.spec_rows.specs.Slots.{slot_limit, slot_count, rows_end, has_index_rows, slot_at, row_size, row_end, page_row, page_rows, rows_size, fits_page}
 use Rattle.spec_rows.specs.PageTest as spec
-use Rattle.spec_rows.specs.Changes.{with_counts, Stays, IsCompacted, IsPlaced, FitsBehind, IsInserted, AtEnd, Compacted, IsRemoved, IsReplaced}
-use Rattle.spec_rows.specs.SlotLaws.{RowStands, RowsRoom, row_stands, rows_room, rows_size_more}
+use Rattle.spec_rows.specs.Changes.{with_counts, Stays}
+use Rattle.spec_rows.specs.SlotLaws.{RowsRoom, row_stands, rows_room}
 use Rattle.spec_rows.specs.ApartLaws.{AreApart}
-use Rattle.spec_rows.specs.PartLaws.{byte_stays_in, part_stays_in}
+use Rattle.spec_rows.specs.PartLaws.{part_stays_in}
 use Rattle.spec_rows.specs.WholeRows.{row_length, row_fits}
-use Rattle.pg_slots.proofs.Arranged.{HasRow, has_row, Layout, layout_of, layout_size, layout_rows, holds_of}
+use Rattle.pg_slots.proofs.Arranged.{HasRow, has_row, layout_of, layout_size}
 
 -- the page has rows of the same kind
 pub same_kind : (before now : List ℕ) (a b c : ℕ) → header_of now ≡ with_counts a b c (header_of before) → has_index_rows now ≡ has_index_rows before
@@ -41,9 +35,9 @@ moved before now j from long holds within kind start ends stays =
     let here : Stays (slot_at before from) (row_end before from) before now =
     part_stays_in 26 (rows_end before) (slot_at before from) (row_end before from) before now stays (omega (arith, stands.from)) (omega arith) stands.within in
     has_row now j (page_row before from) (fits_still before now (page_row before from) kind fits) (omega (arith, start, stands.from))
-      (omega (arith, start, size, stands.within, ends))
-      (ap (λ (n : ℕ). slice_range now n (n + length (page_row before from))) start
-      ∙ ap (λ (n : ℕ). slice_range now (slot_at before from) (slot_at before from + n)) size ∙ here)
+    (omega (arith, start, size, stands.within, ends))
+    (ap (λ (n : ℕ). slice_range now n (n + length (page_row before from))) start
+    ∙ ap (λ (n : ℕ). slice_range now (slot_at before from) (slot_at before from + n)) size ∙ here)
 
 -- where a row stood before
 pub record Came (before now : List ℕ) (j : ℕ) : Type 0 where

@@ -1,26 +1,21 @@
 -- A row that is put behind the others.
-use Rattle.std.specs.Prelude.{◌≡◌, ◌≢◌, ◌⊎◌, ℕ, zero, suc, ◌+◌, ◌-◌, ◌*◌, ◌<◌, ◌≤◌, ◌==◌, ◌&&◌, Bool, true, false, IsTrue, List, [], ◌∷◌, length, take, drop, nat_le, slice_index, slice_range, if◌then◌else◌, refl}
-use Rattle.std.specs.List.{insert, remove, sum_by}
+use Rattle.std.specs.Prelude.{◌≡◌, ◌≢◌, ◌⊎◌, ℕ, ◌+◌, ◌-◌, ◌<◌, ◌≤◌, IsTrue, List, [], ◌∷◌, length, slice_range, refl}
+use Rattle.std.specs.List.{insert, sum_by}
 use Rattle.std.proofs.Common.{arith, ap, sym, subst, ◌∙◌, inl, inr, get_or}
-use Rattle.std.proofs.lemmas.Bool.{cases_order, cases_eq, cases_lt, and_from, le-leb, eq-eqb, eqb-true, ne_eqb}
-use Rattle.std.proofs.lemmas.List.{get_or_default}
+use Rattle.std.proofs.lemmas.Bool.{cases_order, cases_eq}
 use Rattle.std.proofs.lemmas.List.Sums.{sum_by-cons}
-use Rattle.std.proofs.lemmas.List.FromFn.{length-map-range_with_len, get_or-map-range_with_len}
-use Rattle.std.proofs.lemmas.List.Edits.{length-insert, get_or-insert_below, get_or-insert_at, get_or-insert_above, length-remove, get_or-remove_below, get_or-remove_above}
-use Rattle.std.proofs.lemmas.List.Sorted.{IsPermutation-insert, IsPermutation-remove, sum_by-IsPermutation}
-use Rattle.spec_file.specs.Header.{header_of, header_version}
+use Rattle.std.proofs.lemmas.List.Edits.{length-insert, get_or-insert_below, get_or-insert_at, get_or-insert_above}
+use Rattle.std.proofs.lemmas.List.Sorted.{IsPermutation-insert, sum_by-IsPermutation}
+use Rattle.spec_file.specs.Header.{header_of}
 use Rattle.spec_file.specs.declared.header.Header.{Header}
-use Rattle.spec_file.specs.declared.data.Kind.{Kind}
-use Rattle.spec_file.specs.declared.data.Kind.TheVariants.{Heap, Clustered}
-use Rattle.spec_rows.specs.Slots.{slot_limit, slot_count, rows_end, has_index_rows, slot_at, row_size, row_end, page_row, page_rows, rows_size, fits_page}
+use Rattle.spec_file.specs.declared.data.Kind.TheVariants.{Clustered}
+use Rattle.spec_rows.specs.Slots.{slot_count, rows_end, slot_at, page_row, page_rows, fits_page}
 use Rattle.spec_rows.specs.PageTest as spec
-use Rattle.spec_rows.specs.Changes.{with_counts, Stays, IsCompacted, IsPlaced, FitsBehind, IsInserted, AtEnd, Compacted, IsRemoved, IsReplaced}
-use Rattle.spec_rows.specs.SlotLaws.{RowStands, RowsRoom, row_stands, rows_room, rows_size_more}
-use Rattle.spec_rows.specs.ApartLaws.{AreApart}
-use Rattle.spec_rows.specs.PartLaws.{byte_stays_in, part_stays_in}
-use Rattle.spec_rows.specs.WholeRows.{row_length, row_fits}
-use Rattle.pg_slots.proofs.Arranged.{HasRow, has_row, Layout, layout_of, layout_size, layout_rows, holds_of}
-use Rattle.pg_slots.proofs.Moved.{same_kind, fits_still, moved, Came, came, apart_still, room_from, row_count, row_of_slot, parts}
+use Rattle.spec_rows.specs.Changes.{IsPlaced, FitsBehind}
+use Rattle.spec_rows.specs.SlotLaws.{row_stands, rows_room}
+use Rattle.spec_rows.specs.PartLaws.{byte_stays_in}
+use Rattle.pg_slots.proofs.Arranged.{HasRow, has_row, Layout, layout_of, layout_rows, holds_of}
+use Rattle.pg_slots.proofs.Moved.{same_kind, fits_still, moved, came, apart_still, room_from, row_count, row_of_slot, parts}
 
 record Placing (i : ℕ) (row before now : List ℕ) : Type 0 where
   long : length before ≡ 8192
@@ -41,14 +36,14 @@ placed_new i row before now g =
     let room = rows_room (header_of before) g.holds.room in
     let kind = same_kind before now _ _ _ g.placed.header in
     has_row now i row (fits_still before now row kind g.fits) (omega (arith, g.placed.here, room.from))
-      (omega (arith, g.placed.here, placed_end i row before now g))
-      (ap (λ (n : ℕ). slice_range now n (n + length row)) g.placed.here ∙ g.placed.placed)
+    (omega (arith, g.placed.here, placed_end i row before now g))
+    (ap (λ (n : ℕ). slice_range now n (n + length row)) g.placed.here ∙ g.placed.placed)
 
 placed_old : (i : ℕ) (row before now : List ℕ) → Placing i row before now → (j from : ℕ) → from < slot_count before
     → slot_at now j ≡ slot_at before from → HasRow now j (page_row before from)
 placed_old i row before now g j from within start =
     moved before now j from g.long g.holds within (same_kind before now _ _ _ g.placed.header) start
-      (omega (arith, placed_end i row before now g)) g.placed.others
+    (omega (arith, placed_end i row before now g)) g.placed.others
 
 -- slot j had another number, or the same
 record Shifted (i : ℕ) (row before now : List ℕ) (j : ℕ) : Type 0 where
@@ -65,12 +60,12 @@ shifted i row before now g j within other =
     elim (cases_order j i) [
       | inl same ↦ absurd (other same)
       | inr (inl below) ↦ record {
-          from = j;
-          within = omega (arith, below, g.within);
-          start = g.placed.earlier j below;
-          place = inl (below, refl);
-          row_is = get_or-insert_below (page_rows before) i row [] j below (omega (arith, rows, g.within)) ∙ row_of_slot before j (omega (arith, below, g.within));
-        }
+        from = j;
+        within = omega (arith, below, g.within);
+        start = g.placed.earlier j below;
+        place = inl (below, refl);
+        row_is = get_or-insert_below (page_rows before) i row [] j below (omega (arith, rows, g.within)) ∙ row_of_slot before j (omega (arith, below, g.within));
+      }
       | inr (inr above) ↦
           let next : j ≡ (j - 1) + 1 = omega (arith, above) in
           record {
@@ -79,8 +74,8 @@ shifted i row before now g j within other =
             start = ap (slot_at now) next ∙ g.placed.later (j - 1) (omega (arith, above)) (omega (arith, above, within, count));
             place = inr (above, sym next);
             row_is = ap (λ (k : ℕ). get_or (insert (page_rows before) i row) k []) next
-            ∙ get_or-insert_above (page_rows before) i row [] (j - 1) (omega (arith, above)) (omega (arith, rows, g.within))
-            ∙ row_of_slot before (j - 1) (omega (arith, above, within, count));
+                ∙ get_or-insert_above (page_rows before) i row [] (j - 1) (omega (arith, above)) (omega (arith, rows, g.within))
+                ∙ row_of_slot before (j - 1) (omega (arith, above, within, count));
           }
     ]
 
@@ -95,14 +90,14 @@ placed_layout i row before now g =
     let fresh = placed_new i row before now g in
     let size = length-insert (page_rows before) i row (omega (arith, rows, g.within)) in
     let old = λ (j : ℕ) (j_in : j < slot_count now) (other : j ≢ i).
-      let s = shifted i row before now g j j_in other in
-      came before now j s.from g.long g.holds s.within s.start (placed_old i row before now g j s.from s.within s.start) in
+    let s = shifted i row before now g j j_in other in
+    came before now j s.from g.long g.holds s.within s.start (placed_old i row before now g j s.from s.within s.start) in
     record {
       count = omega (arith, count, size, rows);
       each = λ j within. elim (cases_eq j i) [
         | inl same ↦
             subst (λ (k : ℕ). HasRow now k (get_or (insert (page_rows before) i row) k [])) (sym same)
-              (subst (HasRow now i) (sym (get_or-insert_at (page_rows before) i row [] (omega (arith, rows, g.within)))) fresh)
+            (subst (HasRow now i) (sym (get_or-insert_at (page_rows before) i row [] (omega (arith, rows, g.within)))) fresh)
         | inr other ↦
             let s = shifted i row before now g j (omega (arith, within, count, size, rows)) other in
             subst (HasRow now j) (sym s.row_is) (placed_old i row before now g j s.from s.within s.start)
@@ -113,16 +108,16 @@ placed_layout i row before now g =
             let stands = row_stands before k_old.from (g.holds.slots k_old.from k_old.within) in
             inr (omega (arith, ap (slot_at now) first, g.placed.here, k_old.stop, stands.within))
         | inr j_old ↦ elim (cases_eq k i) [
-            | inl second ↦
-                let j_came = old j j_in j_old in
-                let stands = row_stands before j_came.from (g.holds.slots j_came.from j_came.within) in
-                inl (omega (arith, ap (slot_at now) second, g.placed.here, j_came.stop, stands.within))
-            | inr k_old ↦
-                let s = shifted i row before now g j j_in j_old in
-                let t = shifted i row before now g k k_in k_old in
-                apart_still before now j k (layout_of before g.long g.holds).apart (old j j_in j_old) (old k k_in k_old)
-                  (places_differ i j k s.from t.from s.place t.place other)
-          ]
+          | inl second ↦
+              let j_came = old j j_in j_old in
+              let stands = row_stands before j_came.from (g.holds.slots j_came.from j_came.within) in
+              inl (omega (arith, ap (slot_at now) second, g.placed.here, j_came.stop, stands.within))
+          | inr k_old ↦
+              let s = shifted i row before now g j j_in j_old in
+              let t = shifted i row before now g k k_in k_old in
+              apart_still before now j k (layout_of before g.long g.holds).apart (old j j_in j_old) (old k k_in k_old)
+              (places_differ i j k s.from t.from s.place t.place other)
+        ]
       ];
     }
 
@@ -138,15 +133,16 @@ placed_all i row before now g enough =
     let sum : sum_by length (insert (page_rows before) i row) ≡ length row + sum_by length (page_rows before) =
     sum_by-IsPermutation length (row ∷ page_rows before) (insert (page_rows before) i row) (IsPermutation-insert (page_rows before) i row)
     ∙ sum_by-cons length row (page_rows before) in
-    let free : (header_of now).free_count ≡ (header_of before).free_count - (length row + 2) = ap (λ (h : Header). h.free_count) header in
-    (holds_of now (insert (page_rows before) i row) layout
-        (subst (λ (h : Header). IsTrue (spec.has_row_type Clustered h)) (sym header) g.holds.type)
-        (byte_stays_in 0 20 0 before now g.placed.front (omega arith) (omega arith) ∙ g.holds.version)
-        (subst (λ (h : Header). IsTrue (spec.has_level h)) (sym header) g.holds.level)
-        (room_from (header_of now) (record { few = omega (arith, count, g.behind, room.from); from = omega (arith, ends, room.from); within = omega (arith, count, ends, g.behind) }))
-        (subst (λ (h : Header). IsTrue (spec.has_no_ghosts h)) (sym header) g.holds.ghosts)
-        (omega (arith, free, sum, whole, count, enough)),
-      layout_rows now (insert (page_rows before) i row) layout)
+    let free : (header_of now).free_count ≡ (header_of before).free_count - (length row + 2) = ap (λ (h : Header). h.free_count) header in (
+      holds_of now (insert (page_rows before) i row) layout
+          (subst (λ (h : Header). IsTrue (spec.has_row_type Clustered h)) (sym header) g.holds.type)
+          (byte_stays_in 0 20 0 before now g.placed.front (omega arith) (omega arith) ∙ g.holds.version)
+          (subst (λ (h : Header). IsTrue (spec.has_level h)) (sym header) g.holds.level)
+          (room_from (header_of now) (record { few = omega (arith, count, g.behind, room.from); from = omega (arith, ends, room.from); within = omega (arith, count, ends, g.behind) }))
+          (subst (λ (h : Header). IsTrue (spec.has_no_ghosts h)) (sym header) g.holds.ghosts)
+          (omega (arith, free, sum, whole, count, enough)),
+      layout_rows now (insert (page_rows before) i row) layout,
+    )
 
 pub placed_holds : (i : ℕ) (row before now : List ℕ) → length before ≡ 8192 → spec.HoldsRows before → IsTrue (fits_page before row)
     → i ≤ slot_count before → FitsBehind row before → length row + 2 ≤ (header_of before).free_count → IsPlaced i row before now

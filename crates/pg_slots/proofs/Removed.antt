@@ -1,26 +1,22 @@
 -- A row that is removed.
-use Rattle.std.specs.Prelude.{◌≡◌, ◌≢◌, ◌⊎◌, ℕ, zero, suc, ◌+◌, ◌-◌, ◌*◌, ◌<◌, ◌≤◌, ◌==◌, ◌&&◌, Bool, true, false, IsTrue, List, [], ◌∷◌, length, take, drop, nat_le, slice_index, slice_range, if◌then◌else◌, refl}
-use Rattle.std.specs.List.{insert, remove, sum_by}
+use Rattle.std.specs.Prelude.{◌≡◌, ◌≢◌, ◌⊎◌, ℕ, ◌+◌, ◌-◌, ◌*◌, ◌<◌, ◌≤◌, ◌==◌, false, IsTrue, List, [], ◌∷◌, length, refl}
+use Rattle.std.specs.List.{remove, sum_by}
 use Rattle.std.proofs.Common.{arith, ap, sym, subst, ◌∙◌, inl, inr, get_or}
-use Rattle.std.proofs.lemmas.Bool.{cases_order, cases_eq, cases_lt, and_from, le-leb, eq-eqb, eqb-true, ne_eqb}
+use Rattle.std.proofs.lemmas.Bool.{cases_eq, cases_lt, eq-eqb, ne_eqb}
 use Rattle.std.proofs.lemmas.List.{get_or_default}
 use Rattle.std.proofs.lemmas.List.Sums.{sum_by-cons}
-use Rattle.std.proofs.lemmas.List.FromFn.{length-map-range_with_len, get_or-map-range_with_len}
-use Rattle.std.proofs.lemmas.List.Edits.{length-insert, get_or-insert_below, get_or-insert_at, get_or-insert_above, length-remove, get_or-remove_below, get_or-remove_above}
-use Rattle.std.proofs.lemmas.List.Sorted.{IsPermutation-insert, IsPermutation-remove, sum_by-IsPermutation}
-use Rattle.spec_file.specs.Header.{header_of, header_version}
+use Rattle.std.proofs.lemmas.List.Edits.{length-remove, get_or-remove_below, get_or-remove_above}
+use Rattle.std.proofs.lemmas.List.Sorted.{IsPermutation-remove, sum_by-IsPermutation}
+use Rattle.spec_file.specs.Header.{header_of}
 use Rattle.spec_file.specs.declared.header.Header.{Header}
-use Rattle.spec_file.specs.declared.data.Kind.{Kind}
-use Rattle.spec_file.specs.declared.data.Kind.TheVariants.{Heap, Clustered}
-use Rattle.spec_rows.specs.Slots.{slot_limit, slot_count, rows_end, has_index_rows, slot_at, row_size, row_end, page_row, page_rows, rows_size, fits_page}
+use Rattle.spec_file.specs.declared.data.Kind.TheVariants.{Clustered}
+use Rattle.spec_rows.specs.Slots.{slot_count, rows_end, slot_at, row_size, page_row, page_rows}
 use Rattle.spec_rows.specs.PageTest as spec
-use Rattle.spec_rows.specs.Changes.{with_counts, Stays, IsCompacted, IsPlaced, FitsBehind, IsInserted, AtEnd, Compacted, IsRemoved, IsReplaced}
-use Rattle.spec_rows.specs.SlotLaws.{RowStands, RowsRoom, row_stands, rows_room, rows_size_more}
-use Rattle.spec_rows.specs.ApartLaws.{AreApart}
+use Rattle.spec_rows.specs.Changes.{IsRemoved}
+use Rattle.spec_rows.specs.SlotLaws.{rows_room}
 use Rattle.spec_rows.specs.PartLaws.{byte_stays_in, part_stays_in}
-use Rattle.spec_rows.specs.WholeRows.{row_length, row_fits}
-use Rattle.pg_slots.proofs.Arranged.{HasRow, has_row, Layout, layout_of, layout_size, layout_rows, holds_of}
-use Rattle.pg_slots.proofs.Moved.{same_kind, fits_still, moved, Came, came, apart_still, room_from, row_count, row_of_slot, parts}
+use Rattle.pg_slots.proofs.Arranged.{HasRow, Layout, layout_of, layout_rows, holds_of}
+use Rattle.pg_slots.proofs.Moved.{same_kind, moved, came, apart_still, room_from, row_count, row_of_slot, parts}
 
 record Removing (i : ℕ) (before now : List ℕ) : Type 0 where
   long : length before ≡ 8192
@@ -45,7 +41,7 @@ removed_old i before now g j from left within start =
     let room = rows_room (header_of before) g.holds.room in
     let ends = removed_end i before now g (omega (arith, left)) in
     moved before now j from g.long g.holds within (same_kind before now _ _ _ g.removed.header) start (omega (arith, ends))
-      (part_stays_in 26 (8192 - 2 * slot_count before) 26 (rows_end before) before now g.removed.others (omega arith) (omega (arith, room.from)) (omega (arith, room.within)))
+    (part_stays_in 26 (8192 - 2 * slot_count before) 26 (rows_end before) before now g.removed.others (omega arith) (omega (arith, room.from)) (omega (arith, room.within)))
 
 record Closed (i : ℕ) (before now : List ℕ) (j : ℕ) : Type 0 where
   from : ℕ
@@ -60,19 +56,19 @@ closed i before now g j within =
     let rows = row_count before in
     elim (cases_lt j i) [
       | inl below ↦ record {
-          from = j;
-          within = omega (arith, below, g.within);
-          start = g.removed.earlier j below;
-          place = inl (below, refl);
-          row_is = get_or-remove_below (page_rows before) i [] j below (omega (arith, rows, g.within)) ∙ row_of_slot before j (omega (arith, below, g.within));
-        }
+        from = j;
+        within = omega (arith, below, g.within);
+        start = g.removed.earlier j below;
+        place = inl (below, refl);
+        row_is = get_or-remove_below (page_rows before) i [] j below (omega (arith, rows, g.within)) ∙ row_of_slot before j (omega (arith, below, g.within));
+      }
       | inr above ↦ record {
-          from = j + 1;
-          within = omega (arith, count);
-          start = g.removed.later j above (omega (arith, count));
-          place = inr (above, refl);
-          row_is = get_or-remove_above (page_rows before) i [] j above (omega (arith, rows, g.within)) ∙ row_of_slot before (j + 1) (omega (arith, count));
-        }
+        from = j + 1;
+        within = omega (arith, count);
+        start = g.removed.later j above (omega (arith, count));
+        place = inr (above, refl);
+        row_is = get_or-remove_above (page_rows before) i [] j above (omega (arith, rows, g.within)) ∙ row_of_slot before (j + 1) (omega (arith, count));
+      }
     ]
 
 closed_differ : (i j k f g : ℕ) → ((j < i) × (f ≡ j)) ⊎ ((i ≤ j) × (f ≡ j + 1)) → ((k < i) × (g ≡ k)) ⊎ ((i ≤ k) × (g ≡ k + 1)) → j ≢ k → f ≢ g
@@ -85,18 +81,18 @@ removed_layout i before now g =
     let rows = row_count before in
     let size = length-remove (page_rows before) i (omega (arith, rows, g.within)) in
     let old = λ (j : ℕ) (j_in : j < slot_count now).
-      let s = closed i before now g j j_in in
-      came before now j s.from g.long g.holds s.within s.start (removed_old i before now g j s.from j_in s.within s.start) in
+    let s = closed i before now g j j_in in
+    came before now j s.from g.long g.holds s.within s.start (removed_old i before now g j s.from j_in s.within s.start) in
     record {
       count = omega (arith, count, size, rows);
       each = λ j within.
-        let j_in : j < slot_count now = omega (arith, within, count, size, rows) in
-        let s = closed i before now g j j_in in
-        subst (HasRow now j) (sym s.row_is) (removed_old i before now g j s.from j_in s.within s.start);
+          let j_in : j < slot_count now = omega (arith, within, count, size, rows) in
+          let s = closed i before now g j j_in in
+          subst (HasRow now j) (sym s.row_is) (removed_old i before now g j s.from j_in s.within s.start);
       apart = λ j k j_in k_in other.
-        let s = closed i before now g j j_in in
-        let t = closed i before now g k k_in in
-        apart_still before now j k (layout_of before g.long g.holds).apart (old j j_in) (old k k_in) (closed_differ i j k s.from t.from s.place t.place other);
+          let s = closed i before now g j j_in in
+          let t = closed i before now g k k_in in
+          apart_still before now j k (layout_of before g.long g.holds).apart (old j j_in) (old k k_in) (closed_differ i j k s.from t.from s.place t.place other);
     }
 
 removed_all : (i : ℕ) (before now : List ℕ) → Removing i before now → spec.HoldsRows now × (page_rows now ≡ remove (page_rows before) i)
@@ -110,7 +106,7 @@ removed_all i before now g =
     let size = (gone.each i (omega (arith, row_count before, g.within))).size in
     let sum : sum_by length (get_or (page_rows before) i [] ∷ remove (page_rows before) i) ≡ sum_by length (page_rows before) =
     sum_by-IsPermutation length (page_rows before) (get_or (page_rows before) i [] ∷ remove (page_rows before) i)
-      (IsPermutation-remove (page_rows before) i (get_or (page_rows before) i []) (omega (arith, row_count before, g.within)) (get_or_default (page_rows before) i [] (get_or (page_rows before) i []) (omega (arith, row_count before, g.within)))) in
+    (IsPermutation-remove (page_rows before) i (get_or (page_rows before) i []) (omega (arith, row_count before, g.within)) (get_or_default (page_rows before) i [] (get_or (page_rows before) i []) (omega (arith, row_count before, g.within)))) in
     let split : length (get_or (page_rows before) i []) + sum_by length (remove (page_rows before) i) ≡ sum_by length (page_rows before) =
     sym (sum_by-cons length (get_or (page_rows before) i []) (remove (page_rows before) i)) ∙ sum in
     let free : (header_of now).free_count ≡ (header_of before).free_count + row_size before i + 2 = ap (λ (h : Header). h.free_count) header in
@@ -121,15 +117,16 @@ removed_all i before now g =
       | inr several ↦
           let start = removed_end i before now g (omega (arith, several, count, g.within)) in
           (omega (arith, start, room.from), omega (arith, start, room.within, count))
-    ] in
-    (holds_of now (remove (page_rows before) i) layout
-        (subst (λ (h : Header). IsTrue (spec.has_row_type Clustered h)) (sym header) g.holds.type)
-        (byte_stays_in 0 20 0 before now g.removed.front (omega arith) (omega arith) ∙ g.holds.version)
-        (subst (λ (h : Header). IsTrue (spec.has_level h)) (sym header) g.holds.level)
-        (room_from (header_of now) (record { few = omega (arith, count, room.few); from = ends.0; within = ends.1 }))
-        (subst (λ (h : Header). IsTrue (spec.has_no_ghosts h)) (sym header) g.holds.ghosts)
-        (omega (arith, free, split, size, whole, count)),
-      layout_rows now (remove (page_rows before) i) layout)
+    ] in (
+      holds_of now (remove (page_rows before) i) layout
+          (subst (λ (h : Header). IsTrue (spec.has_row_type Clustered h)) (sym header) g.holds.type)
+          (byte_stays_in 0 20 0 before now g.removed.front (omega arith) (omega arith) ∙ g.holds.version)
+          (subst (λ (h : Header). IsTrue (spec.has_level h)) (sym header) g.holds.level)
+          (room_from (header_of now) (record { few = omega (arith, count, room.few); from = ends.0; within = ends.1 }))
+          (subst (λ (h : Header). IsTrue (spec.has_no_ghosts h)) (sym header) g.holds.ghosts)
+          (omega (arith, free, split, size, whole, count)),
+      layout_rows now (remove (page_rows before) i) layout,
+    )
 
 pub removed_holds : (i : ℕ) (before now : List ℕ) → length before ≡ 8192 → spec.HoldsRows before → i < slot_count before → IsRemoved i before now
     → spec.HoldsRows now × (page_rows now ≡ remove (page_rows before) i)

@@ -1,10 +1,11 @@
-ghost use Rattle.std.specs.Prelude.{◌≡◌, ◌+◌, ◌<◌, ◌≤◌, ◌==◌, if◌then◌else◌, length};
-ghost use Rattle.std.specs.List.{remove};
+ghost use Rattle.std.specs.Prelude.{◌≡◌, ◌↔◌, ◌+◌, ◌<◌, ◌≤◌, ◌==◌, if◌then◌else◌, IsTrue, IsErr, IfErr, OnErr, OnOk, length, slice_set};
+ghost use Rattle.std.specs.List.{insert, remove};
 ghost use Rattle.spec_file.specs.Header.{header_of};
 ghost use Rattle.spec_rows.specs.Slots as slots;
 ghost use Rattle.spec_rows.specs.PageTest.{HoldsRows};
 ghost use Rattle.spec_rows.specs.Changes as spec;
 
+use crate::pack::compact;
 use crate::puts::{close_slot, is_whole, open_slot, put_row, set_counts};
 use crate::slot::{size_at, slot_at};
 use pg_base::{Header, Page, read_header};
@@ -44,7 +45,11 @@ fn take_out(page: &mut Page, i: u16)
 fn end_without_one(header: &Header) -> u16
     ensures { result ≡ (if header.now.slots == 1 then 96 else header.now.free_from) }
 {
-    if header.slots == 1 { 96 } else { header.free_from }
+    if header.slots == 1 {
+        96
+    } else {
+        header.free_from
+    }
 }
 
 // Puts a row where the others end, as row i.
@@ -67,4 +72,109 @@ fn place(page: &mut Page, i: u16, row: &[u8])
         header.free_from + size,
     );
     is_whole(page);
+}
+
+/// A page has no room for a row.
+#[derive(Clone, Copy, Debug, PartialEq, Eq)]
+pub struct NoRoom {
+    /// How many bytes are free; for a replacement with those of the old row.
+    pub free: u16,
+}
+
+/// Puts a row in as row i. Where the page has no room for it and its slot, nothing changes.
+pub fn insert_at(page: &mut Page, i: u16, row: &[u8]) -> Result<(), NoRoom>
+    requires holds { HoldsRows page.old.bytes }
+    requires i { i ≤ slots.slot_count page.old.bytes }
+    requires fits { IsTrue (slots.fits_page page.old.bytes row.now) }
+    ensures full { IsErr result ↔ ((header_of page.old.bytes).free_count < length row.now + 2) }
+    ensures free { IfErr result (λ full. full.free ≡ (header_of page.old.bytes).free_count) }
+    ensures unchanged { OnErr result (page.new.bytes ≡ page.old.bytes) }
+    ensures inserted { OnOk result (spec.IsInserted i row.now page.old.bytes page.new.bytes) }
+    ensures rows { OnOk result (slots.page_rows page.new.bytes ≡ insert (slots.page_rows page.old.bytes) i row.now) }
+    ensures holds { OnOk result (HoldsRows page.new.bytes) }
+    ensures test { OnOk result (spec.MeetsTest page.old.bytes page.new.bytes) }
+{
+    let free = read_header(page).free_count;
+    if (free as usize) < row.len() + 2 {
+        return Err(NoRoom { free });
+    }
+    put_in(page, i, row);
+    Ok(())
+}
+
+/// Replaces row i. Where the page has no room for the new row, nothing changes.
+pub fn replace_at(page: &mut Page, i: u16, row: &[u8]) -> Result<(), NoRoom>
+    requires holds { HoldsRows page.old.bytes }
+    requires i { i < slots.slot_count page.old.bytes }
+    requires fits { IsTrue (slots.fits_page page.old.bytes row.now) }
+    ensures full { IsErr result ↔ ((header_of page.old.bytes).free_count + slots.row_size page.old.bytes i < length row.now) }
+    ensures free { IfErr result (λ full. full.free ≡ (header_of page.old.bytes).free_count + slots.row_size page.old.bytes i) }
+    ensures unchanged { OnErr result (page.new.bytes ≡ page.old.bytes) }
+    ensures replaced { OnOk result (spec.IsReplaced i row.now page.old.bytes page.new.bytes) }
+    ensures rows { OnOk result (slots.page_rows page.new.bytes ≡ slice_set (slots.page_rows page.old.bytes) i row.now) }
+    ensures holds { OnOk result (HoldsRows page.new.bytes) }
+    ensures test { OnOk result (spec.MeetsTest page.old.bytes page.new.bytes) }
+{
+    let header = read_header(page);
+    let free = header.free_count + size_at(page, &header, slot_at(page, i));
+    if (free as usize) < row.len() {
+        return Err(NoRoom { free });
+    }
+    exchange(page, i, row);
+    Ok(())
+}
+
+// Replaces row i where there is room.
+fn exchange(page: &mut Page, i: u16, row: &[u8])
+    requires holds { HoldsRows page.old.bytes }
+    requires i { i < slots.slot_count page.old.bytes }
+    requires fits { IsTrue (slots.fits_page page.old.bytes row.now) }
+    requires room { length row.now ≤ (header_of page.old.bytes).free_count + slots.row_size page.old.bytes i }
+    ensures replaced { spec.IsReplaced i row.now page.old.bytes page.new.bytes }
+    ensures rows { slots.page_rows page.new.bytes ≡ slice_set (slots.page_rows page.old.bytes) i row.now }
+    ensures holds { HoldsRows page.new.bytes }
+    ensures test { spec.MeetsTest page.old.bytes page.new.bytes }
+{
+    remove_at(page, i);
+    put_in(page, i, row);
+}
+
+// Puts a row in where there is room.
+fn put_in(page: &mut Page, i: u16, row: &[u8])
+    requires holds { HoldsRows page.old.bytes }
+    requires i { i ≤ slots.slot_count page.old.bytes }
+    requires fits { IsTrue (slots.fits_page page.old.bytes row.now) }
+    requires room { length row.now + 2 ≤ (header_of page.old.bytes).free_count }
+    ensures inserted { spec.IsInserted i row.now page.old.bytes page.new.bytes }
+    ensures rows { slots.page_rows page.new.bytes ≡ insert (slots.page_rows page.old.bytes) i row.now }
+    ensures holds { HoldsRows page.new.bytes }
+    ensures test { spec.MeetsTest page.old.bytes page.new.bytes }
+{
+    is_whole(page);
+    find_place(page, i, row);
+}
+
+// Puts a row behind the others, which are moved together where it doesn't fit there.
+fn find_place(page: &mut Page, i: u16, row: &[u8])
+    requires holds { HoldsRows page.old.bytes }
+    requires i { i ≤ slots.slot_count page.old.bytes }
+    requires room { length row.now + 2 ≤ (header_of page.old.bytes).free_count }
+    ensures { spec.IsInserted i row.now page.old.bytes page.new.bytes }
+{
+    is_whole(page);
+    if fits_behind(page, row) {
+        place(page, i, row);
+        return;
+    }
+    compact(page);
+    place(page, i, row);
+}
+
+// The row and its slot fit behind the others.
+fn fits_behind(page: &Page, row: &[u8]) -> bool
+    requires { length row.now ≤ 8192 }
+    ensures { IsTrue result ↔ spec.FitsBehind row.now page.now.bytes }
+{
+    let header = read_header(page);
+    header.free_from as usize + row.len() + 2 * (header.slots as usize + 1) <= 8192
 }

@@ -32,8 +32,8 @@ impl SlotView<'_> {
     }
 }
 
-// The bytes of row i.
-fn row_at(page: &Page, i: u16) -> &[u8]
+/// The bytes of row i.
+pub(crate) fn row_at(page: &Page, i: u16) -> &[u8]
     requires holds { HoldsRows page.now.bytes }
     requires i { i < slots.slot_count page.now.bytes }
     ensures row { result.now ≡ slots.page_row page.now.bytes i }

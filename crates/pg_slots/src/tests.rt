@@ -1,7 +1,10 @@
-ghost use Rattle.std.specs.Prelude.{◌<◌};
+ghost use Rattle.std.specs.Prelude.{◌≡◌, ◌<◌, IsTrue};
+ghost use Rattle.spec_rows.specs.Rows as rows;
+ghost use Rattle.spec_rows.specs.PageTest.{PassesTest};
+ghost use Rattle.spec_file.specs.declared.data.Kind.TheVariants.{Heap};
 
 use super::*;
-use pg_base::{Header, Kind, ObjId, Page, PageNo, put_u16, write_header};
+use pg_base::{Header, Kind, ObjId, Page, PageNo, put_u16, read_header, u16_at, write_header};
 use std::test::Fail;
 
 // A heap page of object 1 with one row, key 1 and payload `a`.
@@ -162,5 +165,103 @@ fn rows_that_overlap_are_told_in_the_order_of_offsets(rt: HostRuntime) -> Result
             expected
         );
     }
+    Ok(())
+}
+
+// An empty heap page of object 1.
+const EMPTY: Header = Header {
+    slots: 0,
+    free_count: 8096,
+    free_from: 96,
+    ..HEADER
+};
+
+// How many rows the page has, what is free, where the rows end, and where the first begins.
+fn counts(page: &Page) -> (u16, u16, u16, u16) {
+    let header = read_header(page);
+    (
+        header.slots,
+        header.free_count,
+        header.free_from,
+        u16_at(&page.bytes, 8190),
+    )
+}
+
+fn passes(page: &Page) -> bool
+    ensures { IsTrue result → PassesTest 10 1 Heap page.now.bytes }
+{
+    test_page(page, PageNo(10), ObjId(1), Kind::Heap).is_ok()
+}
+
+fn is_data_row(row: &[u8]) -> bool
+    ensures { result ≡ rows.is_data_row row.now }
+{
+    row.len() >= 11 && row.len() <= 1024 && row[0] == 0x10 && u16_at(row, 1) as usize == row.len()
+}
+
+// Whether a row went in; the answer of a page that fails its test is none.
+fn put(page: &mut Page, i: u16, row: &[u8]) -> Option<Result<(), NoRoom>> {
+    if !passes(page) || !is_data_row(row) || i > read_header(page).slots {
+        return None;
+    }
+    Some(insert_at(page, i, row))
+}
+
+fn exchange(page: &mut Page, i: u16, row: &[u8]) -> Option<Result<(), NoRoom>> {
+    if !passes(page) || !is_data_row(row) || i >= read_header(page).slots {
+        return None;
+    }
+    Some(replace_at(page, i, row))
+}
+
+fn take(page: &mut Page, i: u16) {
+    if passes(page) && i < read_header(page).slots {
+        remove_at(page, i);
+    }
+}
+
+fn together(page: &mut Page) {
+    if passes(page) {
+        compact(page);
+    }
+}
+
+#[test]
+fn rows_go_in_and_out(rt: HostRuntime) -> Result<(), Fail> {
+    let mut page = Page::zeroed(rt.alloc())?;
+    write_header(&mut page, &EMPTY);
+    assert_eq!(rt; put(&mut page, 0, &ROW), Some(Ok(())));
+    assert_eq!(rt; counts(&page), (1, 8082, 108, 96));
+    assert_eq!(rt; put(&mut page, 0, &ROW), Some(Ok(())));
+    assert_eq!(rt; counts(&page), (2, 8068, 120, 108));
+    take(&mut page, 0);
+    assert_eq!(rt; counts(&page), (1, 8082, 120, 96));
+    assert_eq!(rt; u16_at(&page.bytes, 8188), 0);
+    together(&mut page);
+    assert_eq!(rt; counts(&page), (1, 8082, 108, 96));
+    assert_eq!(rt; page.bytes[108..120], [0; 12][..]);
+    assert_eq!(rt; exchange(&mut page, 0, &ROW), Some(Ok(())));
+    assert_eq!(rt; counts(&page), (1, 8082, 108, 96));
+    assert!(rt; passes(&page));
+    Ok(())
+}
+
+#[test]
+fn a_full_page_takes_no_row_until_one_goes(rt: HostRuntime) -> Result<(), Fail> {
+    let mut page = Page::zeroed(rt.alloc())?;
+    write_header(&mut page, &EMPTY);
+    let mut row = [0; 1024];
+    row[0] = 0x10;
+    row[2] = 4;
+    for i in 0..7 {
+        assert_eq!(rt; put(&mut page, i, &row), Some(Ok(())));
+    }
+    assert_eq!(rt; counts(&page), (7, 914, 7264, 96));
+    assert_eq!(rt; put(&mut page, 7, &row), Some(Err(NoRoom { free: 914 })));
+    assert_eq!(rt; counts(&page), (7, 914, 7264, 96));
+    take(&mut page, 0);
+    take(&mut page, 0);
+    assert_eq!(rt; put(&mut page, 0, &row), Some(Ok(())));
+    assert_eq!(rt; counts(&page), (6, 1940, 6240, 5216));
     Ok(())
 }

@@ -2,6 +2,10 @@
 #![tactic(auto)]
 
 #[cfg(test)]
+mod chain_tests;
+#[cfg(test)]
 mod files;
+#[cfg(test)]
+mod objects;
 #[cfg(test)]
 mod tests;

@@ -23,8 +23,8 @@ chain_has_one_length g image row m n a b =
 pub page_below : (g : Geometry) (image : Image) (row : CatalogRow) (n k : ℕ) → HasLength g image row n → IsChainPage g image row k → k < n
 page_below g image row n k length is =
     ⊎_elim (λ below. below) (λ beyond. absurd (length.ends (is n (omega (arith, beyond))))) (split k n) where
-  split : (k n : ℕ) → (k < n) ⊎ (n ≤ k)
-  split k n = search (rules, arith)
+      split : (k n : ℕ) → (k < n) ⊎ (n ≤ k)
+      split k n = search (rules, arith)
 
 pub below_page : (g : Geometry) (image : Image) (row : CatalogRow) (n k : ℕ) → HasPages g image row n → k < n → IsChainPage g image row k
 below_page g image row n k pages below = λ j h. pages j (omega (arith, h, below))

@@ -4,9 +4,9 @@
 
 mod end;
 
-pub use end::ChainEnd;
-
 ghost use Rattle.spec_chain.specs.ChainLaws.{ChainHasOneLength};
+
+pub use end::ChainEnd;
 
 /// A chain ends at one place.
 pub fn chain_law()

@@ -4,5 +4,4 @@ pub mod Maps
 pub mod Pages
 pub mod Chains
 pub mod Allocation
-pub mod Written
 pub mod Text

@@ -1,10 +1,9 @@
 -- No two rows of a page share a byte.
-use Rattle.std.specs.Prelude.{◌≡◌, ◌≢◌, ◌⊎◌, ℕ, zero, suc, ◌+◌, ◌-◌, ◌*◌, ◌<◌, ◌≤◌, List, refl}
-use Rattle.std.proofs.Common.{arith, ap, sym, subst, inl, inr}
+use Rattle.std.specs.Prelude.{◌≢◌, ◌⊎◌, ℕ, zero, suc, ◌+◌, ◌<◌, ◌≤◌, List}
+use Rattle.std.proofs.Common.{arith, ap, inl, inr}
 use Rattle.std.proofs.lemmas.Bool.{cases_order, cases_lt}
 use Rattle.spec_rows.specs.Slots.{slot_limit, slot_count, slot_at, row_size, row_end}
-use Rattle.spec_rows.specs.PageTest.{ComesBefore, IsOneBefore, OrderPasses, SlotsPass}
-use Rattle.spec_rows.specs.SlotLaws.{row_stands}
+use Rattle.spec_rows.specs.PageTest.{OrderPasses, SlotsPass}
 use Rattle.spec_rows.specs.OrderLaws.{order_key, key_from_order, order_from_key}
 
 -- of two rows one ends before the other begins
@@ -21,20 +20,20 @@ find_between key low high zero = inr (λ found. omega (arith, found.1))
 find_between key low high (suc n) = elim (find_between key low high n) [
   | inl found ↦ inl (found.0, omega (arith, found.1), found.2, found.3)
   | inr none ↦ elim (cases_lt low (key n)) [
-      | inr under ↦ inr (λ found. elim (cases_order found.0 n) [
-          | inl same ↦ omega (arith, found.2, under, ap key same)
-          | inr (inl below) ↦ none (found.0, below, found.2, found.3)
-          | inr (inr above) ↦ omega (arith, found.1, above)
-        ])
-      | inl over ↦ elim (cases_lt (key n) high) [
-          | inl inside ↦ inl (n, omega arith, over, inside)
-          | inr above ↦ inr (λ found. elim (cases_order found.0 n) [
-              | inl same ↦ omega (arith, found.3, above, ap key same)
-              | inr (inl below) ↦ none (found.0, below, found.2, found.3)
-              | inr (inr over) ↦ omega (arith, found.1, over)
-            ])
-        ]
+    | inr under ↦ inr (λ found. elim (cases_order found.0 n) [
+      | inl same ↦ omega (arith, found.2, under, ap key same)
+      | inr (inl below) ↦ none (found.0, below, found.2, found.3)
+      | inr (inr above) ↦ omega (arith, found.1, above)
+    ])
+    | inl over ↦ elim (cases_lt (key n) high) [
+      | inl inside ↦ inl (n, omega arith, over, inside)
+      | inr above ↦ inr (λ found. elim (cases_order found.0 n) [
+        | inl same ↦ omega (arith, found.3, above, ap key same)
+        | inr (inl below) ↦ none (found.0, below, found.2, found.3)
+        | inr (inr over) ↦ omega (arith, found.1, over)
+      ])
     ]
+  ]
 ]
 
 -- a row that comes before another ends before it begins
@@ -50,12 +49,12 @@ ends_before bytes (suc fuel) i j few slots order i_in j_in less near =
           let second = ends_before bytes fuel k j few slots order found.1 j_in found.3 (omega (arith, found.2)) in
           omega (arith, first, second)
       | inr none ↦ order i j (record {
-          first = i_in;
-          second = j_in;
-          before = order_from_key bytes i j (omega arith) (omega arith) less;
-          none_between = λ k k_in after before.
+        first = i_in;
+        second = j_in;
+        before = order_from_key bytes i j (omega arith) (omega arith) less;
+        none_between = λ k k_in after before.
             none (k, k_in, key_from_order bytes i k (omega arith) (omega arith) after, key_from_order bytes k j (omega arith) (omega arith) before);
-        })
+      })
     ]
 
 pub apart_from_order : (bytes : List ℕ) → slot_count bytes ≤ slot_limit → SlotsPass bytes → OrderPasses bytes → AreApart bytes
@@ -71,21 +70,21 @@ order_from_apart bytes some apart i j next =
     let positive = some j next.second in
     elim (cases_order i j) [
       | inl same ↦ absurd (elim next.before [
-          | inl less ↦ omega (arith, less, ap (slot_at bytes) same)
-          | inr tie ↦ omega (arith, tie.1, same)
-        ])
+        | inl less ↦ omega (arith, less, ap (slot_at bytes) same)
+        | inr tie ↦ omega (arith, tie.1, same)
+      ])
       | inr (inl below) ↦ elim (apart i j next.first next.second (omega (arith, below))) [
-          | inl ends ↦ ends
-          | inr back ↦ absurd (elim next.before [
-              | inl less ↦ omega (arith, less, back, positive)
-              | inr tie ↦ omega (arith, tie.0, back, positive)
-            ])
-        ]
+        | inl ends ↦ ends
+        | inr back ↦ absurd (elim next.before [
+          | inl less ↦ omega (arith, less, back, positive)
+          | inr tie ↦ omega (arith, tie.0, back, positive)
+        ])
+      ]
       | inr (inr above) ↦ elim (apart i j next.first next.second (omega (arith, above))) [
-          | inl ends ↦ ends
-          | inr back ↦ absurd (elim next.before [
-              | inl less ↦ omega (arith, less, back, positive)
-              | inr tie ↦ omega (arith, tie.0, back, positive)
-            ])
-        ]
+        | inl ends ↦ ends
+        | inr back ↦ absurd (elim next.before [
+          | inl less ↦ omega (arith, less, back, positive)
+          | inr tie ↦ omega (arith, tie.0, back, positive)
+        ])
+      ]
     ]

@@ -68,7 +68,7 @@ pub record IsRemoved (i : ℕ) (before now : List ℕ) : Type 0 where
   pub long : length now ≡ length before
   pub header : header_of now
       ≡ with_counts (slot_count before - 1) ((header_of before).free_count + row_size before i + 2)
-        (if slot_count before == 1 then 96 else rows_end before) (header_of before)
+      (if slot_count before == 1 then 96 else rows_end before) (header_of before)
   pub front : Stays 0 20 before now
   pub others : Stays 26 (8192 - 2 * slot_count before) before now
   pub earlier : (j : ℕ) → j < i → slot_at now j ≡ slot_at before j

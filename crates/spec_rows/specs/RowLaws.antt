@@ -165,3 +165,23 @@ pub no_row : (bytes : List ℕ) → row_of bytes ≡ None → (row : PageRow) �
 no_row bytes none row fits same =
     let some : row_of bytes ≡ Some row = ap row_of (sym same) ∙ reads_back row fits in
     cc
+
+data_of : (d i : Bool) (key n m c : ℕ) (payload rest : List ℕ)
+    → (if d then Some (DataRow n rest) else (if i then Some (IndexRow m c) else None)) ≡ Some (DataRow key payload) → d ≡ true
+data_of true i key n m c payload rest same = refl
+data_of false true key n m c payload rest same = absurd (cc)
+data_of false false key n m c payload rest same = absurd (cc)
+
+-- bytes that are read as a data row are one whole data row
+pub data_from : (bytes : List ℕ) (key : ℕ) (payload : List ℕ) → row_of bytes ≡ Some (DataRow key payload) → is_data_row bytes ≡ true
+data_from bytes key payload same = data_of (is_data_row bytes) (is_index_row bytes) key _ _ _ payload _ same
+
+index_of : (d i : Bool) (key child n m c : ℕ) (rest : List ℕ)
+    → (if d then Some (DataRow n rest) else (if i then Some (IndexRow m c) else None)) ≡ Some (IndexRow key child) → i ≡ true
+index_of true i key child n m c rest same = absurd (cc)
+index_of false true key child n m c rest same = refl
+index_of false false key child n m c rest same = absurd (cc)
+
+-- bytes that are read as an index row are one whole index row
+pub index_from : (bytes : List ℕ) (key child : ℕ) → row_of bytes ≡ Some (IndexRow key child) → is_index_row bytes ≡ true
+index_from bytes key child same = index_of (is_data_row bytes) (is_index_row bytes) key child _ _ _ _ same

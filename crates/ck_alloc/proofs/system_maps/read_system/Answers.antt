@@ -1,4 +1,5 @@
 use Rattle.ck_alloc.proofs.OfImage.{told_maps, sizes_of}
+use Rattle.ck_alloc.proofs.BootTested.{boot_tested}
 use Rattle.ck_alloc.proofs.system_maps.read_system.Goals as goal
 
 pub returns-clause-maps : goal.returns-clause-maps
@@ -8,3 +9,6 @@ returns-clause-maps g c =
 
 pub returns-clause-sizes : goal.returns-clause-sizes
 returns-clause-sizes g c = sizes_of c.args.g c.args.pages _ _ c.in_ok-maps.ensures
+
+pub returns-clause-boot : goal.returns-clause-boot
+returns-clause-boot g c = boot_tested c.args.g c.args.pages _ _ c.in_ok-maps.ensures

@@ -1,7 +1,7 @@
-use Rattle.std.proofs.Common.{ℕ, ◌≡◌, ◌+◌, ◌-◌, ◌*◌, ◌<◌, ◌≤◌, length, slice_range, arith, ap, sym, ◌∙◌}
+use Rattle.std.proofs.Common.{ℕ, ◌≡◌, ◌+◌, ◌-◌, ◌*◌, ◌≤◌, length, slice_range, arith, ap, sym, ◌∙◌}
 use Rattle.spec_file.specs.declared.header.Header.{Header}
 use Rattle.spec_file.specs.Header.{header_of}
-use Rattle.spec_rows.specs.Slots.{slot_at, slot_count, rows_end}
+use Rattle.spec_rows.specs.Slots.{slot_count, rows_end}
 use Rattle.spec_rows.specs.Changes.{with_counts}
 use Rattle.spec_rows.specs.SlotLaws.{rows_room}
 use Rattle.pg_base.specs.NumberLaws.{same_front}
@@ -29,24 +29,24 @@ returns c =
     record {
       long = c.is_whole-2.ensures ∙ sym c.is_whole.ensures;
       header = counts.header
-      ∙ ap (with_counts (said.slots + 1) (said.free_count - (long + 2)) (said.free_from + long)) (kept' ∙ kept)
-      ∙ ap (λ (h : Header). with_counts (h.slots + 1) (h.free_count - (long + 2)) (h.free_from + long) (header_of old)) read;
+          ∙ ap (with_counts (said.slots + 1) (said.free_count - (long + 2)) (said.free_from + long)) (kept' ∙ kept)
+          ∙ ap (λ (h : Header). with_counts (h.slots + 1) (h.free_count - (long + 2)) (h.free_from + long) (header_of old)) read;
       front = counts.front ∙ same_front 20 said.free_from put opened put_facts.front (omega (arith, room.from, ends))
-      ∙ same_front 20 (8190 - 2 * said.slots) opened old open_facts.front (omega (arith, room.from, behind, slots));
+          ∙ same_front 20 (8190 - 2 * said.slots) opened old open_facts.front (omega (arith, room.from, behind, slots));
       others = stays_back 26 (rows_end old) 26 put new counts.behind (omega arith)
-      ∙ stays_front 26 (rows_end old) said.free_from opened put put_facts.front (omega (arith, room.from)) (omega (arith, ends))
-      ∙ stays_front 26 (rows_end old) (8190 - 2 * said.slots) old opened open_facts.front (omega (arith, room.from)) (omega (arith, behind, slots));
+          ∙ stays_front 26 (rows_end old) said.free_from opened put put_facts.front (omega (arith, room.from)) (omega (arith, ends))
+          ∙ stays_front 26 (rows_end old) (8190 - 2 * said.slots) old opened open_facts.front (omega (arith, room.from)) (omega (arith, behind, slots));
       placed = stays_back (rows_end old) (rows_end old + long) 26 put new counts.behind (omega (arith, room.from))
-      ∙ ap (λ (n : ℕ). slice_range put n (n + long)) (sym ends) ∙ put_facts.here;
+          ∙ ap (λ (n : ℕ). slice_range put n (n + long)) (sym ends) ∙ put_facts.here;
       behind = stays_back (rows_end old + long) (8192 - 2 * (slot_count old + 1)) 26 put new counts.behind (omega (arith, room.from))
-      ∙ stays_back (rows_end old + long) (8192 - 2 * (slot_count old + 1)) (said.free_from + long) opened put put_facts.back (omega (arith, ends))
-      ∙ stays_front (rows_end old + long) (8192 - 2 * (slot_count old + 1)) (8190 - 2 * said.slots) old opened open_facts.front (omega (arith, behind)) (omega (arith, slots));
+          ∙ stays_back (rows_end old + long) (8192 - 2 * (slot_count old + 1)) (said.free_from + long) opened put put_facts.back (omega (arith, ends))
+          ∙ stays_front (rows_end old + long) (8192 - 2 * (slot_count old + 1)) (8190 - 2 * said.slots) old opened open_facts.front (omega (arith, behind)) (omega (arith, slots));
       earlier = λ j below.
-        slot_stays_back j 26 put new counts.behind (omega (arith, behind, room.from))
-        ∙ slot_stays_back j (said.free_from + long) opened put put_facts.back (omega (arith, behind, ends)) ∙ open_facts.earlier j below;
+          slot_stays_back j 26 put new counts.behind (omega (arith, behind, room.from))
+          ∙ slot_stays_back j (said.free_from + long) opened put put_facts.back (omega (arith, behind, ends)) ∙ open_facts.earlier j below;
       here = slot_stays_back c.args.i 26 put new counts.behind (omega (arith, behind, room.from))
-      ∙ slot_stays_back c.args.i (said.free_from + long) opened put put_facts.back (omega (arith, behind, ends)) ∙ open_facts.here ∙ ends;
+          ∙ slot_stays_back c.args.i (said.free_from + long) opened put put_facts.back (omega (arith, behind, ends)) ∙ open_facts.here ∙ ends;
       later = λ j above within.
-        slot_stays_back (j + 1) 26 put new counts.behind (omega (arith, behind, room.from))
-        ∙ slot_stays_back (j + 1) (said.free_from + long) opened put put_facts.back (omega (arith, behind, ends)) ∙ open_facts.later j above (omega (arith, slots));
+          slot_stays_back (j + 1) 26 put new counts.behind (omega (arith, behind, room.from))
+          ∙ slot_stays_back (j + 1) (said.free_from + long) opened put put_facts.back (omega (arith, behind, ends)) ∙ open_facts.later j above (omega (arith, slots));
     }

@@ -24,15 +24,15 @@ returns c =
     record {
       long = c.is_whole-2.ensures ∙ sym c.is_whole.ensures;
       header = counts.header
-      ∙ ap (with_counts (said.slots - 1) (said.free_count + c.size_at-size.result + 2) c.end_without_one.result) kept
-      ∙ ap (λ (e : ℕ). with_counts (said.slots - 1) (said.free_count + c.size_at-size.result + 2) e (header_of old)) c.end_without_one.ensures
-      ∙ ap (λ (s : ℕ). with_counts (said.slots - 1) (said.free_count + s + 2) (if said.slots == 1 then 96 else said.free_from) (header_of old)) size
-      ∙ ap (λ (h : Header). with_counts (h.slots - 1) (h.free_count + row_size old c.args.i + 2) (if h.slots == 1 then 96 else h.free_from) (header_of old)) read;
+          ∙ ap (with_counts (said.slots - 1) (said.free_count + c.size_at-size.result + 2) c.end_without_one.result) kept
+          ∙ ap (λ (e : ℕ). with_counts (said.slots - 1) (said.free_count + c.size_at-size.result + 2) e (header_of old)) c.end_without_one.ensures
+          ∙ ap (λ (s : ℕ). with_counts (said.slots - 1) (said.free_count + s + 2) (if said.slots == 1 then 96 else said.free_from) (header_of old)) size
+          ∙ ap (λ (h : Header). with_counts (h.slots - 1) (h.free_count + row_size old c.args.i + 2) (if h.slots == 1 then 96 else h.free_from) (header_of old)) read;
       front = counts.front ∙ same_front 20 (8192 - 2 * said.slots) middle old closed.front (omega (arith, room.from, room.within, slots));
       others = stays_back 26 (8192 - 2 * slot_count old) 26 middle new counts.behind (omega arith)
-      ∙ stays_front 26 (8192 - 2 * slot_count old) (8192 - 2 * said.slots) old middle closed.front (omega (arith, room.from, room.within)) (omega (arith, slots));
+          ∙ stays_front 26 (8192 - 2 * slot_count old) (8192 - 2 * said.slots) old middle closed.front (omega (arith, room.from, room.within)) (omega (arith, slots));
       earlier = λ j below. slot_stays_back j 26 middle new counts.behind (omega (arith, room.few)) ∙ closed.earlier j below;
       later = λ j above within. slot_stays_back j 26 middle new counts.behind (omega (arith, room.few)) ∙ closed.later j above (omega (arith, slots));
       cleared = slot_stays_back (slot_count old - 1) 26 middle new counts.behind (omega (arith, room.few))
-      ∙ ap (λ (n : ℕ). slot_at middle (n - 1)) (sym slots) ∙ closed.cleared;
+          ∙ ap (λ (n : ℕ). slot_at middle (n - 1)) (sym slots) ∙ closed.cleared;
     }

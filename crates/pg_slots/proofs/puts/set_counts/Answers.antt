@@ -1,6 +1,5 @@
 use Rattle.std.proofs.Common.{◌≡◌, refl, ◌∙◌, arith}
 use Rattle.spec_file.specs.Image.{number_at}
-use Rattle.spec_file.specs.Header.{header_of}
 use Rattle.pg_base.specs.NumberLaws.{number_stays, front_stays, back_stays, same_number, same_byte, same_number_behind}
 use Rattle.pg_slots.proofs.puts.set_counts.Goals as goal
 

@@ -1,8 +1,0 @@
-use Rattle.ck_alloc.proofs.Together.{adds_given, adds_not}
-use Rattle.ck_alloc.proofs.system.note_map.Goals as goal
-
-pub returns-then-not-is_wrong_map : goal.returns-then-not-is_wrong_map
-returns-then-not-is_wrong_map c = adds_not _ _ _ (λ h. let right = c.is_wrong_map.ensures.1 h in let wrong = c.if-not-is_wrong_map.true in cc)
-
-pub returns : goal.returns
-returns c = adds_given _ _ _ _ (c.is_wrong_map.ensures.0 c.if-not-is_wrong_map.false) c.in_ok-note.ensures

@@ -1,0 +1,3 @@
+mod Payloads
+mod Ranges
+mod Refusals

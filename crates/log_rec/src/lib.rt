@@ -1,0 +1,12 @@
+//! Items of the log as bytes (the format is this project's own).
+#![tactic(auto)]
+
+mod head;
+mod item;
+mod parts;
+
+pub use item::encode;
+pub use spec_log::{Cell, Record};
+
+#[cfg(test)]
+mod tests;

@@ -1,0 +1,77 @@
+ghost use Rattle.std.specs.Prelude.{◌≡◌, ◌+◌, ◌-◌, ◌*◌, ◌<◌, ◌≤◌, take, drop, slice_range, replicate};
+ghost use Rattle.spec_rows.specs.Slots as slots;
+ghost use Rattle.spec_rows.specs.PageTest.{HoldsRows};
+ghost use Rattle.spec_rows.specs.Changes.{IsCompacted, KeepsTest};
+ghost use Rattle.pg_slots.specs.Puts.{MovesRow, MovesRows};
+
+use crate::puts::{is_whole, put_row, put_slot, set_counts};
+use crate::rows::row_at;
+use pg_base::{Page, read_header};
+
+/// Moves the rows together: they stand from 96 in the order of their slots, with zeros behind them up
+/// to the slots.
+pub fn compact(page: &mut Page)
+    requires { HoldsRows page.old.bytes }
+    ensures compacted { IsCompacted page.old.bytes page.new.bytes }
+    ensures rows { slots.page_rows page.new.bytes ≡ slots.page_rows page.old.bytes }
+    ensures holds { HoldsRows page.new.bytes }
+    ensures test { KeepsTest page.old.bytes page.new.bytes }
+{
+    is_whole(page);
+    move_together(page);
+}
+
+fn move_together(page: &mut Page)
+    requires { HoldsRows page.old.bytes }
+    ensures { IsCompacted page.old.bytes page.new.bytes }
+{
+    is_whole(page);
+    let source = Page { bytes: page.bytes };
+    let header = read_header(page);
+    let end = move_rows(page, &source, header.slots);
+    clear(page, end, 8192 - 2 * header.slots);
+    set_counts(page, header.slots, header.free_count, end);
+    is_whole(page);
+}
+
+// Puts the rows of another page where they belong, and answers where they end.
+fn move_rows(page: &mut Page, source: &Page, count: u16) -> u16
+    requires same { page.old.bytes ≡ source.now.bytes }
+    requires holds { HoldsRows source.now.bytes }
+    requires count { count ≡ slots.slot_count source.now.bytes }
+    ensures end { result ≡ 96 + slots.rows_size source.now.bytes count }
+    ensures moved { MovesRows count source.now.bytes page.new.bytes }
+    ensures within { result + 2 * count ≤ 8192 }
+{
+    is_whole(source);
+    let mut at = 96;
+    for slot in 0..count {
+        at = move_row(page, source, slot, at);
+    }
+    at
+}
+
+// Puts one row and its slot, and answers where the row ends.
+fn move_row(page: &mut Page, source: &Page, slot: u16, at: u16) -> u16
+    requires holds { HoldsRows source.now.bytes }
+    requires slot { slot < slots.slot_count source.now.bytes }
+    requires at { at ≡ 96 + slots.rows_size source.now.bytes slot }
+    ensures end { result ≡ 96 + slots.rows_size source.now.bytes (slot + 1) }
+    ensures moved { MovesRow slot at result (slots.page_row source.now.bytes slot) page.old.bytes page.new.bytes }
+{
+    let row = row_at(source, slot);
+    put_row(page, at, row);
+    put_slot(page, slot, at);
+    at + row.len() as u16
+}
+
+// Makes a part of the page 0.
+fn clear(page: &mut Page, from: u16, to: u16)
+    requires order { from ≤ to }
+    requires within { to ≤ 8192 }
+    ensures zeros { slice_range page.new.bytes from to ≡ replicate (to - from) 0 }
+    ensures front { take from page.new.bytes ≡ take from page.old.bytes }
+    ensures back { drop to page.new.bytes ≡ drop to page.old.bytes }
+{
+    page.bytes[from as usize..to as usize].fill(0);
+}

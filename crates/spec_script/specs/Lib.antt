@@ -1,0 +1,5 @@
+pub mod Lines
+pub mod Texts
+pub mod Replies
+pub mod PageText
+pub mod Vectors

@@ -1,0 +1,22 @@
+use crate::Name;
+use spec_log::Values;
+
+/// One statement of a script (this project's own).
+#[derive(Debug, Drop)]
+pub enum Statement {
+    Begin,
+    Commit,
+    Rollback,
+    /// One more row of a table.
+    Insert {
+        table: Name,
+        key: u64,
+        payload: Values<u8>,
+    },
+    /// How many rows a table has.
+    Count(Name),
+    /// DBCC CHECKDB.
+    Check {
+        workers: u8,
+    },
+}

@@ -1,0 +1,10 @@
+mod Figures
+mod FirstLines
+mod Fronts
+mod Names
+mod Numbers
+mod OneReading
+mod Printed
+mod Sentences
+mod Spelling
+mod TextSteps

@@ -5,7 +5,7 @@ use Rattle.spec_file.specs.Image.{page_size, pages_of, page}
 use Rattle.spec_file.specs.ImageLaws.{length-pages_of}
 use Rattle.spec_file.specs.FileForm.{size_passes}
 use Rattle.spec_check.specs.declared.report.CheckReport.{CheckReport}
-use Rattle.spec_check.specs.Written.{IsCheckOf}
+use Rattle.spec_tables.specs.Written.{IsCheckOf}
 use Rattle.checkdb_top.specs.declared.status.Device.TheVariants as device
 use Rattle.checkdb_top.specs.declared.status.FileWhy.{FileWhy}
 use Rattle.checkdb_top.specs.declared.status.FileWhy.TheVariants as why

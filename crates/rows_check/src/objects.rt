@@ -21,6 +21,7 @@ pub fn heap(file: &mut Vec<u8>, id: u8, name: u8, first_iam: u16) {
 }
 
 /// The links of an IAM page, its interval and its place in the chain.
+#[derive(Clone, Copy)]
 pub struct Iam {
     pub object: u8,
     pub prev: u16,
@@ -40,7 +41,7 @@ pub fn only(object: u8) -> Iam {
     }
 }
 
-pub fn iam(file: &mut Vec<u8>, p: u16, page: &Iam) {
+pub fn iam_page(file: &mut Vec<u8>, p: u16, page: &Iam) {
     let at = PAGE * usize::from(p);
     place(file, p, 10);
     put(file, at + 8, &[page.object]);

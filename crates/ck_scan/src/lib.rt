@@ -9,3 +9,6 @@ mod scan;
 mod tally;
 
 pub use scan::scan_one;
+
+#[cfg(test)]
+mod tests;

@@ -1,6 +1,5 @@
 -- One object more whose chain was read.
-use Rattle.std.proofs.Common.{◌≡◌, ◌≢◌, ◌⊎◌, ◌↔◌, ℕ, ◌+◌, ◌/◌, ◌%◌, ◌<◌, ◌≤◌, ◌==◌, Bool, false, IsTrue, List, [], ◌∷◌, ◌++◌, length, map, get_or, Option, Some, None, option_map, arith, rules, sym, subst, ap, inl, inr, ⊎_elim, refl, ◌∙◌}
-use Rattle.std.proofs.lemmas.Bool.{cases_eq}
+use Rattle.std.proofs.Common.{◌≡◌, ◌⊎◌, ◌↔◌, ℕ, ◌+◌, ◌/◌, ◌%◌, ◌<◌, Bool, false, IsTrue, List, [], ◌∷◌, ◌++◌, length, get_or, Some, option_map, arith, rules, sym, subst, ap, inl, inr, ⊎_elim, refl, ◌∙◌}
 use Rattle.std.proofs.lemmas.List.{get_or-replicate}
 use Rattle.std.proofs.Math.ListN.{get_or-append, replicate}
 use Rattle.std.proofs.Math.Seq.{get_or-append_seam}
@@ -11,18 +10,15 @@ use Rattle.spec_file.specs.declared.geometry.Geometry.{Geometry}
 use Rattle.spec_file.specs.Image.{Image}
 use Rattle.spec_file.specs.CatalogRows.{CatalogRow}
 use Rattle.spec_chain.specs.Marks.{IsMarked}
-use Rattle.spec_check.specs.declared.report.CheckError.{CheckError}
 use Rattle.spec_check.specs.Chains.{IsErrorOfChain}
-use Rattle.ck_error.specs.Gathered.{Adds}
 use Rattle.ck_error.specs.GatheringLaws.{adds_none, adds_as, adds_both}
-use Rattle.ck_facts.specs.declared.map.PageUse.{PageUse}
 use Rattle.ck_facts.specs.declared.map.ExtentMap.{ExtentMap}
 use Rattle.ck_facts.specs.Maps.{has_mark, rows_of_objects}
 use Rattle.db_cat.specs.declared.rows.CatRow.{CatRow}
 use Rattle.db_cat.specs.Rows.{row_of}
 use Rattle.ck_chain.specs.declared.found.Found.{Found}
 use Rattle.ck_chain.specs.Walks.{IsUseOf, IsChainRead}
-use Rattle.ck_alloc.specs.ChainsRead.{IsBare, AreBare, IsRowBelow, ChainError, ChainUse, IsMarkedByFirst, AreChainsRead}
+use Rattle.ck_alloc.specs.ChainsRead.{IsBare, AreBare, ChainError, ChainUse, IsMarkedByFirst, AreChainsRead}
 
 upto : (i n : ℕ) → i < n + 1 → (i < n) ⊎ (i ≡ n)
 upto i n h = search (rules, arith)

@@ -1,5 +1,4 @@
 pub mod PlaceBounds
-pub mod ToldPlaces
 pub mod Ranges
 pub mod OfImage
 pub mod Filtering
@@ -15,3 +14,5 @@ pub mod PageLaws
 pub mod ChainSteps
 pub mod ReadMaps
 pub mod BootTested
+pub mod ValuesRead
+pub mod SystemSaid

@@ -16,10 +16,9 @@ use Rattle.ck_error.specs.GatheringLaws.{gathers_as}
 use Rattle.ck_facts.specs.Maps.{HasShape}
 use Rattle.ck_alloc.specs.declared.places.SystemKind.{SystemKind}
 use Rattle.ck_alloc.specs.declared.places.SystemKind.TheVariants.{Pfs, Gam, Sgam}
-use Rattle.ck_alloc.specs.declared.system_pages.SystemPages.{SystemPages}
 use Rattle.ck_alloc.specs.declared.system_maps.SystemMaps.{SystemMaps}
-use Rattle.ck_alloc.specs.SystemPlaces.{span_of, place_of, place_count, places_of_image, bytes_of, bit_in, byte_in}
-use Rattle.ck_alloc.specs.SystemMaps.{ArePagesOf, GivesError, IsErrorOfKind, IsErrorOfPages, AreSaidBy, AreSystemMaps, HaveSizes}
+use Rattle.ck_alloc.specs.SystemPlaces.{span_of, place_of, place_count, places_of_image, bit_in, byte_in}
+use Rattle.ck_alloc.specs.SystemMaps.{PagesRead, ArePagesOf, GivesError, IsErrorOfKind, IsErrorOfPages, AreSaidBy, AreSystemMaps, HaveSizes}
 use Rattle.ck_alloc.proofs.Ranges.{same_values}
 use Rattle.ck_alloc.proofs.PlaceBounds.{place_inside, interval_read, span_read}
 
@@ -62,7 +61,7 @@ error_of_kind kind g image pages found x shape size are (k, below, given) =
     let of_image : GivesError g (place_of kind g k) (page image (place_of kind g k)) x = subst (λ l. GivesError g (place_of kind g k) l x) here given in
     (place_of kind g k, subst (λ n. place_of kind g k < n) (sym size) (place_inside kind g pages k shape inside), of_image.0, of_image.1)
 
-pub error_of_image : (g : Geometry) (image : Image) (pages : ℕ) (found : SystemPages) (x : CheckError) → HasShape g pages → length image ≡ pages
+pub error_of_image : (g : Geometry) (image : Image) (pages : ℕ) (found : PagesRead) (x : CheckError) → HasShape g pages → length image ≡ pages
     → ArePagesOf g pages found image → IsErrorOfPages g found x → IsSystemError g image x
 error_of_image g image pages found x shape size are h =
     let low : 9 < length image = let enough = shape.low in omega (arith, enough, size) in
@@ -107,7 +106,7 @@ kind_of_error kind g image pages p found x shape size are below place given =
       subst (λ l. GivesError g (place_of kind g (p / span_of kind g)) l x) (sym here) there,
     )
 
-pub image_of_error : (g : Geometry) (image : Image) (pages : ℕ) (found : SystemPages) (x : CheckError) → HasShape g pages → length image ≡ pages
+pub image_of_error : (g : Geometry) (image : Image) (pages : ℕ) (found : PagesRead) (x : CheckError) → HasShape g pages → length image ≡ pages
     → ArePagesOf g pages found image → IsSystemError g image x → IsErrorOfPages g found x
 image_of_error g image pages found x shape size are (p, below, wrong, is) =
     ⊎_elim (λ here. inl (inr (kind_of_error Pfs g image pages p _ x shape size are.pfs below here (wrong, is))))
@@ -117,27 +116,27 @@ image_of_error g image pages found x shape size are (p, below, wrong, is) =
     (⊎_elim (λ header. system_place g p header.0 header.1) (λ boot. inr (inr (inr boot.0))) wrong)
 
 -- what the pages say, of an image whose pages they are
-pub maps_of_image : (g : Geometry) (image : Image) (pages : ℕ) (found : SystemPages) (maps : SystemMaps) → HasShape g pages
+pub maps_of_image : (g : Geometry) (image : Image) (pages : ℕ) (found : PagesRead) (maps : SystemMaps) → HasShape g pages
     → length image ≡ pages → ArePagesOf g pages found image → AreSaidBy g pages found maps → AreSystemMaps g maps image
 maps_of_image g image pages found maps shape size are said = record {
   errors = gathers_as _ _ _ (λ x h. error_of_image g image pages found x shape size are h) (λ x h. image_of_error g image pages found x shape size are h) said.errors;
   free = rw size (said.free ∙ free_of g image pages _ shape are.gam);
   mixed = rw size (said.mixed ∙ mixed_of g image pages _ shape are.sgam);
   pfs = rw size (said.pfs ∙ pfs_of g image pages _ shape are.pfs);
-  boot = ap (λ b. b.value.bytes) said.boot ∙ are.boot;
+  boot = said.boot ∙ are.boot;
 }
 
 -- the same where a reader may tell its image
-pub told_maps : (told : Option Image) (g : Geometry) (pages : ℕ) (found : SystemPages) (maps : SystemMaps) → HasShape g pages
+pub told_maps : (told : Option Image) (g : Geometry) (pages : ℕ) (found : PagesRead) (maps : SystemMaps) → HasShape g pages
     → ForSome told (λ image. length image ≡ pages) → IfSome told (ArePagesOf g pages found) → AreSaidBy g pages found maps
     → IfSome told (AreSystemMaps g maps)
 told_maps None g pages found maps shape whole are said = tt
 told_maps (Some image) g pages found maps shape whole are said = maps_of_image g image pages found maps shape (whole image refl) are said
 
 -- each extent has its bits, and each page its byte
-pub sizes_of : (g : Geometry) (pages : ℕ) (found : SystemPages) (maps : SystemMaps) → AreSaidBy g pages found maps → HaveSizes pages maps
+pub sizes_of : (g : Geometry) (pages : ℕ) (found : PagesRead) (maps : SystemMaps) → AreSaidBy g pages found maps → HaveSizes pages maps
 sizes_of g pages found maps said = record {
-  free = maps.free.ok.0 ∙ ap length said.free ∙ length-map-range_with_len (bit_in g (bytes_of found.gam.items)) 0 (pages / 8);
-  mixed = maps.mixed.ok.0 ∙ ap length said.mixed ∙ length-map-range_with_len (bit_in g (bytes_of found.sgam.items)) 0 (pages / 8);
-  pfs = maps.pfs.ok.0 ∙ ap length said.pfs ∙ length-map-range_with_len (byte_in g (bytes_of found.pfs.items)) 0 pages;
+  free = maps.free.ok.0 ∙ ap length said.free ∙ length-map-range_with_len (bit_in g found.gam) 0 (pages / 8);
+  mixed = maps.mixed.ok.0 ∙ ap length said.mixed ∙ length-map-range_with_len (bit_in g found.sgam) 0 (pages / 8);
+  pfs = maps.pfs.ok.0 ∙ ap length said.pfs ∙ length-map-range_with_len (byte_in g found.pfs) 0 pages;
 }

@@ -1,16 +1,14 @@
 -- What was read is the map of the image.
-use Rattle.std.proofs.Common.{◌≡◌, ◌≢◌, ◌⊎◌, ◌↔◌, ℕ, ◌+◌, ◌/◌, ◌<◌, ◌≤◌, Bool, true, false, IsTrue, List, [], ◌∷◌, length, map, get_or, Option, Some, None, IfSome, Contains, arith, sym, subst, ap, inl, inr, ⊎_elim, refl, ◌∙◌}
+use Rattle.std.proofs.Common.{◌≡◌, ◌↔◌, ℕ, ◌<◌, ◌≤◌, Bool, false, IsTrue, List, [], ◌∷◌, length, map, get_or, Option, Some, None, IfSome, Contains, arith, sym, subst, ap, inr, ⊎_elim, refl, ◌∙◌}
 use Rattle.std.specs.List.{range_with_len, slice_get}
 use Rattle.std.specs.List.Sorted.{IsStrictlySortedBy}
 use Rattle.std.specs.Ordering.{nat_cmp, on}
 use Rattle.std.proofs.lemmas.List.FromFn.{get_or-map-range_with_len, length-map-range_with_len}
 use Rattle.std.proofs.lemmas.Option.{get_or_from_slice_get, slice_get_read, slice_get_within, slice_get-get_or, same_Some}
-use Rattle.spec_file.specs.Image.{Image, page}
+use Rattle.spec_file.specs.Image.{Image}
 use Rattle.spec_file.specs.Places.{is_free, is_mixed, extent_count}
 use Rattle.spec_file.specs.CatalogRows.{CatalogRow, rows_of}
-use Rattle.spec_chain.specs.Chains.{IsObject}
-use Rattle.spec_chain.specs.Marks.{IsMarked}
-use Rattle.spec_chain.specs.Uses.{Use, IsUse, pfs_byte}
+use Rattle.spec_chain.specs.Uses.{pfs_byte}
 use Rattle.spec_check.specs.declared.report.CheckError.{CheckError}
 use Rattle.spec_check.specs.Errors.{error_cmp}
 use Rattle.spec_check.specs.Chains.{IsChainError}
@@ -18,13 +16,12 @@ use Rattle.ck_error.specs.Gathered.{Gathers, Adds}
 use Rattle.ck_error.specs.GatheringLaws.{gathers_first, gathers_as, lists_in_order}
 use Rattle.ck_facts.specs.declared.map.AllocMap.{AllocMap}
 use Rattle.ck_facts.specs.declared.map.PageUse.{PageUse}
-use Rattle.ck_facts.specs.declared.map.ExtentMap.{ExtentMap}
-use Rattle.ck_facts.specs.Maps.{has_mark, page_use_cmp, use_of, AreAllUses, AreObjects, IsExtentOf, AreExtents, rows_of_objects}
-use Rattle.ck_facts.specs.MapOf.{IsMapOf, IsWholeMapOf}
+use Rattle.ck_facts.specs.Maps.{has_mark, page_use_cmp, AreAllUses, AreObjects, AreExtents, rows_of_objects}
+use Rattle.ck_facts.specs.MapOf.{IsMapOf}
 use Rattle.ck_chain.specs.declared.found.Found.{Found}
 use Rattle.ck_alloc.specs.declared.system_maps.SystemMaps.{SystemMaps}
 use Rattle.ck_alloc.specs.SystemMaps.{AreSystemMaps}
-use Rattle.ck_alloc.specs.ChainsRead.{IsFoundIn, ChainError, ChainUse, IsRowBelow}
+use Rattle.ck_alloc.specs.ChainsRead.{IsFoundIn, ChainError}
 
 -- the parts of a map, each as it was read
 pub record IsMadeOf (m : AllocMap) (maps : SystemMaps) (found : Found) : Type 0 where

@@ -1,11 +1,10 @@
 -- The system places of a file: a PFS page for each span of pages, a GAM and an SGAM page for each interval
 -- (Pages and Extents Architecture Guide).
-use Rattle.std.specs.Prelude.{ℕ, ◌+◌, ◌-◌, ◌*◌, ◌/◌, ◌%◌, ◌==◌, if◌then◌else◌, Bool, List, map, slice_index, Box}
+use Rattle.std.specs.Prelude.{ℕ, ◌+◌, ◌-◌, ◌*◌, ◌/◌, ◌%◌, ◌==◌, if◌then◌else◌, Bool, List, map, slice_index}
 use Rattle.std.specs.List.{range_with_len}
 use Rattle.spec_file.specs.declared.geometry.Geometry.{Geometry}
 use Rattle.spec_file.specs.Image.{Image, page, bit, maps_start}
 use Rattle.spec_file.specs.Places.{interval_size, pfs_span, gam_page, sgam_page}
-use Rattle.pg_base.specs.declared.page.Page.{Page}
 use Rattle.ck_alloc.specs.declared.places.SystemKind.{SystemKind}
 use Rattle.ck_alloc.specs.declared.places.SystemKind.TheVariants.{Pfs, Gam, Sgam}
 
@@ -25,10 +24,6 @@ place_of Sgam g k = sgam_page g k
 abbrev pub place_count : SystemKind → Geometry → ℕ → ℕ
 place_count kind g pages = (pages + span_of kind g - 1) / span_of kind g
 
--- the bytes of pages
-abbrev pub bytes_of : {Z : Type 0} → List (Box Page Z) → List (List ℕ)
-bytes_of pages = map (λ p. p.value.bytes) pages
-
 -- all pages of a kind, as the image has them
 abbrev pub places_of_image : SystemKind → Geometry → Image → ℕ → List (List ℕ)
 places_of_image kind g image count = map (λ k. page image (place_of kind g k)) (range_with_len 0 count)
@@ -37,6 +32,10 @@ places_of_image kind g image count = map (λ k. page image (place_of kind g k)) 
 abbrev pub bit_in : Geometry → List (List ℕ) → ℕ → Bool
 bit_in g maps e = bit (page maps (e / interval_size g)) (e % interval_size g)
 
+-- byte i of those of a PFS page
+abbrev pub byte_of : List ℕ → ℕ → ℕ
+byte_of bytes i = slice_index bytes (maps_start + i)
+
 -- the PFS byte of a page, where all PFS pages are given
 abbrev pub byte_in : Geometry → List (List ℕ) → ℕ → ℕ
-byte_in g maps p = slice_index (page maps (p / pfs_span g)) (maps_start + p % pfs_span g)
+byte_in g maps p = byte_of (page maps (p / pfs_span g)) (p % pfs_span g)

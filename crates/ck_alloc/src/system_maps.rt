@@ -3,12 +3,12 @@ ghost use Rattle.spec_file.specs.Catalog.{PassesCatalog};
 ghost use Rattle.std.specs.Prelude.{◌≡◌, ◌≤◌, [], ℕ, IfOk, IfSome, IsTrue};
 ghost use Rattle.pg_base.specs.Reading.{StopHasCause};
 ghost use Rattle.ck_facts.specs.Maps.{HasShape};
-ghost use Rattle.ck_alloc.specs.SystemMaps.{AreSystemMaps, AreSaidBy, HaveCounts, HaveSizes};
+ghost use Rattle.ck_alloc.specs.SystemMaps.{AreSystemMaps, HaveSizes};
 
-use crate::map_bits::{map_bits, map_bytes};
-use crate::system_pages::{SystemPages, read_system_pages};
-use crate::wrong::errors_of_pages;
-use pg_base::{Geometry, NoMemory, Page, ReadStop, SnapReader};
+use crate::places::SystemKind;
+use crate::system_pages::{read_bits, read_bytes};
+use crate::wrong::note;
+use pg_base::{Geometry, Page, PageNo, ReadStop, SnapReader, read_page};
 use spec_check::CheckError;
 use std::alloc::Global;
 
@@ -25,32 +25,6 @@ pub struct SystemMaps {
     pub pfs: Vec<u8>,
     /// Page 9.
     pub boot: Box<Page>,
-}
-
-// What the system pages say.
-
-fn maps_of(
-    alloc: Global,
-    g: Geometry,
-    pages: u32,
-    found: SystemPages,
-) -> Result<SystemMaps, NoMemory>
-    requires shape { HasShape g pages }
-    requires counts { HaveCounts g pages found }
-    ensures { IfOk result (λ maps. AreSaidBy g pages found maps) }
-{
-    let errors = errors_of_pages(alloc, g, pages, &found)?;
-    let free = map_bits(alloc, g, &found.gam, pages / 8)?;
-    let mixed = map_bits(alloc, g, &found.sgam, pages / 8)?;
-    let pfs = map_bytes(alloc, g, &found.pfs, pages)?;
-    let SystemPages { boot, .. } = found;
-    Ok(SystemMaps {
-        errors,
-        free,
-        mixed,
-        pfs,
-        boot,
-    })
 }
 
 /// Reads each system place of a file and its boot page once, and says what they say. All are read, even
@@ -73,7 +47,34 @@ pub fn read_system<R: SnapReader>(
     ensures image { R.image reader.new ≡ R.image reader.old }
     ensures bound { R.bound reader.new ≡ R.bound reader.old }
 {
-    let found = read_system_pages(alloc, reader, g, pages)?;
-    let maps = maps_of(alloc, g, pages, found)?;
-    Ok(maps)
+    let mut page = Page::zeroed(alloc)?;
+    let mut errors = Vec::new(alloc);
+    let free = read_bits(
+        alloc,
+        reader,
+        SystemKind::Gam,
+        g,
+        pages,
+        &mut page,
+        &mut errors,
+    )?;
+    let mixed = read_bits(
+        alloc,
+        reader,
+        SystemKind::Sgam,
+        g,
+        pages,
+        &mut page,
+        &mut errors,
+    )?;
+    let pfs = read_bytes(alloc, reader, g, pages, &mut page, &mut errors)?;
+    let boot = read_page(alloc, reader, PageNo(9))?;
+    note(&mut errors, g, PageNo(9), &boot)?;
+    Ok(SystemMaps {
+        errors,
+        free,
+        mixed,
+        pfs,
+        boot,
+    })
 }

@@ -1,43 +1,36 @@
-// The system places and the boot page of a file, each read once.
-ghost use Rattle.std.specs.Prelude.{◌≡◌, ◌+◌, ◌≤◌, ◌<◌, ◌++◌, ◌∷◌, [], IfOk, IfSome, OnOk, IsTrue, vec_len};
-ghost use Rattle.spec_file.specs.Image.{page};
+// The system places of a file, each read once into one page.
+ghost use Rattle.std.specs.Prelude.{◌≡◌, ◌≢◌, ◌+◌, ◌-◌, ◌*◌, ◌/◌, ◌≤◌, ◌<◌, ◌++◌, IfOk, IfSome, OnOk, IsTrue, min, map};
+ghost use Rattle.std.specs.List.{range_with_len};
+ghost use Rattle.spec_file.specs.Image.{bit, page as image_page};
 ghost use Rattle.pg_base.specs.Reading.{StopHasCause};
+ghost use Rattle.spec_file.specs.Places.{interval_size as size_of, pfs_span as pfs_span_of, page_limit};
+ghost use Rattle.spec_file.specs.declared.geometry.Geometry.TheVariants.{Standard};
+ghost use Rattle.ck_error.specs.Gathered.{Adds};
 ghost use Rattle.ck_facts.specs.Maps.{HasShape};
 ghost use Rattle.ck_alloc.specs.SystemPlaces as spec;
-ghost use Rattle.ck_alloc.specs.SystemMaps.{ArePagesOf, HaveCounts};
+ghost use Rattle.ck_alloc.specs.declared.places.SystemKind.TheVariants.{Pfs};
+ghost use Rattle.ck_alloc.specs.SystemMaps.{GivesError, SaysValues};
 
+use crate::map_bits::{push_bits, push_bytes};
 use crate::places::{SystemKind, place_count, place_of};
-use pg_base::{Geometry, NoMemory, Page, PageNo, ReadStop, SnapReader, read_page};
+use crate::wrong::note;
+use pg_base::{Geometry, NoMemory, Page, PageNo, ReadStop, SnapReader};
+use pg_geom::{interval_size, pfs_span};
+use spec_check::CheckError;
 use std::alloc::Global;
 
-/// The system places of a file by kind, and its boot page.
-#[derive(Drop)]
-pub struct SystemPages {
-    pub pfs: Vec<Box<Page>>,
-    pub gam: Vec<Box<Page>>,
-    pub sgam: Vec<Box<Page>>,
-    pub boot: Box<Page>,
-}
-
-fn keep(found: &mut Vec<Box<Page>>, page: Box<Page>) -> Result<(), NoMemory>
-    ensures pages { OnOk result (spec.bytes_of found.new.items ≡ spec.bytes_of found.old.items ++ page.value.bytes ∷ []) }
-    ensures count { OnOk result (vec_len found.new ≡ vec_len found.old + 1) }
-{
-    found.push(page)?;
-    Ok(())
-}
-
-// One page more.
-fn read_more<R: SnapReader>(
-    alloc: Global,
+// Reads system place p into the page, and notes its errors.
+fn read_place<R: SnapReader>(
     reader: &mut R,
+    g: Geometry,
     p: PageNo,
-    found: &mut Vec<Box<Page>>,
+    page: &mut Page,
+    errors: &mut Vec<CheckError>,
 ) -> Result<(), ReadStop>
-    requires { p.0 < R.pages reader.old }
-    ensures page { OnOk result (IfSome (R.image reader.old) (λ image.
-        spec.bytes_of found.new.items ≡ spec.bytes_of found.old.items ++ page image p.0 ∷ [])) }
-    ensures count { OnOk result (vec_len found.new ≡ vec_len found.old + 1) }
+    requires inside { p.0 < R.pages reader.old }
+    requires limit { p.0 < page_limit g }
+    ensures page { OnOk result (IfSome (R.image reader.old) (λ image. page.new.bytes ≡ image_page image p.0)) }
+    ensures errors { OnOk result (Adds errors.old.items errors.new.items (GivesError g p.0 page.new.bytes)) }
     ensures cause { StopHasCause (R.faults reader.old) (R.faults reader.new) (R.failed reader.new) (R.ended reader.new) result }
     ensures ended { IsTrue (R.ended reader.old) → IsTrue (R.ended reader.new) }
     ensures faults { R.faults reader.old ≤ R.faults reader.new }
@@ -45,25 +38,35 @@ fn read_more<R: SnapReader>(
     ensures image { R.image reader.new ≡ R.image reader.old }
     ensures bound { R.bound reader.new ≡ R.bound reader.old }
 {
-    let page = read_page(alloc, reader, p)?;
-    keep(found, page)?;
+    reader.page(p, page)?;
+    note(errors, g, p, page)?;
     Ok(())
 }
 
-// All system places of one kind.
+// How many of the values of the k-th place are those of a file that has so many.
+fn rest_of(size: u32, k: u32, count: u32) -> u32
+    requires { size * k ≤ count }
+    ensures { result ≡ min (count - size * k) size }
+{
+    (count - size * k).min(size)
+}
+
+/// Reads the GAM or the SGAM pages of a file: its bits, and the errors of these pages.
 #[tactic(auto, using(crate::proofs::PlaceBounds::place_inside, crate::proofs::PlaceBounds::span_below_limit))]
-fn read_places<R: SnapReader>(
+pub fn read_bits<R: SnapReader>(
     alloc: Global,
     reader: &mut R,
     kind: SystemKind,
     g: Geometry,
     pages: u32,
-) -> Result<Vec<Box<Page>>, ReadStop>
+    page: &mut Page,
+    errors: &mut Vec<CheckError>,
+) -> Result<Vec<bool>, ReadStop>
     requires count { R.pages reader.old ≡ pages }
     requires shape { HasShape g pages }
-    ensures places { IfOk result (λ found. IfSome (R.image reader.old) (λ image.
-        spec.bytes_of found.items ≡ spec.places_of_image kind g image (spec.place_count kind g pages))) }
-    ensures found { IfOk result (λ found. vec_len found ≡ spec.place_count kind g pages) }
+    requires kind { kind ≢ Pfs }
+    ensures said { IfOk result (λ bits. SaysValues kind g (spec.bit_in g) (spec.place_count kind g pages) (pages / 8)
+        (R.image reader.old) errors.old.items errors.new.items bits.items) }
     ensures cause { StopHasCause (R.faults reader.old) (R.faults reader.new) (R.failed reader.new) (R.ended reader.new) result }
     ensures ended { IsTrue (R.ended reader.old) → IsTrue (R.ended reader.new) }
     ensures faults { R.faults reader.old ≤ R.faults reader.new }
@@ -71,24 +74,28 @@ fn read_places<R: SnapReader>(
     ensures image { R.image reader.new ≡ R.image reader.old }
     ensures bound { R.bound reader.new ≡ R.bound reader.old }
 {
-    let mut found = Vec::new(alloc);
+    let mut bits = Vec::new(alloc);
     for k in 0..place_count(kind, g, pages) {
-        read_more(alloc, reader, place_of(kind, g, k), &mut found)?;
+        read_place(reader, g, place_of(kind, g, k), page, errors)?;
+        push_bits(&mut bits, page, rest_of(interval_size(g), k, pages / 8))?;
     }
-    Ok(found)
+    Ok(bits)
 }
 
-/// Reads the system places of a file, and its boot page.
-pub fn read_system_pages<R: SnapReader>(
+/// Reads the PFS pages of a file: its bytes, and the errors of these pages.
+#[tactic(auto, using(crate::proofs::PlaceBounds::place_inside, crate::proofs::PlaceBounds::span_below_limit))]
+pub fn read_bytes<R: SnapReader>(
     alloc: Global,
     reader: &mut R,
     g: Geometry,
     pages: u32,
-) -> Result<SystemPages, ReadStop>
+    page: &mut Page,
+    errors: &mut Vec<CheckError>,
+) -> Result<Vec<u8>, ReadStop>
     requires count { R.pages reader.old ≡ pages }
     requires shape { HasShape g pages }
-    ensures of { IfOk result (λ found. IfSome (R.image reader.old) (ArePagesOf g pages found)) }
-    ensures counts { IfOk result (HaveCounts g pages) }
+    ensures said { IfOk result (λ bytes. SaysValues Pfs g (spec.byte_in g) (spec.place_count Pfs g pages) pages
+        (R.image reader.old) errors.old.items errors.new.items bytes.items) }
     ensures cause { StopHasCause (R.faults reader.old) (R.faults reader.new) (R.failed reader.new) (R.ended reader.new) result }
     ensures ended { IsTrue (R.ended reader.old) → IsTrue (R.ended reader.new) }
     ensures faults { R.faults reader.old ≤ R.faults reader.new }
@@ -96,14 +103,10 @@ pub fn read_system_pages<R: SnapReader>(
     ensures image { R.image reader.new ≡ R.image reader.old }
     ensures bound { R.bound reader.new ≡ R.bound reader.old }
 {
-    let gam = read_places(alloc, reader, SystemKind::Gam, g, pages)?;
-    let sgam = read_places(alloc, reader, SystemKind::Sgam, g, pages)?;
-    let pfs = read_places(alloc, reader, SystemKind::Pfs, g, pages)?;
-    let boot = read_page(alloc, reader, PageNo(9))?;
-    Ok(SystemPages {
-        pfs,
-        gam,
-        sgam,
-        boot,
-    })
+    let mut bytes = Vec::new(alloc);
+    for k in 0..place_count(SystemKind::Pfs, g, pages) {
+        read_place(reader, g, place_of(SystemKind::Pfs, g, k), page, errors)?;
+        push_bytes(&mut bytes, page, rest_of(pfs_span(g), k, pages))?;
+    }
+    Ok(bytes)
 }

@@ -1,22 +1,16 @@
 // The errors of the system places and of the boot page.
-ghost use Rattle.std.specs.Prelude.{◌≡◌, ◌↔◌, ◌<◌, ◌/◌, ◌*◌, IsTrue, IfOk, OnOk, length};
+ghost use Rattle.std.specs.Prelude.{◌≡◌, ◌↔◌, ◌<◌, ◌/◌, ◌*◌, IsTrue, OnOk};
 ghost use Rattle.spec_file.specs.Header.{says};
 ghost use Rattle.spec_file.specs.Places as places;
 ghost use Rattle.spec_file.specs.Roles.{system_type};
 ghost use Rattle.spec_check.specs.System.{HasWrongHeader, IsWrong, IsErrorOf, wrong_page, wrong_interval};
-ghost use Rattle.ck_error.specs.Gathered.{Gathers, Adds};
-ghost use Rattle.ck_facts.specs.Maps.{HasShape};
-ghost use Rattle.ck_alloc.specs.SystemPlaces.{place_count, bytes_of};
-ghost use Rattle.ck_alloc.specs.SystemMaps.{GivesError, IsErrorOfKind, IsErrorOfPages, HaveCounts};
+ghost use Rattle.ck_error.specs.Gathered.{Adds};
+ghost use Rattle.ck_alloc.specs.SystemMaps.{GivesError};
 
-use crate::map_bits::map_page;
-use crate::places::{SystemKind, place_count, place_of};
-use crate::system_pages::SystemPages;
 use db_cat::catalog_passes;
 use pg_base::{Geometry, NoMemory, Page, PageNo, Role, read_header};
 use pg_geom::{interval_pages, role_of};
 use spec_check::CheckError;
-use std::alloc::Global;
 
 /// Whether a page has this type, and this number as its own.
 pub fn is_page_of(page: &Page, page_type: u8, p: u32) -> bool
@@ -100,8 +94,13 @@ fn add_both(
     Ok(())
 }
 
-// Adds both errors of page p where it is wrong.
-fn note(errors: &mut Vec<CheckError>, g: Geometry, p: PageNo, page: &Page) -> Result<(), NoMemory>
+/// Adds both errors of page p where it is wrong.
+pub fn note(
+    errors: &mut Vec<CheckError>,
+    g: Geometry,
+    p: PageNo,
+    page: &Page,
+) -> Result<(), NoMemory>
     requires { p.0 < places.page_limit g }
     ensures { OnOk result (Adds errors.old.items errors.new.items (GivesError g p.0 page.now.bytes)) }
 {
@@ -110,41 +109,4 @@ fn note(errors: &mut Vec<CheckError>, g: Geometry, p: PageNo, page: &Page) -> Re
     }
     add_both(errors, g, p, page)?;
     Ok(())
-}
-
-#[tactic(auto, using(crate::proofs::PlaceBounds::place_inside, crate::proofs::PlaceBounds::span_below_limit))]
-fn note_kind(
-    errors: &mut Vec<CheckError>,
-    kind: SystemKind,
-    g: Geometry,
-    pages: u32,
-    found: &[Box<Page>],
-) -> Result<(), NoMemory>
-    requires shape { HasShape g pages }
-    requires count { length found.now ≡ place_count kind g pages }
-    ensures { OnOk result (Adds errors.old.items errors.new.items (IsErrorOfKind kind g (bytes_of found.now))) }
-{
-    for k in 0..place_count(kind, g, pages) {
-        note(errors, g, place_of(kind, g, k), map_page(found, k as usize))?;
-    }
-    Ok(())
-}
-
-/// The errors of the system places and of the boot page.
-pub fn errors_of_pages(
-    alloc: Global,
-    g: Geometry,
-    pages: u32,
-    found: &SystemPages,
-) -> Result<Vec<CheckError>, NoMemory>
-    requires shape { HasShape g pages }
-    requires counts { HaveCounts g pages found.now }
-    ensures { IfOk result (λ errors. Gathers errors.items (IsErrorOfPages g found.now)) }
-{
-    let mut errors = Vec::new(alloc);
-    note_kind(&mut errors, SystemKind::Gam, g, pages, &found.gam)?;
-    note_kind(&mut errors, SystemKind::Sgam, g, pages, &found.sgam)?;
-    note_kind(&mut errors, SystemKind::Pfs, g, pages, &found.pfs)?;
-    note(&mut errors, g, PageNo(9), &found.boot)?;
-    Ok(errors)
 }

@@ -1,4 +1,4 @@
-use Rattle.std.proofs.Common.{arith, ◌∙◌, sym, ap}
+use Rattle.std.proofs.Common.{arith, ◌∙◌, sym}
 use Rattle.ck_alloc.proofs.ChainSteps.{bare_more, bare_of}
 use Rattle.ck_alloc.proofs.read.extents_of.Goals as goal
 

@@ -1,4 +1,4 @@
-use Rattle.std.proofs.Common.{◌≡◌, vec_len, take}
+use Rattle.std.proofs.Common.{◌≡◌, vec_len}
 use Rattle.ck_alloc.specs.ChainsRead.{AreBare}
 use Rattle.ck_alloc.proofs.read.extents_of.Given as goal
 

@@ -1,7 +1,7 @@
 use Rattle.std.proofs.Common.{◌≡◌, arith, ◌∙◌, length, subst}
 use Rattle.ck_facts.specs.Maps.{rows_of_objects}
 use Rattle.ck_alloc.specs.ChainsRead.{AreChainsRead}
-use Rattle.ck_alloc.proofs.ChainSteps.{read_none, read_more, row_at}
+use Rattle.ck_alloc.proofs.ChainSteps.{read_more, row_at}
 use Rattle.ck_alloc.proofs.read.read_chains.Goals as goal
 
 pub loop-i-preserved : goal.loop-i-preserved

@@ -1,4 +1,4 @@
-use Rattle.std.proofs.Common.{◌≡◌, ◌<◌, arith, ◌∙◌, sym, refl, ap, subst, length, vec_len, []}
+use Rattle.std.proofs.Common.{◌≡◌, ◌<◌, arith, ◌∙◌, sym, refl, ap, length, vec_len, []}
 use Rattle.std.proofs.lemmas.Bool.Decides.{nat_tests}
 use Rattle.std.proofs.lemmas.List.{length-map}
 use Rattle.db_cat.specs.Rows.{row_of}

@@ -1,12 +1,12 @@
-use Rattle.std.proofs.Common.{◌≡◌, ◌≤◌, IfSome, IsTrue}
-use Rattle.std.specs.Prelude.{vec_len}
-use Rattle.ck_alloc.specs.SystemPlaces.{bytes_of, places_of_image}
-use Rattle.ck_alloc.proofs.system_pages.read_places.Given as goal
+use Rattle.std.proofs.Common.{◌≡◌, ◌≤◌, ◌*◌, ◌/◌, min, IsTrue}
+use Rattle.spec_file.specs.Places.{interval_size}
+use Rattle.ck_alloc.specs.SystemPlaces.{bit_in}
+use Rattle.ck_alloc.specs.SystemMaps.{SaysValues}
+use Rattle.ck_alloc.proofs.system_pages.read_bits.Given as goal
 
 abbrev pub invariant-loop-k : goal.invariant-loop-k
 invariant-loop-k g l = record {
-  places : IfSome (g.R.SnapReader.image l.reader) (λ image. bytes_of l.found.items ≡ places_of_image l.kind l.g image l.k);
-  count : vec_len l.found ≡ l.k;
+  said : SaysValues l.kind l.g (bit_in l.g) l.k (min (l.pages / 8) (interval_size l.g * l.k)) (g.R.SnapReader.image l.fn.reader) l.initial.errors.items l.errors.items l.bits.items;
   ended : IsTrue (g.R.SnapReader.ended l.fn.reader) → IsTrue (g.R.SnapReader.ended l.reader);
   faults : g.R.SnapReader.faults l.fn.reader ≤ g.R.SnapReader.faults l.reader;
   pages : g.R.SnapReader.pages l.reader ≡ g.R.SnapReader.pages l.fn.reader;

@@ -1,0 +1,7 @@
+//! The words in which the crates above speak of the rows of a page: the grammar of a row, the slot
+//! array, and the page test with its first fault (all are this project's own).
+#![tactic(auto)]
+
+mod fault;
+
+pub use fault::SlotFault;

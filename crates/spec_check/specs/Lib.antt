@@ -1,5 +1,8 @@
 pub mod Errors
 pub mod System
 pub mod Maps
+pub mod Pages
+pub mod Chains
+pub mod Allocation
 pub mod Written
 pub mod Text

@@ -1,0 +1,24 @@
+-- The maps are those of an image.
+use Rattle.std.specs.Prelude.{◌≡◌, [], length, map}
+use Rattle.std.specs.List.{range_with_len}
+use Rattle.spec_file.specs.Image.{Image}
+use Rattle.spec_chain.specs.Uses.{pfs_byte}
+use Rattle.spec_check.specs.Errors.{Lists}
+use Rattle.spec_check.specs.System.{IsSystemError}
+use Rattle.spec_check.specs.Chains.{IsChainError}
+use Rattle.ck_error.specs.Gathered.{Gathers}
+use Rattle.ck_facts.specs.declared.map.AllocMap.{AllocMap}
+use Rattle.ck_facts.specs.Maps.{AreAllUses, AreObjects, AreExtents, rows_of_objects}
+
+-- all that the maps keep where no system page is wrong
+pub record IsWholeMapOf (image : Image) (m : AllocMap) : Type 0 where
+  pub objects : AreObjects image (rows_of_objects m.objects.items)
+  pub chains : Gathers m.chains.items (IsChainError m.geometry image)
+  pub uses : AreAllUses m.geometry image m.uses.items
+  pub extents : AreExtents m.geometry image (rows_of_objects m.objects.items) m.extents.items
+  pub pfs : m.pfs.items ≡ map (pfs_byte m.geometry image) (range_with_len 0 m.pages)
+
+pub record IsMapOf (image : Image) (m : AllocMap) : Type 0 where
+  pub pages : length image ≡ m.pages
+  pub system : Lists m.system.items (IsSystemError m.geometry image)
+  pub whole : m.system.items ≡ [] → IsWholeMapOf image m

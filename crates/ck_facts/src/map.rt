@@ -1,0 +1,74 @@
+// The maps of a file.
+ghost use Rattle.std.specs.Prelude.{◌≡◌, ◌<◌, ◌≤◌, ◌*◌, ◌/◌, [], length, vec_len};
+ghost use Rattle.ck_facts.specs.Maps.{HasShape, HasSizes};
+
+use crate::CatRow;
+use pg_base::{ExtentNo, Geometry, PageNo};
+use spec_check::CheckError;
+
+/// A use of a page: by a single-page slot of an object, or as a page of its IAM chain.
+#[derive(Clone, Copy, Debug, PartialEq, Eq, PartialOrd, Ord)]
+pub struct PageUse {
+    pub page: u32,
+    pub object: u32,
+    /// The slot, 0 to 7; 8 for a page of the chain.
+    pub place: u8,
+}
+
+/// What the maps say of one extent.
+#[derive(Clone, Copy, Debug, PartialEq, Eq)]
+pub struct ExtentMap {
+    /// Its GAM bit.
+    pub free: bool,
+    /// Its SGAM bit.
+    pub mixed: bool,
+    /// Bit i is 1 where the i-th object by id marks the extent.
+    pub marks: [u8; 16],
+}
+
+/// The maps of a file, its objects and the uses of its pages (Pages and Extents Architecture Guide).
+///
+/// Where the file has system errors they stand alone: nothing else was read.
+#[derive(Drop)]
+pub struct AllocMap {
+    pub geometry: Geometry,
+    /// How many pages the file has.
+    pub pages: u32,
+    /// The errors of system pages, in order.
+    pub system: Vec<CheckError>,
+    /// The objects of the catalog by id.
+    pub objects: Vec<CatRow>,
+    /// The errors of chains, as they were met.
+    pub chains: Vec<CheckError>,
+    /// The uses of pages by page, object and place.
+    pub uses: Vec<PageUse>,
+    /// The extents of the file.
+    pub extents: Vec<ExtentMap>,
+    /// The PFS bytes of its pages.
+    pub pfs: Vec<u8>,
+    ghost shape: { HasShape geometry pages },
+    ghost sizes: { system.items ≡ [] → HasSizes pages (vec_len objects) (vec_len extents) (vec_len pfs) },
+}
+
+impl AllocMap {
+    /// The errors of system pages, in order.
+    pub fn system_errors(&self) -> &[CheckError]
+        ensures { result.now ≡ self.now.system.items }
+    {
+        &self.system
+    }
+
+    /// The objects of the catalog by id.
+    pub fn objects(&self) -> &[CatRow]
+        ensures { result.now ≡ self.now.objects.items }
+    {
+        &self.objects
+    }
+
+    /// How many extents the file has.
+    pub fn extents(&self) -> u32
+        ensures { result ≡ self.now.pages / 8 }
+    {
+        self.pages / 8
+    }
+}

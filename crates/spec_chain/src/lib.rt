@@ -1,0 +1,10 @@
+//! The words in which the crates above speak of what an object owns: its IAM chain, the extents that it
+//! marks, its single-page slots, the uses of a page, and the pages that are allocated to it.
+#![tactic(auto)]
+
+ghost use Rattle.spec_chain.specs.ChainLaws.{ChainHasOneLength};
+
+/// A chain ends at one place.
+pub fn chain_law()
+    ensures { ChainHasOneLength }
+{}

@@ -1,0 +1,2 @@
+//! Laws of legal histories.
+#![tactic(auto)]

@@ -5,3 +5,5 @@ pub mod Doing
 pub mod Keeps
 pub mod Left
 pub mod Shows
+pub mod Moved
+pub mod Steps

@@ -54,11 +54,12 @@ abbrev pub moved_to : Progress → Record → List Record → Progress
 moved_to w x [] = record { told = w.telling ∷ w.told; due = []; telling = w.telling; want = None; tran = open_after w.tran x }
 moved_to w x (y ∷ due) = record { told = w.told; due = y ∷ due; telling = w.telling; want = want_after x; tran = open_after w.tran x }
 
+-- or with an item that stands for want of memory
+abbrev pub cut_short : Progress → Record → Progress
+cut_short w x = record { told = Answers (Refused out_of_memory) ∷ w.told; due = []; telling = w.telling; want = None; tran = open_after w.tran x }
+
 abbrev pub moved : Progress → Record → Progress
-moved w x =
-    if is_short x
-    then record { told = Answers (Refused out_of_memory) ∷ w.told; due = []; telling = w.telling; want = None; tran = open_after w.tran x }
-    else moved_to w x (rest_of w.due)
+moved w x = if is_short x then cut_short w x else moved_to w x (rest_of w.due)
 
 -- where the session stands: its own items move it on, each from the log before it
 abbrev pub progress_of : Setting → ℕ → List Record → Progress

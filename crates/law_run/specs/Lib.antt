@@ -7,3 +7,5 @@ pub mod Left
 pub mod Shows
 pub mod Moved
 pub mod Steps
+pub mod Good
+pub mod Begins

@@ -9,3 +9,5 @@ pub mod Moved
 pub mod Steps
 pub mod Good
 pub mod Begins
+pub mod Written
+pub mod Legal

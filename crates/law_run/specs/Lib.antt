@@ -9,5 +9,6 @@ pub mod Moved
 pub mod Steps
 pub mod Good
 pub mod Begins
+pub mod InsertGood
 pub mod Written
 pub mod Legal

@@ -1,21 +1,20 @@
 -- The record of a statement.
-use Rattle.std.proofs.Common.{◌≡◌, ℕ, ◌+◌, ◌<◌, ◌≤◌, Bool, true, false, eqb, ltb, leb, not, ◌&&◌, ◌||◌, List, [], ◌∷◌, ◌++◌, length, Option, Some, None, ◌⊎◌, inl, inr, refl, sym, ap, ◌∙◌, subst, arith}
+use Rattle.std.proofs.Common.{◌≡◌, ℕ, ◌+◌, ◌<◌, ◌≤◌, Bool, true, false, eqb, ltb, leb, not, ◌&&◌, List, [], ◌∷◌, ◌++◌, length, None, ◌⊎◌, inl, inr, refl, sym, ap, ◌∙◌, subst, arith}
 use Rattle.std.specs.Prelude.{if◌then◌else◌}
-use Rattle.std.specs.List.{list_any}
-use Rattle.std.proofs.lemmas.Bool.{true≢false, false≢true, cases_Bool, and_from, or_left, or_right, eq-eqb, both_ways, lt-ltb, le-leb}
+use Rattle.std.proofs.lemmas.Bool.{false≢true, cases_Bool, and_from, or_left, or_right, eq-eqb, both_ways, lt-ltb, le-leb}
 use Rattle.spec_file.specs.declared.data.Resource.{Resource}
 use Rattle.spec_log.specs.declared.item.Record.{Record}
-use Rattle.spec_log.specs.declared.item.Record.TheVariants.{Start, Commit, Snap, CheckEnd}
-use Rattle.spec_log.specs.Items.{has_form, is_same}
-use Rattle.spec_log.specs.Log.{has_started, has_ended, has_undone, is_unfinished, greatest_of, left_of}
-use Rattle.spec_log.specs.Rules.{Follows, MayStart, AreFreeFor}
+use Rattle.spec_log.specs.declared.item.Record.TheVariants.{Start, Snap, CheckEnd}
+use Rattle.spec_log.specs.Items.{has_form}
+use Rattle.spec_log.specs.Log.{has_started, has_undone, greatest_of, left_of}
+use Rattle.spec_log.specs.Rules.{Follows, AreFreeFor}
 use Rattle.spec_log.specs.Sound.{Fits, is_old}
-use Rattle.law_undo.specs.Holders.{Unfinished, unfinished_parts, unfinished_from}
+use Rattle.law_undo.specs.Holders.{unfinished_parts, unfinished_from}
 use Rattle.spec_plan.specs.Planned.{Planned}
 use Rattle.spec_run.specs.Shapes.{plain_start}
 use Rattle.spec_run.specs.Sessions.{session_of, owner_of}
 use Rattle.spec_run.specs.Begun.{Setting}
-use Rattle.spec_run.specs.Progress.{Progress, is_short, want_after, cut_short, moved_to, moved}
+use Rattle.spec_run.specs.Progress.{Progress, is_short, moved_to}
 use Rattle.law_run.specs.Fresh.{not_started_above, not_ended_above, not_undone_above, not_old_above}
 use Rattle.law_run.specs.Doing.{Owns, Opens, change_items, abort_items, ArePlannedIn, IsDoing, Idle, Changing, Undoing, Checking, IsOwn, StepsTo}
 use Rattle.law_run.specs.Moved.{moved_whole, moved_short, moved_due, moved_tran, moved_want}
@@ -139,9 +138,9 @@ committing_steps run log s i t w hs hi owns still due =
       fits = st.fits;
       after = subst (IsDoing run (x ∷ log) s) (sym (moved_whole w x (change_items t [] true) refl due))
           (elim st.opens [
-        | inl none ↦ absurd (both_ways (ltb 0 t) (ap (ltb 0) none) (unfinished_parts (log ++ run.opened) t owns.unfinished).above)
-        | inr o ↦ Changing [] true refl refl o.0 o.1 (record { cells = tt; covered = tt; find = tt })
-      ]);
+            | inl none ↦ absurd (both_ways (ltb 0 t) (ap (ltb 0) none) (unfinished_parts (log ++ run.opened) t owns.unfinished).above)
+            | inr o ↦ Changing [] true refl refl o.0 o.1 (record { cells = tt; covered = tt; find = tt })
+          ]);
     }
 
 -- ROLLBACK
@@ -159,9 +158,9 @@ rolling_steps run log s i t w hs hi owns still due =
       fits = st.fits;
       after = subst (IsDoing run (x ∷ log) s) (sym (moved_whole w x rest refl due))
           (elim st.opens [
-        | inl none ↦ absurd (both_ways (ltb 0 t) (ap (ltb 0) none) (unfinished_parts (log ++ run.opened) t owns.unfinished).above)
-        | inr o ↦ undoing (moved_to w x rest) (moved_due w x rest) (moved_tran w x rest) (moved_want w x rest refl) o.0
-      ]);
+            | inl none ↦ absurd (both_ways (ltb 0 t) (ap (ltb 0) none) (unfinished_parts (log ++ run.opened) t owns.unfinished).above)
+            | inr o ↦ undoing (moved_to w x rest) (moved_due w x rest) (moved_tran w x rest) (moved_want w x rest refl) o.0
+          ]);
     }
   where
     undoing : (next : Progress) → next.due ≡ abort_items t (left_of t (log ++ run.opened)) → next.tran ≡ t → next.want ≡ None → Owns run (plain_start s i t 0 ∷ log) s t →
@@ -188,9 +187,9 @@ writing_steps run log s i u size takes changes own w st above form planned due =
       fits = st.fits;
       after = subst (IsDoing run (x ∷ log) s) (sym (moved_whole w x rest refl due))
           (elim st.opens [
-        | inl none ↦ absurd (omega (arith, none, above))
-        | inr o ↦ changing (moved_to w x rest) (moved_due w x rest) (moved_tran w x rest) (moved_want w x rest refl) o.0 o.1
-      ]);
+            | inl none ↦ absurd (omega (arith, none, above))
+            | inr o ↦ changing (moved_to w x rest) (moved_due w x rest) (moved_tran w x rest) (moved_want w x rest refl) o.0 o.1
+          ]);
     }
   where
     changing : (next : Progress) → next.due ≡ change_items u changes own → next.tran ≡ u → next.want ≡ None →

@@ -1,11 +1,11 @@
 -- A number above all transactions is new.
-use Rattle.std.proofs.Common.{◌≡◌, ℕ, ◌+◌, ◌<◌, ◌≤◌, Bool, true, false, eqb, ltb, not, ◌&&◌, ◌||◌, List, [], ◌∷◌, ◌++◌, ◌⊎◌, inl, inr, refl, sym, ap, ◌∙◌, subst, arith}
-use Rattle.std.proofs.lemmas.Bool.{true≢false, false≢true, or_cases, and_parts, and_from, eqb-true, both_ways, lt-ltb, ltb-true, or_right}
+use Rattle.std.proofs.Common.{◌≡◌, ℕ, ◌<◌, ◌≤◌, Bool, true, false, ltb, List, [], ◌∷◌, ◌++◌, inl, inr, refl, subst, arith}
+use Rattle.std.proofs.lemmas.Bool.{false≢true, or_cases, and_parts, eqb-true}
 use Rattle.spec_file.specs.declared.geometry.Geometry.{Geometry}
 use Rattle.spec_log.specs.declared.item.Record.{Record}
 use Rattle.spec_log.specs.declared.item.Record.TheVariants.{Start, Change, Undo, Commit, Abort, Snap, Failed, CheckEnd}
 use Rattle.spec_log.specs.Items.{tran_of}
-use Rattle.spec_log.specs.Log.{starts, ends, undoes, has_started, has_ended, has_undone, is_unfinished, greatest_of}
+use Rattle.spec_log.specs.Log.{starts, ends, undoes, has_started, has_ended, has_undone, greatest_of}
 use Rattle.spec_log.specs.Rules.{Follows, KeepsRules}
 use Rattle.spec_log.specs.Sound.{is_old}
 use Rattle.law_undo.specs.Holders.{unfinished_parts}

@@ -1,23 +1,21 @@
 -- An item of one session leaves every other session doing what it did.
-use Rattle.std.proofs.Common.{◌≡◌, ℕ, Bool, true, false, eqb, ltb, List, [], ◌∷◌, ◌++◌, length, Option, Some, None, ◌⊎◌, inl, inr, refl, sym, ap, ◌∙◌, subst}
+use Rattle.std.proofs.Common.{◌≡◌, ℕ, true, false, ltb, List, ◌∷◌, ◌++◌, length, inl, inr, sym, ap, ◌∙◌, subst}
 use Rattle.std.specs.Prelude.{if◌then◌else◌}
 use Rattle.std.proofs.lemmas.Bool.{both_ways, ne_eqb}
 use Rattle.spec_log.specs.declared.item.Record.{Record}
-use Rattle.spec_log.specs.declared.item.Record.TheVariants.{CheckEnd}
 use Rattle.spec_log.specs.Items.{tran_of, has_form}
-use Rattle.spec_log.specs.Log.{has_started, has_undone, is_unfinished, left_of}
+use Rattle.spec_log.specs.Log.{has_started}
 use Rattle.spec_log.specs.Rules.{Follows}
-use Rattle.spec_log.specs.Images.{apply, final_image}
-use Rattle.spec_log.specs.Sound.{IsSound, is_old}
+use Rattle.spec_log.specs.Images.{final_image}
+use Rattle.spec_log.specs.Sound.{IsSound}
 use Rattle.law_undo.specs.Holders.{unfinished_parts}
 use Rattle.law_undo.specs.Views.{sound_rules, sound_forms}
-use Rattle.spec_plan.specs.Planned.{Planned}
 use Rattle.spec_run.specs.Sessions.{owner_of, session_of}
 use Rattle.spec_run.specs.Begun.{Setting}
 use Rattle.spec_run.specs.Progress.{Progress, progress_of, at_work, moved}
 use Rattle.law_run.specs.Others.{unfinished_other, owner_other, undone_other, left_other}
 use Rattle.law_run.specs.Plans.{planned_other}
-use Rattle.law_run.specs.Doing.{Owns, Opens, change_items, abort_items, ArePlannedIn, IsDoing, Idle, Changing, Undoing, Checking, IsOwn}
+use Rattle.law_run.specs.Doing.{Owns, Opens, abort_items, IsDoing, Idle, Changing, Undoing, Checking, IsOwn}
 
 pub Owns_other : (run : Setting) (log : List Record) (x : Record) (s t : ℕ) → (tran_of x ≡ t → ⊥) → Owns run log s t → Owns run (x ∷ log) s t
 Owns_other run log x s t n o = record {

@@ -1,27 +1,25 @@
 -- A legal history is sound, and each session is in the middle of a statement or of none.
-use Rattle.std.proofs.Common.{◌≡◌, ℕ, ◌+◌, ◌<◌, ◌≤◌, Bool, true, false, eqb, List, [], ◌∷◌, ◌++◌, length, All, Option, Some, None, ◌⊎◌, inl, inr, refl, sym, ap, ◌∙◌, subst, arith}
+use Rattle.std.proofs.Common.{◌≡◌, ℕ, ◌+◌, ◌<◌, ◌≤◌, true, false, eqb, List, [], ◌∷◌, ◌++◌, length, Option, Some, None, inl, inr, refl, sym, ap, ◌∙◌, subst, arith}
 use Rattle.std.specs.Prelude.{if◌then◌else◌, slice_get}
-use Rattle.std.proofs.lemmas.Bool.{cond_both, eqb-true, eqb-false, cases_eq, eq-eqb}
-use Rattle.spec_file.specs.Image.{Image, page, page_size}
+use Rattle.std.proofs.lemmas.Bool.{cond_both, eqb-false, cases_eq, eq-eqb}
 use Rattle.spec_log.specs.declared.item.Record.{Record}
 use Rattle.spec_log.specs.declared.item.Record.TheVariants.{Start, Undo, Commit, Abort, CheckEnd}
 use Rattle.spec_log.specs.Log.{has_undone, greatest_of, left_of}
 use Rattle.spec_log.specs.Limits.{passes_limit}
-use Rattle.spec_log.specs.Cells.{HasWholePages}
 use Rattle.spec_log.specs.Images.{view_of, damaged_page}
-use Rattle.spec_log.specs.Rules.{HaveForm, KeepsRules}
 use Rattle.spec_script.specs.declared.statement.Statement.{Statement}
 use Rattle.spec_script.specs.declared.statement.Statement.TheVariants as statement
 use Rattle.spec_plan.specs.Planned.{Planned, planned_size}
 use Rattle.spec_plan.specs.Refusals.{is_open, nothing_to_commit, nothing_to_undo, log_full}
-use Rattle.spec_plan.specs.Sight.{Sight, Outcome, Refuses, Counts, Writes}
+use Rattle.spec_plan.specs.Sight.{Outcome, Refuses, Counts, Writes}
 use Rattle.spec_plan.specs.Statements.{count_outcome, insert_outcome}
-use Rattle.spec_run.specs.Shapes.{Refused as Refusing, Opening, Reading, Writing, Committing, RollingBack, plain_start, change_item, tran_to_write}
+use Rattle.spec_run.specs.Shapes.{Refused as Refusing, Opening, Writing, Committing, RollingBack, plain_start, change_item, tran_to_write}
 use Rattle.spec_run.specs.Sessions.{session_of}
 use Rattle.spec_run.specs.Begun.{Setting, Begun, surely, with_memory, refused, by_outcome, by_damage, begun, sight_of}
 use Rattle.spec_script.specs.declared.reply.Reply.TheVariants.{Done, Rows, Refused}
-use Rattle.spec_run.specs.Progress.{Progress, at_first, progress_of, at_work, with_statement, script_of, moved, work_of, first_of, MayCome}
-use Rattle.spec_run.specs.Turns.{IsSession, IsLegal}
+use Rattle.spec_run.specs.Progress.{Progress, progress_of, at_work, with_statement, script_of, moved, work_of, first_of, MayCome}
+use Rattle.spec_run.specs.Turns.{IsLegal}
+use Rattle.law_run.specs.Laws.{IsStart, LegalIsSound, NextBelongs}
 use Rattle.law_run.specs.Doing.{Owns, Opens, change_items, abort_items, IsDoing, Idle, Changing, Undoing, Checking, StepsTo}
 use Rattle.law_run.specs.Keeps.{other_session}
 use Rattle.law_run.specs.Steps.{IsSoundIn, change_steps, commit_steps, abort_steps, undo_steps, end_steps}
@@ -29,7 +27,7 @@ use Rattle.law_run.specs.Good.{IsGoodPlan}
 use Rattle.law_run.specs.Begins.{Begins, opens_begins, single_steps, committing_steps, rolling_steps, writing_steps, snap_steps}
 use Rattle.law_run.specs.Shows.{view_shape}
 use Rattle.law_run.specs.InsertGood.{insert_good, whole_shape, count_writes_nothing, IsNoWrite}
-use Rattle.law_run.specs.Written.{writes_for, few_changes, IsWritten, is_written}
+use Rattle.law_run.specs.Written.{writes_for, few_changes, is_written}
 
 some_same : (x y : Record) → Some x ≡ Some y → x ≡ y
 some_same x y e = cc
@@ -105,13 +103,6 @@ damage_steps run log s i p None opens hs hi =
 damage_steps run log s i p (Some q) opens hs hi =
     surely_steps run log s (with_begun p (by_damage run log s i (Some q))) _ _ refl refl
     (snap_steps run log s i 2 (with_begun p (by_damage run log s i (Some q))) hs hi (omega arith) opens refl)
-
--- what a run may begin with
-pub record IsStart (run : Setting) : Type 0 where
-  pub forms : HaveForm run.opened
-  pub rules : KeepsRules run.geometry (length run.image) run.opened
-  pub whole : HasWholePages run.image
-  pub many : 16 ≤ length run.image
 
 pub begun_steps : (run : Setting) (log : List Record) (s i : ℕ) (p : Progress) (st : Statement) → IsStart run → IsSoundIn run log → Opens run log s p.tran → 0 < s → 0 < i →
     BeginSteps run log s p (begun run log s i p.tran st)
@@ -219,3 +210,11 @@ right_after run log s x start right hs may =
 pub legal_right : (run : Setting) (log : List Record) → IsStart run → IsLegal run log → IsRight run log
 legal_right run [] start legal = right_at_first run start
 legal_right run (x ∷ log) start legal = right_after run log legal.0.0 x start (legal_right run log start legal.1) legal.0.1.0 legal.0.2
+
+pub legal_is_sound : LegalIsSound
+legal_is_sound run log start legal = (legal_right run log start legal).sound
+
+pub next_belongs : NextBelongs
+next_belongs run log s x start legal hs may =
+    let right = legal_right run log start legal in
+    (comes_steps run log s (progress_of run s log) start right.sound hs (right.doing s) x may).belongs

@@ -1,5 +1,5 @@
 -- What an item leaves of a session's progress.
-use Rattle.std.proofs.Common.{◌≡◌, ℕ, Bool, true, false, List, [], ◌∷◌, Option, Some, None, refl, ap, ◌∙◌, subst}
+use Rattle.std.proofs.Common.{◌≡◌, true, false, List, [], ◌∷◌, None, refl, ap, ◌∙◌}
 use Rattle.std.specs.Prelude.{if◌then◌else◌}
 use Rattle.spec_log.specs.declared.item.Record.{Record}
 use Rattle.spec_log.specs.Log.{rest_of}

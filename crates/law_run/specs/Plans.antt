@@ -1,11 +1,10 @@
 -- Planned changes that find what they say, one after another, and are covered: they go on doing so while others
 -- write.
-use Rattle.std.proofs.Common.{◌≡◌, ℕ, ◌+◌, ◌<◌, Bool, true, false, List, [], ◌∷◌, ◌++◌, length, Option, Some, None, ◌⊎◌, inl, inr, refl, sym, ap, ◌∙◌, subst}
+use Rattle.std.proofs.Common.{◌≡◌, ℕ, ◌+◌, true, List, [], ◌∷◌, length, Option, Some, None, refl, sym, ap, ◌∙◌, subst}
 use Rattle.std.specs.Prelude.{if◌then◌else◌}
 use Rattle.spec_file.specs.declared.data.Resource.{Resource}
 use Rattle.spec_file.specs.declared.geometry.Geometry.{Geometry}
-use Rattle.spec_file.specs.Image.{Image, page}
-use Rattle.spec_file.specs.Roles.{role_of}
+use Rattle.spec_file.specs.Image.{Image}
 use Rattle.spec_log.specs.declared.item.Cell.{Cell}
 use Rattle.spec_log.specs.declared.item.Cell.TheVariants.{Bytes, Bit}
 use Rattle.spec_log.specs.declared.item.Record.{Record}
@@ -13,11 +12,11 @@ use Rattle.spec_log.specs.Items.{tran_of, has_cell_form}
 use Rattle.spec_log.specs.Log.{holds}
 use Rattle.spec_log.specs.Cells.{read_cell, put}
 use Rattle.spec_log.specs.Cover.{IsCovered, HoldsGuard, byte_guard, bit_guard}
-use Rattle.spec_log.specs.Images.{apply, final_image}
+use Rattle.spec_log.specs.Images.{apply}
 use Rattle.spec_log.specs.Rules.{Follows, KeepsRules, HaveForm}
-use Rattle.law_undo.specs.Atoms.{Atom, read, has_atom, bit_in, write_on, over}
-use Rattle.law_undo.specs.Reading.{IsInside, SameShape, shape_refl, shape_trans, inside_shape, shape_put, read_put}
-use Rattle.law_undo.specs.ReadLogs.{CellForm, cell_form, read_apply, shape_apply}
+use Rattle.law_undo.specs.Atoms.{read, has_atom, bit_in, write_on, over}
+use Rattle.law_undo.specs.Reading.{IsInside, SameShape, shape_trans, inside_shape, shape_put, read_put}
+use Rattle.law_undo.specs.ReadLogs.{cell_form, read_apply, shape_apply}
 use Rattle.law_undo.specs.Guards.{guard_of, atom, covered_at, follows_at, rules_at}
 use Rattle.law_undo.specs.Holders.{one_holder}
 use Rattle.law_undo.specs.CellAtoms.{same_cell}

@@ -1,5 +1,5 @@
 -- Where a transaction holds the guard, or nobody else does, the file shows what it sees.
-use Rattle.std.proofs.Common.{◌≡◌, ℕ, Bool, true, false, List, [], ◌∷◌, ◌++◌, length, refl, sym, ap, ◌∙◌, subst}
+use Rattle.std.proofs.Common.{◌≡◌, ℕ, true, false, List, ◌++◌, length}
 use Rattle.spec_file.specs.declared.data.Resource.{Resource}
 use Rattle.spec_file.specs.declared.geometry.Geometry.{Geometry}
 use Rattle.spec_file.specs.Image.{Image}
@@ -10,7 +10,7 @@ use Rattle.spec_log.specs.Cells.{read_cell}
 use Rattle.spec_log.specs.Cover.{IsCovered}
 use Rattle.spec_log.specs.Images.{view_of, final_image}
 use Rattle.spec_log.specs.Sound.{IsSound, is_old}
-use Rattle.law_undo.specs.Reading.{IsInside, SameShape, shape_trans, inside_shape}
+use Rattle.law_undo.specs.Reading.{SameShape, shape_trans, inside_shape}
 use Rattle.law_undo.specs.ReadLogs.{shape_applied}
 use Rattle.law_undo.specs.Guards.{guard_of, atom, covered_at}
 use Rattle.law_undo.specs.Holders.{unfinished_parts}

@@ -1,25 +1,21 @@
 -- The steps of a statement that is under way: a Change, the Commit, an Undo, the Abort, the end of a check.
-use Rattle.std.proofs.Common.{◌≡◌, ℕ, ◌+◌, Bool, true, false, eqb, List, [], ◌∷◌, ◌++◌, length, map, Option, Some, None, ◌⊎◌, inl, inr, refl, sym, ap, ◌∙◌, subst}
+use Rattle.std.proofs.Common.{◌≡◌, ℕ, Bool, true, false, List, [], ◌∷◌, ◌++◌, length, Option, Some, None, ◌⊎◌, inl, inr, refl, sym, ap, ◌∙◌, subst}
 use Rattle.std.specs.Prelude.{if◌then◌else◌}
 use Rattle.std.proofs.lemmas.Bool.{cases_Bool, eq-eqb, both_ways}
 use Rattle.spec_file.specs.declared.data.Resource.{Resource}
 use Rattle.spec_log.specs.declared.item.Record.{Record}
-use Rattle.spec_log.specs.declared.item.Record.TheVariants.{Change, Undo, Commit, Abort, CheckEnd}
+use Rattle.spec_log.specs.declared.item.Record.TheVariants.{Undo, Commit, Abort, CheckEnd}
 use Rattle.spec_log.specs.Items.{has_form}
 use Rattle.spec_log.specs.Log.{has_undone, left_of, rest_of}
-use Rattle.spec_log.specs.Cells.{put}
 use Rattle.spec_log.specs.Cover.{IsCovered, HoldsGuard}
-use Rattle.spec_log.specs.Images.{final_image}
 use Rattle.spec_log.specs.Sound.{IsSound}
 use Rattle.law_undo.specs.ReadLogs.{cell_form}
-use Rattle.law_undo.specs.Views.{sound_rules}
 use Rattle.spec_plan.specs.Planned.{Planned}
 use Rattle.spec_run.specs.Shapes.{change_item}
 use Rattle.spec_run.specs.Begun.{Setting}
-use Rattle.spec_run.specs.Sessions.{open_after}
-use Rattle.spec_run.specs.Progress.{Progress, is_short, moved_to, moved}
-use Rattle.law_run.specs.Plans.{ArePlanned, all_covered_more}
-use Rattle.law_run.specs.Doing.{Owns, Opens, change_items, abort_items, ArePlannedIn, IsDoing, Idle, Changing, Undoing, Checking, StepsTo}
+use Rattle.spec_run.specs.Progress.{Progress, is_short, moved_to}
+use Rattle.law_run.specs.Plans.{all_covered_more}
+use Rattle.law_run.specs.Doing.{Owns, Opens, change_items, abort_items, ArePlannedIn, IsDoing, Idle, Changing, Undoing, StepsTo}
 use Rattle.law_run.specs.Left.{AreNamed, left_named}
 use Rattle.law_run.specs.Shows.{covered_cell_shows}
 use Rattle.law_run.specs.Moved.{moved_whole, moved_short, moved_due, moved_tran, moved_want}
@@ -52,7 +48,7 @@ change_steps run log s w c changes own sound due owns still planned =
         owns.is_new,
         covered_cell_shows run.geometry run.opened log run.image w.tran c.cell (length c.before) sound owns.unfinished owns.is_new
             (subst (IsCovered run.geometry (length run.image) (log ++ run.opened) w.tran c.cell) (sym long) planned.covered.0)
-        ∙ planned.find.0,
+            ∙ planned.find.0,
       );
       after = subst (IsDoing run (x ∷ log) s) (sym (moved_whole w x rest refl due))
           (Changing changes own (moved_due w x rest ∙ ap (λ t. change_items t changes own) tran_is) (moved_want w x rest refl)

@@ -1,18 +1,17 @@
 -- The record of a writing statement, from its plan.
-use Rattle.std.proofs.Common.{◌≡◌, ℕ, ◌+◌, ◌*◌, ◌<◌, ◌≤◌, Bool, true, false, eqb, ltb, leb, not, ◌&&◌, ◌||◌, List, [], ◌∷◌, ◌++◌, length, Option, Some, None, ◌⊎◌, inl, inr, refl, sym, ap, ◌∙◌, subst, arith}
-use Rattle.std.specs.Prelude.{if◌then◌else◌, MatchOption}
+use Rattle.std.proofs.Common.{◌≡◌, ℕ, ◌+◌, ◌<◌, ◌≤◌, true, false, eqb, ltb, not, ◌||◌, List, ◌∷◌, ◌++◌, length, None, ◌⊎◌, inl, inr, refl, sym, ap, ◌∙◌, subst, arith}
+use Rattle.std.specs.Prelude.{MatchOption}
 use Rattle.std.specs.List.{list_any}
-use Rattle.std.proofs.lemmas.Bool.{true≢false, false≢true, cases_Bool, and_parts, and_from, or_left, or_right, eq-eqb, eqb-true, eqb-false, both_ways, lt-ltb, ltb-true, ltb-false, cond_both}
+use Rattle.std.proofs.lemmas.Bool.{cases_Bool, and_parts, and_from, or_left, or_right, eq-eqb, eqb-true, eqb-false, both_ways, ltb-true, ltb-false, cond_both}
 use Rattle.spec_file.specs.declared.data.Resource.{Resource}
 use Rattle.spec_log.specs.declared.item.Record.{Record}
 use Rattle.spec_log.specs.declared.item.Record.TheVariants.{Start}
 use Rattle.spec_log.specs.Items.{has_form, is_same}
 use Rattle.spec_log.specs.Log.{takes_it, has_started, has_ended, has_taken, has_undone, is_unfinished, holds, holder_of, IsFreeFor, greatest_of}
 use Rattle.spec_log.specs.Limits.{passes_limit, changes_of}
-use Rattle.spec_log.specs.Rules.{AreFreeFor}
 use Rattle.spec_log.specs.Images.{view_of, final_image}
 use Rattle.spec_log.specs.Sound.{is_old}
-use Rattle.law_undo.specs.Holders.{unfinished_parts, holds_parts, holds_older, or_false}
+use Rattle.law_undo.specs.Holders.{unfinished_parts, holds_parts, holds_older}
 use Rattle.law_undo.specs.HolderLaws.{IsOther, holder_is_other, holders_are_one}
 use Rattle.law_undo.specs.LawAtAtom.{not_true}
 use Rattle.law_undo.specs.Laws.{IsOngoing}
@@ -21,7 +20,7 @@ use Rattle.spec_plan.specs.Planned.{Planned, planned_size}
 use Rattle.spec_run.specs.Shapes.{tran_to_write}
 use Rattle.spec_run.specs.Begun.{Setting, sight_of}
 use Rattle.law_run.specs.Fresh.{not_started_above, none_ended}
-use Rattle.law_run.specs.Plans.{ArePlanned, AreCovered, find_same}
+use Rattle.law_run.specs.Plans.{AreCovered, find_same}
 use Rattle.law_run.specs.Doing.{Owns, Opens, ArePlannedIn}
 use Rattle.law_run.specs.Good.{IsGoodPlan, IsOwnOrTaken, AreCoveredBy, all_covered_by, size_bound}
 use Rattle.law_run.specs.Shows.{view_shape, view_final_shape, view_shows}

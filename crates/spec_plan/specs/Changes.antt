@@ -1,9 +1,8 @@
 -- The net changes of a page: its cells go from the first to the last byte that differs (the cut into cells
 -- is this project's own).
-use Rattle.std.specs.Prelude.{ℕ, ◌+◌, ◌-◌, ◌*◌, ◌==◌, not, max, List, [], ◌∷◌, ◌++◌, filter, slice_index, slice_range}
+use Rattle.std.specs.Prelude.{ℕ, ◌+◌, ◌-◌, ◌*◌, ◌==◌, not, List, [], ◌∷◌, ◌++◌, filter, slice_index, slice_range}
 use Rattle.std.specs.List.{range_with_len}
 use Rattle.spec_log.specs.declared.item.Cell.TheVariants.{Bytes}
-use Rattle.spec_rows.specs.Slots.{slot_count}
 use Rattle.spec_plan.specs.Planned.{Planned}
 
 -- the offsets from lo to before hi at which two pages differ, rising
@@ -27,11 +26,7 @@ change_over p old new (i ∷ is) = bytes_change p old new i (last_of i is + 1) �
 abbrev pub change_between : ℕ → List ℕ → List ℕ → ℕ → ℕ → List Planned
 change_between p old new lo hi = change_over p old new (differing old new lo hi)
 
--- where the slots begin, of the page before and after
-abbrev pub slots_start : List ℕ → List ℕ → ℕ
-slots_start old new = 8192 - 2 * max (slot_count old) (slot_count new)
-
--- the changes of an ordinary page: rows, slots, header
-abbrev pub page_changes : ℕ → List ℕ → List ℕ → List Planned
-page_changes p old new =
-    change_between p old new 96 (slots_start old new) ++ (change_between p old new (slots_start old new) 8192 ++ change_between p old new 0 96)
+-- the changes of an ordinary page that has so many slots, before or after: rows, slots, header
+abbrev pub page_changes : ℕ → List ℕ → List ℕ → ℕ → List Planned
+page_changes p old new slots =
+    change_between p old new 96 (8192 - 2 * slots) ++ (change_between p old new (8192 - 2 * slots) 8192 ++ change_between p old new 0 96)

@@ -36,23 +36,34 @@ abbrev pub counted_header : List ℕ → ℕ → ℕ → ℕ → List ℕ
 counted_header bytes slots free end =
     take 20 bytes ++ (little_bytes 2 slots ++ (little_bytes 2 free ++ (little_bytes 2 end ++ slice_range bytes 26 96)))
 
+-- the rows in slot order, one after another
+abbrev pub rows_bytes : List ℕ → List ℕ
+rows_bytes bytes = flat_map (page_row bytes) (range_with_len 0 (slot_count bytes))
+
+-- the slots of rows that stand one after another from byte 96 on
+abbrev pub slots_bytes : List ℕ → List ℕ
+slots_bytes bytes = flat_map (λ i. little_bytes 2 (96 + rows_size bytes i)) (reverse (range_with_len 0 (slot_count bytes)))
+
 -- the page compacted: its rows in slot order from byte 96, zeros from there to the slots
 unfoldable pub compacted : List ℕ → List ℕ
 compacted bytes =
     counted_header bytes (slot_count bytes) (free_count bytes) (96 + rows_size bytes (slot_count bytes))
-    ++ (flat_map (page_row bytes) (range_with_len 0 (slot_count bytes))
-    ++ (replicate (8192 - 2 * slot_count bytes - (96 + rows_size bytes (slot_count bytes))) 0
-    ++ flat_map (λ i. little_bytes 2 (96 + rows_size bytes i)) (reverse (range_with_len 0 (slot_count bytes)))))
+    ++ (rows_bytes bytes ++ (replicate (8192 - 2 * slot_count bytes - (96 + length (rows_bytes bytes))) 0 ++ slots_bytes bytes))
 
--- the page with a row put at the end of its rows, and a slot for it behind the others
-unfoldable pub with_row_behind : List ℕ → List ℕ → List ℕ
-with_row_behind bytes row =
-    counted_header bytes (slot_count bytes + 1) (free_count bytes - (length row + 2)) (rows_end bytes + length row)
-    ++ (slice_range bytes 96 (rows_end bytes) ++ (row
-    ++ (slice_range bytes (rows_end bytes + length row) (8190 - 2 * slot_count bytes)
-    ++ (little_bytes 2 (rows_end bytes) ++ drop (8192 - 2 * slot_count bytes) bytes))))
+-- a page of so many slots and free bytes, whose rows end at `end`, with a row put there and a slot for it behind
+-- the others
+unfoldable pub with_row_at : List ℕ → ℕ → ℕ → ℕ → List ℕ → List ℕ
+with_row_at bytes slots free end row =
+    counted_header bytes (slots + 1) (free - (length row + 2)) (end + length row)
+    ++ (slice_range bytes 96 end ++ (row ++ (slice_range bytes (end + length row) (8190 - 2 * slots)
+    ++ (little_bytes 2 end ++ drop (8192 - 2 * slots) bytes))))
 
--- the page with one row more, its last: it is compacted first where the row doesn't reach up to the slots
+-- the row stands before the slots as the rows stand
+abbrev pub fits_behind : List ℕ → ℕ → Bool
+fits_behind bytes size = nat_le (rows_end bytes + size + 2 * (slot_count bytes + 1)) 8192
+
+-- the page with one row more, its last: it is compacted first where the row doesn't fit behind the others
 abbrev pub with_row : List ℕ → List ℕ → List ℕ
 with_row bytes row =
-    with_row_behind (if nat_le (rows_end bytes + length row + 2 * (slot_count bytes + 1)) 8192 then bytes else compacted bytes) row
+    if fits_behind bytes (length row) then with_row_at bytes (slot_count bytes) (free_count bytes) (rows_end bytes) row
+    else with_row_at (compacted bytes) (slot_count bytes) (free_count bytes) (96 + rows_size bytes (slot_count bytes)) row

@@ -58,13 +58,13 @@ byte_takes sight p byte = if byte == pfs_byte sight.geometry sight.view p then [
 abbrev pub not_own : Sight → List Resource → List Resource
 not_own sight takes = filter (λ r. not (sight.own r)) takes
 
--- page p becomes `new`, with the fullness that its free bytes ask for: the PFS byte first, then the page. The
+-- page p becomes `new`, with one slot more, and its PFS byte `byte`: the PFS byte changes first, then the page. The
 -- table, the changed byte and the page are taken
 abbrev pub page_written : Sight → CatalogRow → ℕ → List ℕ → ℕ → Outcome
 page_written sight row p new byte =
     Writes
     (not_own sight (resource.Table (record { 0 = row.id }) ∷ (byte_takes sight p byte ++ resource.Page (record { 0 = p }) ∷ [])))
-    (byte_changes sight p byte ++ page_changes p (page sight.view p) new)
+    (byte_changes sight p byte ++ page_changes p (page sight.view p) new (slot_count (page sight.view p) + 1))
 
 -- a row goes behind the last of page p
 abbrev pub row_put : Sight → CatalogRow → ℕ → List ℕ → Outcome

@@ -11,90 +11,90 @@ nobody : {T : Type 0} (x : T) → Contains {X = T} [] x → ⊥
 nobody x h = omega (arith, h.1)
 
 -- one error more
-pub adds_push : (xs : List CheckError) (y : CheckError) → Adds xs (xs ++ y ∷ []) (λ x. x ≡ y)
-adds_push xs y = record {
+pub adds_push : {Z : Type 0} (xs : List Z) (y : Z) → Adds xs (xs ++ y ∷ []) (λ x. x ≡ y)
+adds_push {Z} xs y = record {
   sound = λ x c. ⊎_elim (λ old. inl old) (λ is. inr (sym is)) (Contains-push_cases xs y x c);
   kept = λ x c. Contains-append_left xs (y ∷ []) x c;
   complete = λ x is. subst (Contains (xs ++ y ∷ [])) (sym is) (Contains-push xs y);
 }
 
 -- no error more
-pub adds_none : (xs : List CheckError) (P : CheckError → Type 0) → ((x : CheckError) → P x → ⊥) → Adds xs xs P
-adds_none xs P never = record {
+pub adds_none : {Z : Type 0} (xs : List Z) (P : Z → Type 0) → ((x : Z) → P x → ⊥) → Adds xs xs P
+adds_none {Z} xs P never = record {
   sound = λ x c. inl c;
   kept = λ x c. c;
   complete = λ x p. absurd (never x p);
 }
 
 -- the same errors by another name
-pub adds_as : (xs ys : List CheckError) (P Q : CheckError → Type 0) → ((x : CheckError) → P x → Q x) → ((x : CheckError) → Q x → P x)
+pub adds_as : {Z : Type 0} (xs ys : List Z) (P Q : Z → Type 0) → ((x : Z) → P x → Q x) → ((x : Z) → Q x → P x)
     → Adds xs ys P → Adds xs ys Q
-adds_as xs ys P Q there back a = record {
+adds_as {Z} xs ys P Q there back a = record {
   sound = λ x c. ⊎_elim (λ old. inl old) (λ new. inr (there x new)) (a.sound x c);
   kept = a.kept;
   complete = λ x q. a.complete x (back x q);
 }
 
 -- one rule after another
-pub adds_both : (xs ys zs : List CheckError) (P Q : CheckError → Type 0) → Adds xs ys P → Adds ys zs Q → Adds xs zs (λ x. P x ⊎ Q x)
-adds_both xs ys zs P Q a b = record {
+pub adds_both : {Z : Type 0} (xs ys zs : List Z) (P Q : Z → Type 0) → Adds xs ys P → Adds ys zs Q → Adds xs zs (λ x. P x ⊎ Q x)
+adds_both {Z} xs ys zs P Q a b = record {
   sound = λ x c. ⊎_elim (λ old. ⊎_elim (λ older. inl older) (λ p. inr (inl p)) (a.sound x old)) (λ q. inr (inr q)) (b.sound x c);
   kept = λ x c. b.kept x (a.kept x c);
   complete = λ x s. ⊎_elim (λ p. b.kept x (a.complete x p)) (λ q. b.complete x q) s;
 }
 
 -- a rule under a condition that holds, or doesn't
-pub adds_given : (xs ys : List CheckError) (P : Type 0) (E : CheckError → Type 0) → P → Adds xs ys E → Adds xs ys (λ x. P × E x)
-adds_given xs ys P E holds a = adds_as xs ys E (λ x. P × E x) (λ x e. (holds, e)) (λ x s. s.1) a
+pub adds_given : {Z : Type 0} (xs ys : List Z) (P : Type 0) (E : Z → Type 0) → P → Adds xs ys E → Adds xs ys (λ x. P × E x)
+adds_given {Z} xs ys P E holds a = adds_as xs ys E (λ x. P × E x) (λ x e. (holds, e)) (λ x s. s.1) a
 
-pub adds_not : (xs : List CheckError) (P : Type 0) (E : CheckError → Type 0) → (P → ⊥) → Adds xs xs (λ x. P × E x)
-adds_not xs P E never = adds_none xs (λ x. P × E x) (λ x s. never s.0)
+pub adds_not : {Z : Type 0} (xs : List Z) (P : Type 0) (E : Z → Type 0) → (P → ⊥) → Adds xs xs (λ x. P × E x)
+adds_not {Z} xs P E never = adds_none xs (λ x. P × E x) (λ x s. never s.0)
 
 -- no number is below 0
-pub adds_below_none : (xs : List CheckError) (R : ℕ → CheckError → Type 0) → Adds xs xs (Below 0 R)
-adds_below_none xs R = adds_none xs (Below 0 R) (λ x s. omega (arith, s.1))
+pub adds_below_none : {Z : Type 0} (xs : List Z) (R : ℕ → Z → Type 0) → Adds xs xs (Below 0 R)
+adds_below_none {Z} xs R = adds_none xs (Below 0 R) (λ x s. omega (arith, s.1))
 
 upto : (i n : ℕ) → i < n + 1 → (i < n) ⊎ (i ≡ n)
 upto i n h = search (rules, arith)
 
 -- one number more
-pub adds_below_more : (xs ys zs : List CheckError) (n : ℕ) (R : ℕ → CheckError → Type 0) → Adds xs ys (Below n R) → Adds ys zs (R n)
+pub adds_below_more : {Z : Type 0} (xs ys zs : List Z) (n : ℕ) (R : ℕ → Z → Type 0) → Adds xs ys (Below n R) → Adds ys zs (R n)
     → Adds xs zs (Below (n + 1) R)
-adds_below_more xs ys zs n R a b = adds_as xs zs (λ x. Below n R x ⊎ R n x) (Below (n + 1) R)
+adds_below_more {Z} xs ys zs n R a b = adds_as xs zs (λ x. Below n R x ⊎ R n x) (Below (n + 1) R)
     (λ x s. ⊎_elim (λ old. (old.0, omega (arith, old.1), old.2)) (λ new. (n, omega arith, new)) s)
     (λ x s. ⊎_elim (λ less. inl (s.0, less, s.2)) (λ same. inr (subst (λ k. R k x) same s.2)) (upto s.0 n s.1))
     (adds_both xs ys zs (Below n R) (R n) a b)
 
 -- no list has no member
-pub adds_each_none : {T : Type 0} (xs : List CheckError) (R : T → CheckError → Type 0) → Adds xs xs (Each [] R)
-adds_each_none {T} xs R = adds_none xs (Each [] R) (λ x s. nobody s.0 s.1)
+pub adds_each_none : {T Z : Type 0} (xs : List Z) (R : T → Z → Type 0) → Adds xs xs (Each [] R)
+adds_each_none {T} {Z} xs R = adds_none xs (Each [] R) (λ x s. nobody s.0 s.1)
 
 -- one member more
-pub adds_each_more : {T : Type 0} (xs ys zs : List CheckError) (ms : List T) (m : T) (R : T → CheckError → Type 0)
+pub adds_each_more : {T Z : Type 0} (xs ys zs : List Z) (ms : List T) (m : T) (R : T → Z → Type 0)
     → Adds xs ys (Each ms R) → Adds ys zs (R m) → Adds xs zs (Each (ms ++ m ∷ []) R)
-adds_each_more {T} xs ys zs ms m R a b = adds_as xs zs (λ x. Each ms R x ⊎ R m x) (Each (ms ++ m ∷ []) R)
+adds_each_more {T} {Z} xs ys zs ms m R a b = adds_as xs zs (λ x. Each ms R x ⊎ R m x) (Each (ms ++ m ∷ []) R)
     (λ x s. ⊎_elim (λ old. (old.0, Contains-append_left ms (m ∷ []) old.0 old.1, old.2)) (λ new. (m, Contains-push ms m, new)) s)
     (λ x s. ⊎_elim (λ old. inl (s.0, old, s.2)) (λ same. inr (subst (λ k. R k x) (sym same) s.2)) (Contains-push_cases ms m s.0 s.1))
     (adds_both xs ys zs (Each ms R) (R m) a b)
 
 -- a list that was empty has the rule's errors
-pub gathers_first : (xs : List CheckError) (P : CheckError → Type 0) → Adds [] xs P → Gathers xs P
-gathers_first xs P a = record {
+pub gathers_first : {Z : Type 0} (xs : List Z) (P : Z → Type 0) → Adds [] xs P → Gathers xs P
+gathers_first {Z} xs P a = record {
   sound = λ x c. ⊎_elim (λ old. absurd (nobody x old)) (λ new. new) (a.sound x c);
   complete = λ x s. a.complete x s;
 }
 
 -- a list of a rule's errors that has grown by another's has both
-pub gathers_more : (xs ys : List CheckError) (P Q : CheckError → Type 0) → Gathers xs P → Adds xs ys Q → Gathers ys (λ x. P x ⊎ Q x)
-gathers_more xs ys P Q h a = record {
+pub gathers_more : {Z : Type 0} (xs ys : List Z) (P Q : Z → Type 0) → Gathers xs P → Adds xs ys Q → Gathers ys (λ x. P x ⊎ Q x)
+gathers_more {Z} xs ys P Q h a = record {
   sound = λ x c. ⊎_elim (λ old. inl (h.sound x old)) (λ new. inr new) (a.sound x c);
   complete = λ x s. ⊎_elim (λ old. a.kept x (h.complete x old)) (λ new. a.complete x new) s;
 }
 
 -- the same errors by another name
-pub gathers_as : (xs : List CheckError) (P Q : CheckError → Type 0) → ((x : CheckError) → P x → Q x) → ((x : CheckError) → Q x → P x)
+pub gathers_as : {Z : Type 0} (xs : List Z) (P Q : Z → Type 0) → ((x : Z) → P x → Q x) → ((x : Z) → Q x → P x)
     → Gathers xs P → Gathers xs Q
-gathers_as xs P Q there back h = record {
+gathers_as {Z} xs P Q there back h = record {
   sound = λ x c. there x (h.sound x c);
   complete = λ x q. h.complete x (back x q);
 }

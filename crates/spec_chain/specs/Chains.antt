@@ -1,6 +1,6 @@
 -- The IAM chains of an image (Pages and Extents Architecture Guide; what ends a chain is this project's
 -- own).
-use Rattle.std.specs.Prelude.{◌≡◌, ℕ, zero, suc, ◌<◌, ◌==◌, ◌&&◌, Bool, true, false, not, nat_lt, IsTrue, List, length, Contains}
+use Rattle.std.specs.Prelude.{◌≡◌, ℕ, zero, suc, ◌<◌, ◌==◌, ◌&&◌, Bool, true, false, not, nat_lt, if◌then◌else◌, Option, Some, None, unwrap_or, List, length, Contains}
 use Rattle.spec_file.specs.declared.geometry.Geometry.{Geometry}
 use Rattle.spec_file.specs.declared.role.Role.{Role}
 use Rattle.spec_file.specs.declared.role.Role.TheVariants as role
@@ -9,6 +9,8 @@ use Rattle.spec_file.specs.Header.{says}
 use Rattle.spec_file.specs.Roles.{role_of}
 use Rattle.spec_file.specs.CatalogRows.{CatalogRow, rows_of}
 use Rattle.spec_file.specs.Iam.{iam_interval, has_interval}
+use Rattle.spec_chain.specs.declared.end.ChainEnd.{ChainEnd}
+use Rattle.spec_chain.specs.declared.end.ChainEnd.TheVariants as end
 
 -- the image's catalog has the object
 abbrev pub IsObject : Image → CatalogRow → Type 0
@@ -23,6 +25,11 @@ prev_of bytes = number_at 4 12 bytes
 
 abbrev pub next_of : List ℕ → ℕ
 next_of bytes = number_at 4 16 bytes
+
+-- the first that is there
+abbrev pub or_else : Option ChainEnd → Option ChainEnd → Option ChainEnd
+or_else (Some fault) other = Some fault
+or_else None other = other
 
 abbrev pub is_for_objects : Role → Bool
 is_for_objects role.Ordinary = true
@@ -49,32 +56,44 @@ holder image row zero = 9
 holder image row (suc k) = pointer image row k
 
 -- a page of the file; 0 stands for none
-abbrev pub is_inside : Image → ℕ → Bool
-is_inside image q = not (q == 0) && nat_lt q (length image)
+abbrev pub is_inside : ℕ → ℕ → Bool
+is_inside pages q = not (q == 0) && nat_lt q pages
 
--- an ordinary page of IAM type that says its own number
-abbrev pub is_iam : Geometry → Image → ℕ → Bool
-is_iam g image q = is_ordinary g q && says 10 q (page image q)
+-- pointer 0 ends a chain of at least one page
+abbrev pub is_last : ℕ → ℕ → Bool
+is_last n q = (q == 0) && not (n == 0)
 
-abbrev pub is_own : Image → CatalogRow → ℕ → Bool
-is_own image row q = object_of (page image q) == row.id
+-- what is wrong with the n-th pointer q by its number alone: it is no page of the file, or no ordinary one
+abbrev pub fault_of_number : Geometry → ℕ → ℕ → ℕ → Option ChainEnd
+fault_of_number g pages n q =
+    if not (is_inside pages q) then Some (if is_last n q then end.Whole else end.Outside)
+    else (if not (is_ordinary g q) then Some end.NotIam else None)
 
--- the page speaks of an interval that the file has
-abbrev pub is_of_file : Geometry → Image → ℕ → Bool
-is_of_file g image q = has_interval g (length image) (iam_interval (page image q))
+-- what is wrong with the bytes of page q: it isn't of IAM type or says another number, it is of another
+-- object, or its interval isn't one of the file
+abbrev pub fault_of_bytes : Geometry → ℕ → ℕ → ℕ → List ℕ → Option ChainEnd
+fault_of_bytes g pages id q bytes =
+    if not (says 10 q bytes) then Some end.NotIam
+    else (if not (object_of bytes == id) then Some end.OtherObject
+    else (if not (has_interval g pages (iam_interval bytes)) then Some end.WrongInterval else None))
 
--- an IAM page of this object
-abbrev pub is_good : Geometry → Image → CatalogRow → ℕ → Bool
-is_good g image row q = is_inside image q && (is_iam g image q && (is_own image row q && is_of_file g image q))
+-- the first test that the page of the n-th pointer fails; none where it is an IAM page of the object
+abbrev pub first_fault : Geometry → Image → CatalogRow → ℕ → Option ChainEnd
+first_fault g image row n =
+    or_else (fault_of_number g (length image) n (pointer image row n))
+    (fault_of_bytes g (length image) row.id (pointer image row n) (page image (pointer image row n)))
 
 -- an earlier pointer of the chain names the page
 abbrev pub IsMet : Image → CatalogRow → ℕ → ℕ → Type 0
 IsMet image row n q = (j : ℕ) × (j < n) × (pointer image row j ≡ q)
 
--- the chain goes on with its k-th pointer: to an IAM page of the object that it hasn't met
+-- the chain goes on with its n-th pointer: to an IAM page of the object that it hasn't met
 abbrev pub GoesOn : Geometry → Image → CatalogRow → ℕ → Type 0
-GoesOn g image row k =
-    IsTrue (is_good g image row (pointer image row k)) × (IsMet image row k (pointer image row k) → ⊥)
+GoesOn g image row n = (first_fault g image row n ≡ None) × (IsMet image row n (pointer image row n) → ⊥)
+
+-- how a chain ends at its n-th pointer, where it doesn't go on
+abbrev pub end_at : Geometry → Image → CatalogRow → ℕ → ChainEnd
+end_at g image row n = unwrap_or (first_fault g image row n) end.Met
 
 -- the first n pointers name pages of the chain
 abbrev pub HasPages : Geometry → Image → CatalogRow → ℕ → Type 0

@@ -20,7 +20,7 @@ IsSlot g image row i q =
 
 -- the slot holds a page of the file
 abbrev pub HoldsPage : Geometry → Image → CatalogRow → ℕ → ℕ → Type 0
-HoldsPage g image row i p = IsSlot g image row i p × IsTrue (is_inside image p)
+HoldsPage g image row i p = IsSlot g image row i p × IsTrue (is_inside (length image) p)
 
 -- a use of a page: the object, and the slot that holds the page; 8 for a page of the chain
 pub record Use : Type 0 where

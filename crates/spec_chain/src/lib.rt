@@ -2,6 +2,10 @@
 //! marks, its single-page slots, the uses of a page, and the pages that are allocated to it.
 #![tactic(auto)]
 
+mod end;
+
+pub use end::ChainEnd;
+
 ghost use Rattle.spec_chain.specs.ChainLaws.{ChainHasOneLength};
 
 /// A chain ends at one place.

@@ -3,70 +3,64 @@
 use Rattle.std.specs.Prelude.{◌≡◌, ◌⊎◌, ℕ, ◌+◌, ◌*◌, ◌<◌, ◌≤◌, ◌==◌, ◌&&◌, ◌||◌, Bool, true, false, not, IsTrue, List, nat_le, nat_lt, if◌then◌else◌, Option, Some, None}
 use Rattle.spec_file.specs.declared.data.Kind.{Kind}
 use Rattle.spec_file.specs.declared.data.Kind.TheVariants.{Heap, Clustered}
-use Rattle.spec_file.specs.Header.{header_of, header_version, page_type, page_id}
+use Rattle.spec_file.specs.Header.{header_of, header_version}
+use Rattle.spec_file.specs.declared.header.Header.{Header}
 use Rattle.spec_rows.specs.declared.fault.SlotFault.{SlotFault}
 use Rattle.spec_rows.specs.Slots.{slot_limit, slot_count, rows_end, slot_at, begins_row, row_end, rows_size}
 
--- The tests of the header, in their order.
+-- The tests of the header h, in their order.
 
-abbrev pub is_own_page : ℕ → List ℕ → Bool
-is_own_page p bytes = page_id bytes == p
+abbrev pub is_own_page : ℕ → Header → Bool
+is_own_page p h = h.page_id.0 == p
 
 -- rows stand on pages of type 1, in a clustered table also of type 2
-abbrev pub has_row_type : Kind → List ℕ → Bool
-has_row_type Heap bytes = page_type bytes == 1
-has_row_type Clustered bytes = (page_type bytes == 1) || (page_type bytes == 2)
+abbrev pub has_row_type : Kind → Header → Bool
+has_row_type Heap h = h.page_type == 1
+has_row_type Clustered h = (h.page_type == 1) || (h.page_type == 2)
 
-abbrev pub belongs_to : ℕ → List ℕ → Bool
-belongs_to o bytes = (header_of bytes).object.0 == o
-
-abbrev pub has_version : List ℕ → Bool
-has_version bytes = header_version bytes == 1
+abbrev pub belongs_to : ℕ → Header → Bool
+belongs_to o h = h.object.0 == o
 
 -- a data page has level 0, an index page 1 to 15
-abbrev pub has_level : List ℕ → Bool
-has_level bytes =
-    if page_type bytes == 1 then (header_of bytes).level == 0
-    else (nat_le 1 (header_of bytes).level && nat_le (header_of bytes).level 15)
+abbrev pub has_level : Header → Bool
+has_level h = if h.page_type == 1 then h.level == 0 else (nat_le 1 h.level && nat_le h.level 15)
 
 -- an index page has rows
-abbrev pub has_rows : List ℕ → Bool
-has_rows bytes = not ((page_type bytes == 2) && (slot_count bytes == 0))
+abbrev pub has_rows : Header → Bool
+has_rows h = not ((h.page_type == 2) && (h.slots == 0))
 
 -- a heap page has no neighbours
-abbrev pub has_links : Kind → List ℕ → Bool
-has_links Heap bytes = ((header_of bytes).prev.0 == 0) && ((header_of bytes).next.0 == 0)
-has_links Clustered bytes = true
+abbrev pub has_links : Kind → Header → Bool
+has_links Heap h = (h.prev.0 == 0) && (h.next.0 == 0)
+has_links Clustered h = true
 
 -- the rows end between the header and the slots
-abbrev pub has_room : List ℕ → Bool
-has_room bytes =
-    nat_le (slot_count bytes) slot_limit && nat_le 96 (rows_end bytes) && nat_le (rows_end bytes + 2 * slot_count bytes) 8192
+abbrev pub has_room : Header → Bool
+has_room h = nat_le h.slots slot_limit && nat_le 96 h.free_from && nat_le (h.free_from + 2 * h.slots) 8192
 
-abbrev pub has_no_ghosts : List ℕ → Bool
-has_no_ghosts bytes = (header_of bytes).ghosts == 0
+abbrev pub has_no_ghosts : Header → Bool
+has_no_ghosts h = h.ghosts == 0
 
 abbrev pub fault : ℕ → ℕ → ℕ → SlotFault
 fault number slot value = record { number = number; other = 0; slot = slot; value = value }
 
--- 8938 and its neighbours: whose page it is
-abbrev pub owner_fault : ℕ → ℕ → Kind → List ℕ → Option SlotFault
-owner_fault p o kind bytes =
-    if not (is_own_page p bytes) then Some (fault 8909 0 (page_id bytes))
-    else (if not (has_row_type kind bytes) then Some (fault 8938 0 (page_type bytes))
-    else (if not (belongs_to o bytes)
-    then Some (record { number = 2534; other = (header_of bytes).object.0; slot = 0; value = 0 })
+-- whose page it is: 8909, 8938 or 2534
+abbrev pub owner_fault : ℕ → ℕ → Kind → Header → Option SlotFault
+owner_fault p o kind h =
+    if not (is_own_page p h) then Some (fault 8909 0 h.page_id.0)
+    else (if not (has_row_type kind h) then Some (fault 8938 0 h.page_type)
+    else (if not (belongs_to o h) then Some (record { number = 2534; other = h.object.0; slot = 0; value = 0 })
     else None))
 
--- 8939, with the number of the part that fails
-abbrev pub form_fault : Kind → List ℕ → Option SlotFault
-form_fault kind bytes =
-    if not (has_version bytes) then Some (fault 8939 0 1)
-    else (if not (has_level bytes) then Some (fault 8939 0 2)
-    else (if not (has_rows bytes) then Some (fault 8939 0 3)
-    else (if not (has_links kind bytes) then Some (fault 8939 0 4)
-    else (if not (has_room bytes) then Some (fault 8939 0 5)
-    else (if not (has_no_ghosts bytes) then Some (fault 8939 0 6)
+-- how the page is made: 8939, with the number of the part that fails
+abbrev pub form_fault : Kind → ℕ → Header → Option SlotFault
+form_fault kind version h =
+    if not (version == 1) then Some (fault 8939 0 1)
+    else (if not (has_level h) then Some (fault 8939 0 2)
+    else (if not (has_rows h) then Some (fault 8939 0 3)
+    else (if not (has_links kind h) then Some (fault 8939 0 4)
+    else (if not (has_room h) then Some (fault 8939 0 5)
+    else (if not (has_no_ghosts h) then Some (fault 8939 0 6)
     else None)))))
 
 -- The tests of the slots.
@@ -113,33 +107,34 @@ has_free_count bytes =
 
 -- The whole test.
 
--- what the rows of a page need: the page's writers keep it
+-- what the rows of a page need; the calls that change rows keep it
 pub record HoldsRows (bytes : List ℕ) : Type 0 where
-  pub type : IsTrue (has_row_type Clustered bytes)
-  pub version : IsTrue (has_version bytes)
-  pub level : IsTrue (has_level bytes)
-  pub room : IsTrue (has_room bytes)
-  pub ghosts : IsTrue (has_no_ghosts bytes)
+  pub type : IsTrue (has_row_type Clustered (header_of bytes))
+  pub version : header_version bytes ≡ 1
+  pub level : IsTrue (has_level (header_of bytes))
+  pub room : IsTrue (has_room (header_of bytes))
+  pub ghosts : IsTrue (has_no_ghosts (header_of bytes))
   pub slots : (i : ℕ) → i < slot_count bytes → slot_fault bytes i ≡ None
   pub order : (i j : ℕ) → IsOneBefore bytes i j → row_end bytes i ≤ slot_at bytes j
   pub free : IsTrue (has_free_count bytes)
 
--- the page passes every test but that an index page has rows
+-- the page passes every test but the one that an index page has rows
 pub record PassesButRows (p o : ℕ) (kind : Kind) (bytes : List ℕ) : Type 0 where
-  pub own : IsTrue (is_own_page p bytes)
-  pub type : IsTrue (has_row_type kind bytes)
-  pub object : IsTrue (belongs_to o bytes)
-  pub links : IsTrue (has_links kind bytes)
+  pub own : IsTrue (is_own_page p (header_of bytes))
+  pub type : IsTrue (has_row_type kind (header_of bytes))
+  pub object : IsTrue (belongs_to o (header_of bytes))
+  pub links : IsTrue (has_links kind (header_of bytes))
   pub holds : HoldsRows bytes
 
 -- the page passes its test
 pub record PassesTest (p o : ℕ) (kind : Kind) (bytes : List ℕ) : Type 0 where
   pub rest : PassesButRows p o kind bytes
-  pub rows : IsTrue (has_rows bytes)
+  pub rows : IsTrue (has_rows (header_of bytes))
 
 -- no test before those of the slots fails
-abbrev pub HeaderPasses : ℕ → ℕ → Kind → List ℕ → Type 0
-HeaderPasses p o kind bytes = (owner_fault p o kind bytes ≡ None) × (form_fault kind bytes ≡ None)
+pub record HeaderPasses (p o : ℕ) (kind : Kind) (bytes : List ℕ) : Type 0 where
+  pub owner : owner_fault p o kind (header_of bytes) ≡ None
+  pub form : form_fault kind (header_version bytes) (header_of bytes) ≡ None
 
 abbrev pub SlotsPass : List ℕ → Type 0
 SlotsPass bytes = (i : ℕ) → i < slot_count bytes → slot_fault bytes i ≡ None
@@ -149,8 +144,8 @@ OrderPasses bytes = (i j : ℕ) → IsOneBefore bytes i j → row_end bytes i �
 
 -- the fault is that of the first test that fails
 pub data IsFirstFault (p o : ℕ) (kind : Kind) (bytes : List ℕ) (x : SlotFault) : Type 0 where
-  Owner : owner_fault p o kind bytes ≡ Some x → IsFirstFault p o kind bytes x
-  Form : owner_fault p o kind bytes ≡ None → form_fault kind bytes ≡ Some x → IsFirstFault p o kind bytes x
+  Owner : owner_fault p o kind (header_of bytes) ≡ Some x → IsFirstFault p o kind bytes x
+  Form : owner_fault p o kind (header_of bytes) ≡ None → form_fault kind (header_version bytes) (header_of bytes) ≡ Some x → IsFirstFault p o kind bytes x
   Slot : HeaderPasses p o kind bytes → IsFirstSlotFault bytes x → IsFirstFault p o kind bytes x
   Order : HeaderPasses p o kind bytes → SlotsPass bytes → IsFirstOverlap bytes x → IsFirstFault p o kind bytes x
   Free : HeaderPasses p o kind bytes → SlotsPass bytes → OrderPasses bytes → has_free_count bytes ≡ false

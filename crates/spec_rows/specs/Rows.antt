@@ -29,8 +29,8 @@ index_length = 13
 -- how a row is written: status, in a data row the length of the whole, key, payload or child
 unfoldable pub row_bytes : PageRow → List ℕ
 row_bytes (DataRow key payload) =
-    (data_status ∷ little_bytes 2 (data_head + length payload)) ++ (little_bytes 8 key ++ payload)
-row_bytes (IndexRow key child) = (index_status ∷ little_bytes 8 key) ++ little_bytes 4 child
+    data_status ∷ little_bytes 2 (data_head + length payload) ++ little_bytes 8 key ++ payload
+row_bytes (IndexRow key child) = index_status ∷ little_bytes 8 key ++ little_bytes 4 child
 
 -- a row that can be written
 abbrev pub Fits : PageRow → Type 0

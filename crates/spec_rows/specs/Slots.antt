@@ -36,9 +36,12 @@ abbrev pub begins_row : List ℕ → ℕ → Bool
 begins_row bytes i =
     nat_le 96 (slot_at bytes i) && nat_lt (slot_at bytes i) (rows_end bytes) && has_row_header bytes (slot_at bytes i)
 
--- the length that the row of slot i says it has
+-- the length that the row at an offset says it has
+abbrev pub size_at : List ℕ → ℕ → ℕ
+size_at bytes at = if has_index_rows bytes then index_length else number_at 2 (at + 1) bytes
+
 abbrev pub row_size : List ℕ → ℕ → ℕ
-row_size bytes i = if has_index_rows bytes then index_length else number_at 2 (slot_at bytes i + 1) bytes
+row_size bytes i = size_at bytes (slot_at bytes i)
 
 -- where the row of slot i ends
 abbrev pub row_end : List ℕ → ℕ → ℕ

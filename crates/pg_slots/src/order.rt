@@ -1,0 +1,134 @@
+// The test of the rows in the order of offset, then slot.
+ghost use Rattle.std.specs.Prelude.{◌≡◌, ◌%◌, ◌<◌, ◌≤◌, IsTrue, MatchOption, length, map};
+ghost use Rattle.std.specs.List.{range_with_len};
+ghost use Rattle.spec_file.specs.Header.{header_of};
+ghost use Rattle.spec_rows.specs.Slots as slots;
+ghost use Rattle.spec_rows.specs.PageTest as spec;
+ghost use Rattle.spec_rows.specs.OrderLaws.{IsInOrder, order_key};
+ghost use Rattle.pg_slots.specs.Keys.{AreInOrder};
+
+use crate::SlotFault;
+use crate::header::fault;
+use crate::slot::{size_at, slot_at};
+use pg_base::{Header, Page};
+
+/// The first row that begins before the end of the one before. Offsets that rise from slot to slot, as
+/// they mostly do, need no sort.
+pub(crate) fn order_fault(page: &Page, header: &Header) -> Option<SlotFault>
+    requires header { header.now ≡ header_of page.now.bytes }
+    requires room { IsTrue (spec.has_room header.now) }
+    requires slots { spec.SlotsPass page.now.bytes }
+    ensures { MatchOption result (spec.OrderPasses page.now.bytes) (spec.IsFirstOverlap page.now.bytes) }
+{
+    if offsets_rise(page, header.slots) {
+        fault_of_rising(page, header)
+    } else {
+        fault_of_sorted(page, header)
+    }
+}
+
+// No offset is below that of the slot before: the order is that of the slots.
+fn offsets_rise(page: &Page, count: u16) -> bool
+    requires count { count ≡ slots.slot_count page.now.bytes }
+    requires few { count ≤ 4048 }
+    ensures { IsTrue result → IsInOrder page.now.bytes (λ k. k) }
+{
+    for slot in 1..count {
+        if slot_at(page, slot) < slot_at(page, slot - 1) {
+            return false;
+        }
+    }
+    true
+}
+
+// What is wrong where the row of one slot comes right before that of another.
+fn overlap(page: &Page, header: &Header, before: u16, slot: u16) -> Option<SlotFault>
+    requires header { header.now ≡ header_of page.now.bytes }
+    requires room { IsTrue (spec.has_room header.now) }
+    requires slots { spec.SlotsPass page.now.bytes }
+    requires first { before < header.now.slots }
+    requires second { slot < header.now.slots }
+    ensures { MatchOption result (slots.row_end page.now.bytes before ≤ slots.slot_at page.now.bytes slot)
+        (λ x. (slots.slot_at page.now.bytes slot < slots.row_end page.now.bytes before)
+        × (x ≡ spec.fault 8942 slot (slots.slot_at page.now.bytes slot))) }
+{
+    let start = slot_at(page, before);
+    let at = slot_at(page, slot);
+    if at < start + size_at(page, header, start) {
+        return Some(fault(8942, slot as u32, at as u64));
+    }
+    None
+}
+
+// The same where the order is that of the slots.
+fn fault_of_rising(page: &Page, header: &Header) -> Option<SlotFault>
+    requires header { header.now ≡ header_of page.now.bytes }
+    requires room { IsTrue (spec.has_room header.now) }
+    requires slots { spec.SlotsPass page.now.bytes }
+    requires order { IsInOrder page.now.bytes (λ k. k) }
+    ensures { MatchOption result (spec.OrderPasses page.now.bytes) (spec.IsFirstOverlap page.now.bytes) }
+{
+    for slot in 1..header.slots {
+        if let Some(fault) = overlap(page, header, slot - 1, slot) {
+            return Some(fault);
+        }
+    }
+    None
+}
+
+// The same in any case: each slot is sorted by a number that rises in the order.
+fn fault_of_sorted(page: &Page, header: &Header) -> Option<SlotFault>
+    requires header { header.now ≡ header_of page.now.bytes }
+    requires room { IsTrue (spec.has_room header.now) }
+    requires slots { spec.SlotsPass page.now.bytes }
+    ensures { MatchOption result (spec.OrderPasses page.now.bytes) (spec.IsFirstOverlap page.now.bytes) }
+{
+    let mut keys = [0; 4048];
+    let order = &mut keys[..header.slots as usize];
+    sort_slots(page, order);
+    fault_in_order(page, header, order)
+}
+
+// Fills in the key of each slot, and sorts them.
+fn sort_slots(page: &Page, keys: &mut [u32])
+    requires count { length keys.old ≡ slots.slot_count page.now.bytes }
+    requires few { length keys.old ≤ 4048 }
+    ensures { AreInOrder page.now.bytes keys.new }
+{
+    put_keys(page, keys);
+    keys.sort_unstable();
+}
+
+fn put_keys(page: &Page, keys: &mut [u32])
+    requires { length keys.old ≤ 4048 }
+    ensures { keys.new ≡ map (order_key page.now.bytes) (range_with_len 0 (length keys.old)) }
+{
+    for slot in 0..keys.len() {
+        keys[slot] = slot_at(page, slot as u16) as u32 * 4096 + slot as u32;
+    }
+}
+
+fn fault_in_order(page: &Page, header: &Header, keys: &[u32]) -> Option<SlotFault>
+    requires header { header.now ≡ header_of page.now.bytes }
+    requires room { IsTrue (spec.has_room header.now) }
+    requires slots { spec.SlotsPass page.now.bytes }
+    requires count { length keys.now ≡ header.now.slots }
+    requires order { AreInOrder page.now.bytes keys.now }
+    ensures { MatchOption result (spec.OrderPasses page.now.bytes) (spec.IsFirstOverlap page.now.bytes) }
+{
+    for k in 1..keys.len() {
+        let before = slot_of(keys[k - 1]);
+        let slot = slot_of(keys[k]);
+        if let Some(fault) = overlap(page, header, before, slot) {
+            return Some(fault);
+        }
+    }
+    None
+}
+
+// The slot of a key.
+fn slot_of(key: u32) -> u16
+    ensures { result ≡ key % 4096 }
+{
+    (key % 4096) as u16
+}

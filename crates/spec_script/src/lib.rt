@@ -7,7 +7,9 @@
 mod name;
 mod reply;
 mod statement;
+mod stop;
 
 pub use name::Name;
 pub use reply::{Cause, Refusal, Reply};
 pub use statement::Statement;
+pub use stop::ScriptWhy;

@@ -1,0 +1,10 @@
+/// Why a text is no script, or no schedule (the limits are this project's own).
+#[derive(Clone, Copy, Debug, PartialEq, Eq)]
+pub enum ScriptWhy {
+    /// A line is none of the language.
+    Statement,
+    /// A line of the language stands behind 65,536 others.
+    Many,
+    /// The text has more than 16,777,216 bytes.
+    Size,
+}

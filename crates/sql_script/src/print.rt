@@ -1,0 +1,115 @@
+// Statements as lines.
+ghost use Rattle.std.specs.Prelude.{◌≡◌, ◌≤◌, ◌+◌, ◌++◌, IsTrue, codes, decimal, length, take, OnOk, OnErr};
+ghost use Rattle.arrayvec.specs.ArrayString.{array_string_len};
+ghost use Rattle.spec_file.specs.Catalog.{is_name};
+ghost use Rattle.spec_script.specs.Lines.{is_statement, statement_line};
+
+use arrayvec::ArrayString;
+use itoa::Buffer;
+use spec_file::NoMemory;
+use spec_script::Statement;
+
+const HEAD: usize = 64;
+
+// The words of a line before a payload.
+type Head = ArrayString<HEAD>;
+
+fn push_number(head: &mut Head, n: u64)
+    requires { array_string_len head.old + 20 ≤ HEAD }
+    ensures bytes { head.new.bytes ≡ head.old.bytes ++ decimal n }
+    ensures len { array_string_len head.new ≤ array_string_len head.old + 20 }
+{
+    let mut buffer = Buffer::new();
+    head.push_str(buffer.format(n));
+}
+
+// Everything up to a row's payload.
+fn insert_head(table: &str, key: u64) -> Head
+    requires { length table.now ≤ 16 }
+    ensures { result.bytes ≡ codes "INSERT " ++ (table.now ++ (codes " " ++ (decimal key ++ codes " '"))) }
+{
+    let mut head = Head::new();
+    head.push_str("INSERT ");
+    head.push_str(table);
+    head.push_str(" ");
+    push_number(&mut head, key);
+    head.push_str(" '");
+    head
+}
+
+fn count_line(table: &str) -> Head
+    requires { length table.now ≤ 16 }
+    ensures { result.bytes ≡ (codes "COUNT " ++ table.now) ++ codes "\n" }
+{
+    let mut line = Head::new();
+    line.push_str("COUNT ");
+    line.push_str(table);
+    line.push_str("\n");
+    line
+}
+
+fn check_line(workers: u8) -> Head
+    ensures { result.bytes ≡ (codes "DBCC CHECKDB WITH MAXDOP = " ++ decimal workers) ++ codes "\n" }
+{
+    let mut line = Head::new();
+    line.push_str("DBCC CHECKDB WITH MAXDOP = ");
+    push_number(&mut line, u64::from(workers));
+    line.push_str("\n");
+    line
+}
+
+fn push(into: &mut Vec<u8>, bytes: &[u8]) -> Result<(), NoMemory>
+    ensures ok { OnOk result (into.new.items ≡ into.old.items ++ bytes.now) }
+    ensures err { OnErr result (into.new.items ≡ into.old.items) }
+{
+    into.extend_from_slice(bytes)?;
+    Ok(())
+}
+
+// Two parts, of which the first may stand there after an error.
+fn push_both(into: &mut Vec<u8>, first: &[u8], second: &[u8]) -> Result<(), NoMemory>
+    ensures ok { OnOk result (into.new.items ≡ into.old.items ++ (first.now ++ second.now)) }
+    ensures err { OnErr result (take (length into.old.items) into.new.items ≡ into.old.items) }
+{
+    push(into, first)?;
+    push(into, second)
+}
+
+// Three parts, or none.
+fn push_all(into: &mut Vec<u8>, first: &[u8], second: &[u8], third: &[u8]) -> Result<(), NoMemory>
+    ensures ok { OnOk result (into.new.items ≡ into.old.items ++ (first.now ++ (second.now ++ third.now))) }
+    ensures err { OnErr result (into.new.items ≡ into.old.items) }
+{
+    let before = into.len();
+    push(into, first)?;
+    match push_both(into, second, third) {
+        Ok(()) => Ok(()),
+        Err(stop) => {
+            into.truncate(before);
+            Err(stop)
+        }
+    }
+}
+
+/// Writes the line of a statement at the end, with its LF.
+pub fn print_statement(statement: &Statement, into: &mut Vec<u8>) -> Result<(), NoMemory>
+    requires { IsTrue (is_statement statement.now) }
+    ensures ok { OnOk result (into.new.items ≡ into.old.items ++ (statement_line statement.now ++ codes "\n")) }
+    ensures err { OnErr result (into.new.items ≡ into.old.items) }
+{
+    match statement {
+        Statement::Begin => push(into, b"BEGIN\n"),
+        Statement::Commit => push(into, b"COMMIT\n"),
+        Statement::Rollback => push(into, b"ROLLBACK\n"),
+        Statement::Insert {
+            table,
+            key,
+            payload,
+        } => {
+            let head = insert_head(table.as_str(), *key);
+            push_all(into, head.as_str().as_bytes(), payload.as_slice(), b"'\n")
+        }
+        Statement::Count(table) => push(into, count_line(table.as_str()).as_str().as_bytes()),
+        Statement::Check { workers } => push(into, check_line(*workers).as_str().as_bytes()),
+    }
+}

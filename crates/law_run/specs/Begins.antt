@@ -10,7 +10,7 @@ use Rattle.spec_log.specs.Log.{has_started, has_undone, greatest_of, left_of}
 use Rattle.spec_log.specs.Rules.{Follows, AreFreeFor}
 use Rattle.spec_log.specs.Sound.{Fits, is_old}
 use Rattle.law_undo.specs.Holders.{unfinished_parts, unfinished_from}
-use Rattle.spec_plan.specs.Planned.{Planned}
+use Rattle.spec_plan.specs.declared.plan.Planned.{Planned}
 use Rattle.spec_run.specs.Shapes.{plain_start}
 use Rattle.spec_run.specs.Sessions.{session_of, owner_of}
 use Rattle.spec_run.specs.Begun.{Setting}

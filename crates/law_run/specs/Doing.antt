@@ -8,7 +8,7 @@ use Rattle.spec_log.specs.Log.{has_started, has_undone, is_unfinished, left_of}
 use Rattle.spec_log.specs.Rules.{Follows}
 use Rattle.spec_log.specs.Images.{final_image}
 use Rattle.spec_log.specs.Sound.{Fits, is_old}
-use Rattle.spec_plan.specs.Planned.{Planned}
+use Rattle.spec_plan.specs.declared.plan.Planned.{Planned}
 use Rattle.spec_run.specs.Shapes.{change_item, undo_items}
 use Rattle.spec_run.specs.Sessions.{owner_of, session_of}
 use Rattle.spec_run.specs.Begun.{Setting}

@@ -15,7 +15,8 @@ use Rattle.spec_log.specs.Items.{is_same, has_cell_form}
 use Rattle.spec_log.specs.Log.{holds}
 use Rattle.spec_log.specs.Bytes.{change_length}
 use Rattle.spec_log.specs.Cover.{IsCovered, IsOfOneExtent, byte_guard, bit_guard, HoldsGuard}
-use Rattle.spec_plan.specs.Planned.{Planned, planned_size}
+use Rattle.spec_plan.specs.declared.plan.Planned.{Planned}
+use Rattle.spec_plan.specs.Planned.{planned_size}
 use Rattle.spec_plan.specs.Sight.{Sight}
 use Rattle.law_run.specs.Plans.{Find, HaveCells, AreCovered}
 

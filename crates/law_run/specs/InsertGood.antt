@@ -23,7 +23,7 @@ use Rattle.law_cover.specs.Places.{pages_guard_bytes}
 use Rattle.spec_chain.specs.Chains.{is_ordinary, is_for_objects}
 use Rattle.spec_chain.specs.Uses.{pfs_byte}
 use Rattle.spec_rows.specs.Slots.{slot_count}
-use Rattle.spec_plan.specs.Planned.{Planned}
+use Rattle.spec_plan.specs.declared.plan.Planned.{Planned}
 use Rattle.spec_plan.specs.Sight.{Sight, Outcome, Refuses, Counts, Writes}
 use Rattle.spec_file.specs.Pfs.{fullness_of}
 use Rattle.std.proofs.Math.ListN.{length-set}

@@ -9,7 +9,8 @@ use Rattle.spec_log.specs.Limits.{passes_limit}
 use Rattle.spec_log.specs.Images.{view_of, damaged_page}
 use Rattle.spec_script.specs.declared.statement.Statement.{Statement}
 use Rattle.spec_script.specs.declared.statement.Statement.TheVariants as statement
-use Rattle.spec_plan.specs.Planned.{Planned, planned_size}
+use Rattle.spec_plan.specs.declared.plan.Planned.{Planned}
+use Rattle.spec_plan.specs.Planned.{planned_size}
 use Rattle.spec_plan.specs.Refusals.{is_open, nothing_to_commit, nothing_to_undo, log_full}
 use Rattle.spec_plan.specs.Sight.{Outcome, Refuses, Counts, Writes}
 use Rattle.spec_plan.specs.Statements.{count_outcome, insert_outcome}

@@ -13,7 +13,7 @@ use Rattle.spec_file.specs.Roles.{role_of}
 use Rattle.spec_log.specs.declared.item.Cell.TheVariants.{Bytes}
 use Rattle.spec_log.specs.Cells.{byte_with, with_bytes, put}
 use Rattle.spec_log.specs.Cover.{IsOfOneExtent, byte_guard}
-use Rattle.spec_plan.specs.Planned.{Planned}
+use Rattle.spec_plan.specs.declared.plan.Planned.{Planned}
 use Rattle.spec_plan.specs.Changes.{differing, last_of, change_over, change_between}
 use Rattle.law_run.specs.Plans.{Find, HaveCells}
 use Rattle.law_run.specs.Good.{AreCoveredBy}

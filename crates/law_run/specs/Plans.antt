@@ -21,7 +21,7 @@ use Rattle.law_undo.specs.Guards.{guard_of, atom, covered_at, follows_at, rules_
 use Rattle.law_undo.specs.Holders.{one_holder}
 use Rattle.law_undo.specs.CellAtoms.{same_cell}
 use Rattle.law_undo.specs.Views.{writer_holds}
-use Rattle.spec_plan.specs.Planned.{Planned}
+use Rattle.spec_plan.specs.declared.plan.Planned.{Planned}
 use Rattle.law_run.specs.Others.{holds_other}
 
 -- each change finds its before bytes where those before it are made

@@ -9,12 +9,12 @@ use Rattle.spec_file.specs.Image.{page}
 use Rattle.spec_file.specs.Header.{says}
 use Rattle.spec_file.specs.Places.{pfs_page}
 use Rattle.spec_file.specs.CatalogRows.{CatalogRow, rows_of}
-use Rattle.spec_chain.specs.Chains.{is_inside, is_good, is_ordinary, next_of}
+use Rattle.spec_chain.specs.Chains.{is_inside, is_last, is_ordinary, next_of}
 use Rattle.spec_chain.specs.Uses.{is_allocated}
 use Rattle.spec_script.specs.declared.reply.Refusal.{Refusal}
 use Rattle.spec_plan.specs.Refusals.{bad_page, held_by, no_table, no_room}
 use Rattle.spec_plan.specs.Sight.{Sight, Outcome, Refuses, Counts, by_holder, unless_held, where_good}
-use Rattle.spec_plan.specs.Reading.{is_catalog, named_among, where_named, table_read, are_slots_inside, chain_from, is_single, is_marked, byte_pages, object_pages, bytes_read, heap_read}
+use Rattle.spec_plan.specs.Reading.{is_catalog, named_among, where_named, table_read, are_slots_inside, is_chain_page, chain_from, is_single, is_marked, byte_pages, object_pages, bytes_read, heap_read}
 use Rattle.spec_rows.specs.Slots.{slot_count}
 use Rattle.spec_plan.specs.Rows.{has_room_for}
 use Rattle.spec_plan.specs.Statements.{is_heap_page, counted, fullness_at, row_put, inserted}
@@ -47,10 +47,10 @@ all_chain : (P : Outcome → Type 0) (n : ℕ) (sight : Sight) (row : CatalogRow
     ((chain : List ℕ) → P (next chain)) → P (chain_from n sight row met from p next)
 all_chain P zero sight row met from p next refuses all = refuses (bad_page p)
 all_chain P (suc n) sight row met from p next refuses all =
-    cond_both (eqb p 0 && not (eqb (length met) 0)) (next met) _ P (λ e. all met) (λ e.
-    all_good P (is_inside sight.view p) from _ refuses (λ inside.
+    cond_both (is_last (length met) p) (next met) _ P (λ e. all met) (λ e.
+    all_good P (is_inside (length sight.view) p) from _ refuses (λ inside.
     all_held P sight (resource.Page (record { 0 = p })) _ refuses (λ free.
-    all_good P (is_good sight.geometry sight.view row p && not (list_any (λ q. eqb q p) met)) p _ refuses (λ good.
+    all_good P (is_chain_page sight row met p) p _ refuses (λ good.
     all_good P (not (eqb (length met) 0) || are_slots_inside sight.view p) p _ refuses (λ slots.
     all_chain P n sight row (met ++ p ∷ []) p (next_of (page sight.view p)) next refuses all)))))
 

@@ -1,5 +1,5 @@
 -- A page with one row more has its length, and no more slots than there is room for.
-use Rattle.std.proofs.Common.{◌≡◌, ℕ, ◌+◌, ◌-◌, ◌*◌, ◌≤◌, true, false, not, leb, Bool, ◌&&◌, List, [], ◌∷◌, ◌++◌, length, drop, replicate, reverse, length-take, length-drop, length-append, Some, None, refl, ap, ◌∙◌, arith}
+use Rattle.std.proofs.Common.{◌≡◌, ℕ, ◌+◌, ◌-◌, ◌*◌, ◌≤◌, true, false, not, leb, eqb, Bool, ◌&&◌, List, [], ◌∷◌, ◌++◌, length, drop, replicate, reverse, length-take, length-drop, length-append, Some, None, refl, ap, ◌∙◌, arith}
 use Rattle.std.specs.Prelude.{if◌then◌else◌, is_none, flat_map, sum_by, slice_range}
 use Rattle.std.specs.List.{range_with_len}
 use Rattle.std.proofs.lemmas.Bool.{false≢true, and_parts, leb-true, eqb-true, cond_both}
@@ -8,8 +8,9 @@ use Rattle.std.proofs.lemmas.List.FromFn.{length-range_with_len}
 use Rattle.std.proofs.lemmas.List.Sums.{sum_by-cons}
 use Rattle.byteorder.specs.Endian.{little_bytes}
 use Rattle.spec_file.specs.declared.data.Kind.TheVariants.{Heap}
+use Rattle.spec_file.specs.Header.{header_of, header_version}
 use Rattle.spec_rows.specs.Slots.{slot_count, slot_limit, rows_end, row_size, rows_size, page_row, row_end, slot_at}
-use Rattle.spec_rows.specs.PageTest.{owner_fault, form_fault, has_version, has_level, has_rows, has_links, has_room, has_no_ghosts, has_free_count}
+use Rattle.spec_rows.specs.PageTest.{owner_fault, form_fault, has_level, has_rows, has_links, has_room, has_no_ghosts, has_free_count}
 use Rattle.spec_plan.specs.Rows.{passes_page, free_count, has_room_for, counted_header, rows_bytes, slots_bytes, compacted, with_row_at, fits_behind, with_row}
 use Rattle.law_run.specs.PageChanges.{slice_length}
 
@@ -36,11 +37,11 @@ fifth true true true true true f u v w x y z h = refl
 room_of : (p o : ℕ) (bytes : List ℕ) → passes_page p o bytes ≡ true → Room bytes
 unfolding passes_page
 room_of p o bytes passes =
-    let a = and_parts (is_none (owner_fault p o Heap bytes)) _ passes in
-    let b = and_parts (is_none (form_fault Heap bytes)) _ a.1 in
+    let a = and_parts (is_none (owner_fault p o Heap (header_of bytes))) _ passes in
+    let b = and_parts (is_none (form_fault Heap (header_version bytes) (header_of bytes))) _ a.1 in
     let c = and_parts _ _ b.1 in
     let d = and_parts _ (has_free_count bytes) c.1 in
-    let room : has_room bytes ≡ true = fifth (has_version bytes) (has_level bytes) (has_rows bytes) (has_links Heap bytes) (has_room bytes) (has_no_ghosts bytes) _ _ _ _ _ _ b.0 in
+    let room : has_room (header_of bytes) ≡ true = fifth (eqb (header_version bytes) 1) (has_level (header_of bytes)) (has_rows (header_of bytes)) (has_links Heap (header_of bytes)) (has_room (header_of bytes)) (has_no_ghosts (header_of bytes)) _ _ _ _ _ _ b.0 in
     let e = and_parts (leb (slot_count bytes) slot_limit && leb 96 (rows_end bytes)) (leb (rows_end bytes + 2 * slot_count bytes) 8192) room in
     let f = and_parts (leb (slot_count bytes) slot_limit) (leb 96 (rows_end bytes)) e.0 in
     record {

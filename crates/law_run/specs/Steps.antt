@@ -10,7 +10,7 @@ use Rattle.spec_log.specs.Log.{has_undone, left_of, rest_of}
 use Rattle.spec_log.specs.Cover.{IsCovered, HoldsGuard}
 use Rattle.spec_log.specs.Sound.{IsSound}
 use Rattle.law_undo.specs.ReadLogs.{cell_form}
-use Rattle.spec_plan.specs.Planned.{Planned}
+use Rattle.spec_plan.specs.declared.plan.Planned.{Planned}
 use Rattle.spec_run.specs.Shapes.{change_item}
 use Rattle.spec_run.specs.Begun.{Setting}
 use Rattle.spec_run.specs.Progress.{Progress, is_short, moved_to}

@@ -16,7 +16,8 @@ use Rattle.law_undo.specs.HolderLaws.{IsOther, holder_is_other, holders_are_one}
 use Rattle.law_undo.specs.LawAtAtom.{not_true}
 use Rattle.law_undo.specs.Laws.{IsOngoing}
 use Rattle.law_undo.specs.Views.{sound_rules}
-use Rattle.spec_plan.specs.Planned.{Planned, planned_size}
+use Rattle.spec_plan.specs.declared.plan.Planned.{Planned}
+use Rattle.spec_plan.specs.Planned.{planned_size}
 use Rattle.spec_run.specs.Shapes.{tran_to_write}
 use Rattle.spec_run.specs.Begun.{Setting, sight_of}
 use Rattle.law_run.specs.Fresh.{not_started_above, none_ended}

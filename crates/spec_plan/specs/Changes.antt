@@ -3,7 +3,7 @@
 use Rattle.std.specs.Prelude.{ℕ, ◌+◌, ◌-◌, ◌*◌, ◌==◌, not, List, [], ◌∷◌, ◌++◌, filter, slice_index, slice_range}
 use Rattle.std.specs.List.{range_with_len}
 use Rattle.spec_log.specs.declared.item.Cell.TheVariants.{Bytes}
-use Rattle.spec_plan.specs.Planned.{Planned}
+use Rattle.spec_plan.specs.declared.plan.Planned.{Planned}
 
 -- the offsets from lo to before hi at which two pages differ, rising
 unfoldable pub differing : List ℕ → List ℕ → ℕ → ℕ → List ℕ

@@ -1,6 +1,6 @@
 -- In what order a statement reads what leads to the pages of its table: page 9, the IAM chain, the PFS bytes
 -- (the order is this project's own).
-use Rattle.std.specs.Prelude.{ℕ, zero, suc, ◌/◌, ◌%◌, ◌==◌, ◌&&◌, ◌||◌, not, nat_lt, bytes_eq, Bool, if◌then◌else◌, List, [], ◌∷◌, ◌++◌, length, filter, Option, Some, None}
+use Rattle.std.specs.Prelude.{ℕ, zero, suc, ◌/◌, ◌%◌, ◌==◌, ◌&&◌, ◌||◌, not, nat_lt, bytes_eq, is_none, Bool, if◌then◌else◌, List, [], ◌∷◌, ◌++◌, length, filter, Option, Some, None}
 use Rattle.std.specs.List.{list_any, list_all, range_with_len}
 use Rattle.spec_file.specs.declared.data.Resource.TheVariants as resource
 use Rattle.spec_file.specs.declared.geometry.Geometry.{Geometry}
@@ -10,7 +10,7 @@ use Rattle.spec_file.specs.Places.{interval_size, interval_of_page, pfs_page}
 use Rattle.spec_file.specs.Catalog.{entry_count, entry_at, entry_id, entry_name, is_zeros, is_row}
 use Rattle.spec_file.specs.CatalogRows.{CatalogRow, rows_of}
 use Rattle.spec_file.specs.Iam.{iam_interval, iam_slots, iam_mark}
-use Rattle.spec_chain.specs.Chains.{is_inside, is_good, next_of}
+use Rattle.spec_chain.specs.Chains.{is_ordinary, is_inside, is_last, fault_of_bytes, next_of}
 use Rattle.spec_chain.specs.Uses.{is_allocated}
 use Rattle.spec_plan.specs.Refusals.{bad_page, no_table}
 use Rattle.spec_plan.specs.Sight.{Sight, Outcome, Refuses, unless_held, where_good}
@@ -52,14 +52,19 @@ table_read sight name next =
 abbrev pub are_slots_inside : Image → ℕ → Bool
 are_slots_inside image p = list_all (λ q. nat_lt q (length image)) (iam_slots (page image p))
 
+-- page p goes on with a chain that has met these pages: an ordinary page that is an IAM page of the object
+abbrev pub is_chain_page : Sight → CatalogRow → List ℕ → ℕ → Bool
+is_chain_page sight row met p =
+    is_ordinary sight.geometry p && is_none (fault_of_bytes sight.geometry (length sight.view) row.id p (page sight.view p)) && not (list_any (λ q. q == p) met)
+
 -- the chain, from the page that the number p names: it stands on page `from`, after the pages `met`. A number
 -- outside the file is 824 at the page that holds it; single slots count on the first page alone.
 abbrev pub chain_from : ℕ → Sight → CatalogRow → List ℕ → ℕ → ℕ → (List ℕ → Outcome) → Outcome
 chain_from zero sight row met from p next = Refuses (bad_page p)
 chain_from (suc n) sight row met from p next =
-    if (p == 0) && not (length met == 0) then next met
-    else (where_good (is_inside sight.view p) from (unless_held sight (resource.Page (record { 0 = p }))
-    (where_good (is_good sight.geometry sight.view row p && not (list_any (λ q. q == p) met)) p
+    if is_last (length met) p then next met
+    else (where_good (is_inside (length sight.view) p) from (unless_held sight (resource.Page (record { 0 = p }))
+    (where_good (is_chain_page sight row met p) p
     (where_good (not (length met == 0) || are_slots_inside sight.view p) p
     (chain_from n sight row (met ++ p ∷ []) p (next_of (page sight.view p)) next)))))
 

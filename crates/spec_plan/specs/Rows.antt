@@ -3,7 +3,7 @@ use Rattle.std.specs.Prelude.{ℕ, ◌+◌, ◌-◌, ◌*◌, ◌==◌, ◌&&◌
 use Rattle.std.specs.List.{list_all, range_with_len}
 use Rattle.byteorder.specs.Endian.{little_bytes}
 use Rattle.spec_file.specs.declared.data.Kind.TheVariants.{Heap}
-use Rattle.spec_file.specs.Header.{header_of}
+use Rattle.spec_file.specs.Header.{header_of, header_version}
 use Rattle.spec_rows.specs.Rows.{DataRow, row_bytes}
 use Rattle.spec_rows.specs.Slots.{slot_count, rows_end, slot_at, row_end, rows_size, page_row}
 use Rattle.spec_rows.specs.PageTest.{owner_fault, form_fault, slot_fault, has_free_count}
@@ -15,7 +15,7 @@ are_rows_apart bytes i j = (i == j) || (nat_le (row_end bytes i) (slot_at bytes 
 -- page p passes the page test as a heap page of object o
 unfoldable pub passes_page : ℕ → ℕ → List ℕ → Bool
 passes_page p o bytes =
-    is_none (owner_fault p o Heap bytes) && (is_none (form_fault Heap bytes)
+    is_none (owner_fault p o Heap (header_of bytes)) && (is_none (form_fault Heap (header_version bytes) (header_of bytes))
     && (list_all (λ i. is_none (slot_fault bytes i)) (range_with_len 0 (slot_count bytes))
     && (list_all (λ i. list_all (are_rows_apart bytes i) (range_with_len 0 (slot_count bytes))) (range_with_len 0 (slot_count bytes))
     && has_free_count bytes)))

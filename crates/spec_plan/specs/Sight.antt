@@ -5,7 +5,7 @@ use Rattle.spec_file.specs.declared.data.Resource.{Resource}
 use Rattle.spec_file.specs.declared.geometry.Geometry.{Geometry}
 use Rattle.spec_file.specs.Image.{Image}
 use Rattle.spec_script.specs.declared.reply.Refusal.{Refusal}
-use Rattle.spec_plan.specs.Planned.{Planned}
+use Rattle.spec_plan.specs.declared.plan.Planned.{Planned}
 use Rattle.spec_plan.specs.Refusals.{held_by, bad_page}
 
 -- the view of the statement's transaction, which other transaction holds a resource, and what its own holds

@@ -11,7 +11,7 @@ use Rattle.spec_log.specs.declared.item.Cell.TheVariants.{Bytes}
 use Rattle.spec_chain.specs.Chains.{is_ordinary}
 use Rattle.spec_chain.specs.Uses.{pfs_byte}
 use Rattle.spec_rows.specs.Slots.{slot_count}
-use Rattle.spec_plan.specs.Planned.{Planned}
+use Rattle.spec_plan.specs.declared.plan.Planned.{Planned}
 use Rattle.spec_plan.specs.Refusals.{no_room}
 use Rattle.spec_plan.specs.Sight.{Sight, Outcome, Refuses, Counts, Writes, unless_held, where_good}
 use Rattle.spec_plan.specs.Reading.{heap_read}

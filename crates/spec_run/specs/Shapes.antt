@@ -5,7 +5,8 @@ use Rattle.spec_file.specs.declared.data.Resource.{Resource}
 use Rattle.spec_log.specs.declared.item.Record.{Record}
 use Rattle.spec_log.specs.declared.item.Record.TheVariants.{Start, Change, Undo, Commit, Abort, Snap, Failed, CheckEnd}
 use Rattle.spec_log.specs.Log.{greatest_of, left_of}
-use Rattle.spec_plan.specs.Planned.{Planned, planned_size}
+use Rattle.spec_plan.specs.declared.plan.Planned.{Planned}
+use Rattle.spec_plan.specs.Planned.{planned_size}
 
 -- what becomes of a statement
 pub data Shape : Type 0 where

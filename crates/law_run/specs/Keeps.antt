@@ -42,7 +42,7 @@ doing_other run log x s p sound form f n (Undoing due want owns) =
 doing_other run log x s p sound form f n (Checking index outcome due want forms opens) = Checking index outcome due want forms (Opens_other run log x s p.tran n opens)
 
 -- two sessions' transactions differ
-apart : (run : Setting) (log : List Record) (x : Record) (s other t : ℕ) → IsOwn run log s x → (s ≡ other → ⊥) → Owns run log other t → tran_of x ≡ t → ⊥
+pub apart : (run : Setting) (log : List Record) (x : Record) (s other t : ℕ) → IsOwn run log s x → (s ≡ other → ⊥) → Owns run log other t → tran_of x ≡ t → ⊥
 apart run log x s other t (inl none) differ o same =
     both_ways (ltb 0 t) (ap (ltb 0) (sym same ∙ none)) (unfinished_parts (log ++ run.opened) t o.unfinished).above
 apart run log x s other t (inr (inl fresh)) differ o same =

@@ -1,5 +1,5 @@
 -- A legal history is sound, and each session is in the middle of a statement or of none.
-use Rattle.std.proofs.Common.{◌≡◌, ℕ, ◌+◌, ◌<◌, ◌≤◌, true, false, eqb, List, [], ◌∷◌, ◌++◌, length, Option, Some, None, inl, inr, refl, sym, ap, ◌∙◌, subst, arith}
+use Rattle.std.proofs.Common.{◌≡◌, ℕ, ◌+◌, ◌<◌, ◌≤◌, true, false, eqb, List, [], ◌∷◌, ◌++◌, length, Option, Some, None, inl, inr, refl, sym, ap, ◌∙◌, subst, arith, ◌⊎◌}
 use Rattle.std.specs.Prelude.{if◌then◌else◌, slice_get}
 use Rattle.std.proofs.lemmas.Bool.{cond_both, eqb-false, cases_eq, eq-eqb}
 use Rattle.spec_log.specs.declared.item.Record.{Record}
@@ -219,3 +219,12 @@ pub next_belongs : NextBelongs
 next_belongs run log s x start legal hs may =
     let right = legal_right run log start legal in
     (comes_steps run log s (progress_of run s log) start right.sound hs (right.doing s) x may).belongs
+
+-- the open transaction of a session
+pub doing_opens : (run : Setting) (log : List Record) (s : ℕ) (p : Progress) → IsDoing run log s p → (p.tran ≡ 0) ⊎ Owns run log s p.tran
+doing_opens run log s p (Idle due want (inl none)) = inl none
+doing_opens run log s p (Idle due want (inr o)) = inr o.0
+doing_opens run log s p (Changing changes own due want owns still planned) = inr owns
+doing_opens run log s p (Undoing due want owns) = inr owns
+doing_opens run log s p (Checking index outcome due want forms (inl none)) = inl none
+doing_opens run log s p (Checking index outcome due want forms (inr o)) = inr o.0

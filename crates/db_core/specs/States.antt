@@ -1,0 +1,83 @@
+-- What the core keeps of each session, tied to the history.
+use Rattle.std.specs.Prelude.{◌≡◌, ℕ, ◌+◌, ◌-◌, ◌<◌, ◌≤◌, Bool, List, [], ◌∷◌, ◌++◌, length, map, reverse, take, slice_get, Option, Some, None, ◌⊎◌}
+use Rattle.std.specs.List.{list_any}
+use Rattle.spec_file.specs.declared.data.Resource.{Resource}
+use Rattle.spec_file.specs.Image.{Image}
+use Rattle.spec_log.specs.declared.item.Record.{Record}
+use Rattle.spec_log.specs.declared.item.Record.TheVariants.{CheckEnd}
+use Rattle.spec_log.specs.Items.{is_same}
+use Rattle.spec_log.specs.Log.{is_unfinished, holds, greatest_of, left_of}
+use Rattle.spec_log.specs.Limits.{changes_of, all_changes, all_bytes}
+use Rattle.spec_log.specs.Images.{taken_back, final_image}
+use Rattle.spec_script.specs.declared.reply.Reply.{Reply}
+use Rattle.spec_script.specs.declared.reply.Reply.TheVariants.{Done, Rows}
+use Rattle.spec_script.specs.declared.statement.Statement.{Statement}
+use Rattle.spec_run.specs.Entries.{Entry, Item}
+use Rattle.spec_run.specs.Begun.{Setting, Telling, Answers, Reports}
+use Rattle.spec_run.specs.Progress.{Progress, progress_of, script_of}
+use Rattle.spec_run.specs.Turns.{AreTold, told_to, IsLegal, Turn}
+use Rattle.law_run.specs.Laws.{IsStart}
+use Rattle.law_run.specs.Doing.{change_items, abort_items}
+use Rattle.db_core.specs.declared.session.Doing.{Doing}
+use Rattle.db_core.specs.declared.session.Doing.TheVariants.{Idle, Changing, Undoing, Checking}
+use Rattle.db_core.specs.declared.session.Session.{Session}
+
+-- what contracts see of the core: what the run began with, and its items, the newest first
+pub record Db : Type 0 where
+  pub run : Setting
+  pub log : List Record
+
+-- the history as its entries
+abbrev pub entries_of : List Record → List Entry
+entries_of log = map Item log
+
+abbrev pub TurnIn : ℕ → Db → Db → Type 0
+TurnIn s old new = (new.run ≡ old.run) × Turn old.run s (entries_of old.log) (entries_of new.log)
+
+-- the whole log of a history
+abbrev pub whole_log : Setting → List Record → List Record
+whole_log run log = log ++ run.opened
+
+-- the reply to a statement that changes the file, with the rows that it writes, and to COMMIT
+abbrev pub reply_of : Option ℕ → Reply
+reply_of None = Done
+reply_of (Some n) = Rows n []
+
+-- taking back what is left of the items before the check's Snap gives the image that it reports
+pub record IsSnapshot (run : Setting) (log : List Record) (point : ℕ) (snapshot : Image) (place : ℕ) (telling : Telling) : Type 0 where
+  pub above : 0 < point
+  pub inside : point ≤ length (whole_log run log)
+  pub placed : place < point
+  pub reports : telling ≡ Reports point (taken_back (is_unfinished (reverse (take (point - 1) (reverse (whole_log run log)))))
+      (reverse (take place (reverse (whole_log run log)))) snapshot)
+
+-- what the session is doing: the items that it owes, and what it is told after them
+abbrev pub IsAt : Setting → List Record → ℕ → ℕ → ℕ → Progress → Doing → Type 0
+IsAt run log s index t p Idle = p.due ≡ []
+IsAt run log s index t p (Changing changes own rows) = (p.due ≡ change_items t (reverse changes.items) own) × (p.telling ≡ Answers (reply_of rows))
+IsAt run log s index t p Undoing = (p.due ≡ abort_items t (left_of t (whole_log run log))) × (p.telling ≡ Answers Done) × (0 < t)
+IsAt run log s index t p (Checking point snapshot place) = (p.due ≡ CheckEnd s index 0 ∷ []) × IsSnapshot run log point snapshot place p.telling
+
+-- the open transaction: its changes that are left, what it holds, and how many changes it announced
+pub record IsOpen (log : List Record) (t : ℕ) (left : List ℕ) (held : List Resource) (used : ℕ) : Type 0 where
+  pub left_is : map (λ (p : ℕ × Record). p.0) (left_of t log) ≡ reverse left
+  pub held_is : (r : Resource) → holds log t r ≡ list_any (is_same r) held
+  pub used_is : changes_of t log ≡ used
+
+pub record IsSession (run : Setting) (log : List Record) (s : ℕ) (x : Session) : Type 0 where
+  pub script_is : script_of run.scripts s ≡ x.script.items
+  pub told : AreTold run.geometry (told_to run s log) x.replies.items
+  pub tran_is : (progress_of run s log).tran ≡ x.tran
+  pub doing_is : IsAt run log s (length x.replies.items + 1) x.tran (progress_of run s log) x.doing
+  pub opens : (x.tran ≡ 0) ⊎ IsOpen (whole_log run log) x.tran x.left.items x.held.items x.used
+
+-- the core's state is that of the history
+pub record IsState (run : Setting) (log : List Record) (pages : Image) (sessions : List Session) (last all size : ℕ) : Type 0 where
+  pub start : IsStart run
+  pub legal : IsLegal run log
+  pub pages_are : pages ≡ final_image run.opened log run.image
+  pub few : length sessions ≡ length run.scripts
+  pub each : (k : ℕ) (x : Session) → slice_get sessions k ≡ Some x → IsSession run log (k + 1) x
+  pub last_is : last ≡ greatest_of (whole_log run log)
+  pub all_is : all ≡ all_changes (whole_log run log)
+  pub size_is : size ≡ all_bytes (whole_log run log)

@@ -41,12 +41,11 @@ open_undo g t n m rest held used o = record {
 }
 
 -- an item that has no transaction
-pub open_none : (g : List Record) (t s i o : ℕ) (left : List ℕ) (held : List Resource) (used : ℕ) → IsOpen g t left held used →
-    IsOpen (Snap s i ∷ g) t left held used × IsOpen (CheckEnd s i o ∷ g) t left held used
-open_none g t s i o left held used h = (
-  record { left_is = h.left_is; held_is = h.held_is; used_is = h.used_is },
-  record { left_is = h.left_is; held_is = h.held_is; used_is = h.used_is },
-)
+pub open_snap : (g : List Record) (t s i : ℕ) (left : List ℕ) (held : List Resource) (used : ℕ) → IsOpen g t left held used → IsOpen (Snap s i ∷ g) t left held used
+open_snap g t s i left held used h = record { left_is = h.left_is; held_is = h.held_is; used_is = h.used_is }
+
+pub open_end : (g : List Record) (t s i o : ℕ) (left : List ℕ) (held : List Resource) (used : ℕ) → IsOpen g t left held used → IsOpen (CheckEnd s i o ∷ g) t left held used
+open_end g t s i o left held used h = record { left_is = h.left_is; held_is = h.held_is; used_is = h.used_is }
 
 any_append : (r : Resource) (xs ys : List Resource) → list_any (is_same r) (xs ++ ys) ≡ (list_any (is_same r) xs || list_any (is_same r) ys)
 any_append r [] ys = refl

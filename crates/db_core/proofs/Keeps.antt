@@ -22,7 +22,7 @@ use Rattle.law_run.specs.Doing.{Owns, IsDoing, abort_items, StepsTo}
 use Rattle.law_run.specs.Keeps.{apart, progress_other}
 use Rattle.law_run.specs.Legal.{IsRight, legal_right, comes_steps, doing_opens}
 use Rattle.db_core.specs.declared.session.Doing.{Doing}
-use Rattle.db_core.specs.declared.session.Doing.TheVariants.{Idle, Changing, Undoing, Checking}
+use Rattle.db_core.specs.declared.session.Doing.TheVariants.{Idle, Changing, Ending, Undoing, Checking}
 use Rattle.db_core.specs.declared.session.Session.{Session}
 use Rattle.db_core.specs.States.{whole_log, IsSnapshot, IsAt, IsOpen, IsSession, IsState}
 
@@ -56,7 +56,7 @@ open_other x g t left held used n o = record {
 }
 
 -- appending leaves the first items as they are
-first_items : (g : List Record) (x : Record) (n : ℕ) → n ≤ length g → take n (reverse (x ∷ g)) ≡ take n (reverse g)
+pub first_items : (g : List Record) (x : Record) (n : ℕ) → n ≤ length g → take n (reverse (x ∷ g)) ≡ take n (reverse g)
 first_items g x n le =
     ap (take n) (reverse-append (x ∷ []) g) ∙ take-append-le n (reverse g) (x ∷ []) (subst (λ m. n ≤ m) (sym (length-reverse g)) le)
 
@@ -80,7 +80,8 @@ snapshot_more run log x point snapshot place telling p =
 at_other : (run : Setting) (log : List Record) (x : Record) (s index t : ℕ) (p : Progress) (doing : Doing) → (0 < t → tran_of x ≡ t → ⊥) →
     IsAt run log s index t p doing → IsAt run (x ∷ log) s index t p doing
 at_other run log x s index t p Idle n d = d
-at_other run log x s index t p (Changing changes own rows) n d = d
+at_other run log x s index t p (Changing next later own rows) n d = d
+at_other run log x s index t p (Ending rows) n d = d
 at_other run log x s index t p Undoing n d = (d.0 ∙ ap (abort_items t) (sym (left_other x (whole_log run log) t (n d.2))), d.1, d.2)
 at_other run log x s index t p (Checking point snapshot place) n d = (d.0, snapshot_more run log x point snapshot place p.telling d.1)
 

@@ -2,3 +2,4 @@ pub mod Keeps
 pub mod Moves
 pub mod Opens
 pub mod Next
+pub mod Starts

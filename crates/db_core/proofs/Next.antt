@@ -23,7 +23,7 @@ use Rattle.law_run.specs.Laws.{IsStart}
 use Rattle.law_run.specs.Doing.{change_items, abort_items, StepsTo}
 use Rattle.law_run.specs.Legal.{with_begun}
 use Rattle.db_core.specs.declared.session.Doing.{Doing}
-use Rattle.db_core.specs.declared.session.Doing.TheVariants.{Idle, Changing, Undoing, Checking}
+use Rattle.db_core.specs.declared.session.Doing.TheVariants.{Idle, Changing, Ending, Undoing, Checking}
 use Rattle.db_core.specs.declared.session.Session.{Session}
 use Rattle.db_core.specs.States.{whole_log, reply_of, IsSnapshot, IsAt, IsOpen, IsSession}
 use Rattle.db_core.proofs.Keeps.{steps_of, snapshot_more}
@@ -75,88 +75,89 @@ opens_after run log x t old next before after (inr o) more =
     (more (subst (λ u. IsOpen (whole_log run log) u old.left.items old.held.items old.used) before o)))
 
 -- what a session with changes to make owes
-changing_due : (run : Setting) (log : List Record) (s : ℕ) (old : Session) (changes : _) (own : Bool) (rows : Option ℕ) → IsSession run log s old → old.doing ≡ Changing changes own rows →
-    ((progress_of run s log).due ≡ change_items old.tran (reverse changes.items) own) × ((progress_of run s log).telling ≡ Answers (reply_of rows))
-changing_due run log s old changes own rows mine doing =
+changing_due : (run : Setting) (log : List Record) (s : ℕ) (old : Session) (c : Planned) (later : _) (own : Bool) (rows : Option ℕ) → old.doing ≡ Changing c later own rows → IsSession run log s old →
+    ((progress_of run s log).due ≡ change_item old.tran c ∷ change_items old.tran (reverse later.items) own) × ((progress_of run s log).telling ≡ Answers (reply_of rows))
+changing_due run log s old c later own rows doing mine =
     subst (IsAt run log s (length old.replies.items + 1) old.tran (progress_of run s log)) doing mine.doing_is
 
-abbrev pub first_due : ℕ → Planned → List Planned → Bool → List Record
-first_due t c rest own = change_item t c ∷ change_items t (reverse rest) own
-
-change_due : (t : ℕ) (changes rest : List Planned) (c : Planned) (own : Bool) → changes ≡ rest ++ c ∷ [] → change_items t (reverse changes) own ≡ first_due t c rest own
-change_due t changes rest c own e = ap (λ xs. change_items t (reverse xs) own) e ∙ ap (λ xs. change_items t xs own) (reverse-append rest (c ∷ []))
-
 -- a change comes
-pub change_comes : (run : Setting) (log : List Record) (s : ℕ) (old : Session) (changes : _) (own : Bool) (rows : Option ℕ) (rest : List Planned) (c : Planned) →
-    IsSession run log s old → old.doing ≡ Changing changes own rows → changes.items ≡ rest ++ c ∷ [] → MayCome (work_of run s log) (change_item old.tran c)
-change_comes run log s old changes own rows rest c mine doing items =
-    busy_comes run log s (change_item old.tran c) (change_items old.tran (reverse rest) own)
-    ((changing_due run log s old changes own rows mine doing).0 ∙ change_due old.tran changes.items rest c own items)
+pub change_comes : (run : Setting) (log : List Record) (s : ℕ) (old : Session) (c : Planned) (later : _) (own : Bool) (rows : Option ℕ) → old.doing ≡ Changing c later own rows →
+    IsSession run log s old → MayCome (work_of run s log) (change_item old.tran c)
+change_comes run log s old c later own rows doing mine =
+    busy_comes run log s (change_item old.tran c) (change_items old.tran (reverse later.items) own) (changing_due run log s old c later own rows doing mine).0
 
--- and others are left
-pub change_goes : (run : Setting) (log : List Record) (s : ℕ) (old next : Session) (changes later : _) (own : Bool) (rows : Option ℕ) (c : Planned) →
-    IsStart run → IsLegal run log → 0 < s → IsSession run log s old → old.doing ≡ Changing changes own rows → next.doing ≡ Changing later own rows → changes.items ≡ later.items ++ c ∷ [] →
+-- what the core keeps of the transaction behind a Change
+pub record ChangeKept (log : List Record) (old next : Session) : Type 0 where
+  pub script : next.script.items ≡ old.script.items
+  pub tran : next.tran ≡ old.tran
+  pub left : next.left.items ≡ old.left.items ++ (length log + 1) ∷ []
+  pub held : next.held.items ≡ old.held.items
+  pub used : next.used ≡ old.used
+
+change_opens : (run : Setting) (log : List Record) (s : ℕ) (old next : Session) (c : Planned) → IsSession run log s old → ChangeKept (whole_log run log) old next →
+    (next.tran ≡ 0) ⊎ IsOpen (change_item old.tran c ∷ whole_log run log) next.tran next.left.items next.held.items next.used
+change_opens run log s old next c mine kept =
+    let x = change_item old.tran c in
+    opens_after run log x old.tran old next refl kept.tran mine.opens (λ o.
+    subst (λ l. IsOpen (x ∷ whole_log run log) old.tran l next.held.items next.used) (sym kept.left)
+    (subst (λ h. IsOpen (x ∷ whole_log run log) old.tran (old.left.items ++ (length (whole_log run log) + 1) ∷ []) h next.used) (sym kept.held)
+    (subst (IsOpen (x ∷ whole_log run log) old.tran (old.left.items ++ (length (whole_log run log) + 1) ∷ []) old.held.items) (sym kept.used)
+    (open_change (whole_log run log) old.tran c old.left.items old.held.items old.used o))))
+
+-- others are left, or the Commit: what the session does next owes them
+pub change_goes : (run : Setting) (log : List Record) (s : ℕ) (old next : Session) (c : Planned) (later : _) (own : Bool) (rows : Option ℕ) →
+    IsStart run → IsLegal run log → 0 < s → old.doing ≡ Changing c later own rows → IsSession run log s old →
+    ChangeKept (whole_log run log) old next → next.replies.items ≡ old.replies.items →
     (change_items old.tran (reverse later.items) own ≡ [] → ⊥) →
-    next.script.items ≡ old.script.items → next.replies.items ≡ old.replies.items → next.tran ≡ old.tran →
-    next.left.items ≡ old.left.items ++ (length (whole_log run log) + 1) ∷ [] → next.held.items ≡ old.held.items → next.used ≡ old.used →
+    ((p : Progress) → p.due ≡ change_items old.tran (reverse later.items) own → p.telling ≡ Answers (reply_of rows) →
+    IsAt run (change_item old.tran c ∷ log) s (length old.replies.items + 1) old.tran p next.doing) →
     IsSession run (change_item old.tran c ∷ log) s next
-change_goes run log s old next changes later own rows c start legal hs mine doing doing_next items some script replies tran left held used =
+change_goes run log s old next c later own rows start legal hs doing mine kept replies some at =
     let x = change_item old.tran c in
     let rest = change_items old.tran (reverse later.items) own in
-    let due_is = changing_due run log s old changes own rows mine doing in
-    let due : (progress_of run s log).due ≡ x ∷ rest = due_is.0 ∙ change_due old.tran changes.items later.items c own items in
-    let same = busy run log s x rest due in
-    let may = busy_comes run log s x rest due in
-    let st = steps_of run log s x start legal hs may in
-    goes_by run log s x rest old next st.belongs (ap (λ (q : Progress). q.due) same ∙ due) some refl mine script replies tran
-    (λ p d tell. subst (IsAt run (x ∷ log) s (length old.replies.items + 1) next.tran p) (sym doing_next)
-    (d ∙ ap (λ t. change_items t (reverse later.items) own) (sym tran), tell ∙ ap (λ (q : Progress). q.telling) same ∙ due_is.1))
-    (opens_after run log x old.tran old next refl tran mine.opens (λ o.
-    subst (λ l. IsOpen (x ∷ whole_log run log) old.tran l next.held.items next.used) (sym left)
-    (subst (λ h. IsOpen (x ∷ whole_log run log) old.tran (old.left.items ++ (length (whole_log run log) + 1) ∷ []) h next.used) (sym held)
-    (subst (IsOpen (x ∷ whole_log run log) old.tran (old.left.items ++ (length (whole_log run log) + 1) ∷ []) old.held.items) (sym used)
-    (open_change (whole_log run log) old.tran c old.left.items old.held.items old.used o)))))
+    let due = changing_due run log s old c later own rows doing mine in
+    let same = busy run log s x rest due.0 in
+    let st = steps_of run log s x start legal hs (busy_comes run log s x rest due.0) in
+    goes_by run log s x rest old next st.belongs (ap (λ (q : Progress). q.due) same ∙ due.0) some refl mine kept.script replies kept.tran
+    (λ p d tell. subst (λ t. IsAt run (x ∷ log) s (length old.replies.items + 1) t p next.doing) (sym kept.tran)
+    (at p d (tell ∙ ap (λ (q : Progress). q.telling) same ∙ due.1)))
+    (change_opens run log s old next c mine kept)
 
 -- or it was the last, and the transaction goes on
-pub change_ends : (run : Setting) (log : List Record) (s : ℕ) (old next : Session) (changes : _) (rows : Option ℕ) (c : Planned) →
-    IsStart run → IsLegal run log → 0 < s → IsSession run log s old → old.doing ≡ Changing changes false rows → changes.items ≡ c ∷ [] →
-    next.script.items ≡ old.script.items → next.replies.items ≡ old.replies.items ++ reply_of rows ∷ [] → next.tran ≡ old.tran → next.doing ≡ Idle →
-    next.left.items ≡ old.left.items ++ (length (whole_log run log) + 1) ∷ [] → next.held.items ≡ old.held.items → next.used ≡ old.used →
+pub change_ends : (run : Setting) (log : List Record) (s : ℕ) (old next : Session) (c : Planned) (later : _) (rows : Option ℕ) →
+    IsStart run → IsLegal run log → 0 < s → old.doing ≡ Changing c later false rows → later.items ≡ [] → IsSession run log s old →
+    ChangeKept (whole_log run log) old next → next.replies.items ≡ old.replies.items ++ reply_of rows ∷ [] → next.doing ≡ Idle →
     IsSession run (change_item old.tran c ∷ log) s next
-change_ends run log s old next changes rows c start legal hs mine doing items script replies tran doing_next left held used =
+change_ends run log s old next c later rows start legal hs doing none mine kept replies doing_next =
     let x = change_item old.tran c in
-    let due_is = changing_due run log s old changes false rows mine doing in
-    let due : (progress_of run s log).due ≡ x ∷ [] = due_is.0 ∙ change_due old.tran changes.items [] c false items in
+    let due_is = changing_due run log s old c later false rows doing mine in
+    let due : (progress_of run s log).due ≡ x ∷ [] = due_is.0 ∙ ap (λ xs. x ∷ change_items old.tran (reverse xs) false) none in
     let same = busy run log s x [] due in
     let st = steps_of run log s x start legal hs (busy_comes run log s x [] due) in
     ends_with run log s x (reply_of rows) old next st.belongs (ap (λ (q : Progress). q.due) same ∙ due) refl
     (subst (λ tell. Tells run.geometry tell (reply_of rows)) (sym (ap (λ (q : Progress). q.telling) same ∙ due_is.1)) refl)
-    mine script replies tran doing_next
-    (opens_after run log x old.tran old next refl tran mine.opens (λ o.
-    subst (λ l. IsOpen (x ∷ whole_log run log) old.tran l next.held.items next.used) (sym left)
-    (subst (λ h. IsOpen (x ∷ whole_log run log) old.tran (old.left.items ++ (length (whole_log run log) + 1) ∷ []) h next.used) (sym held)
-    (subst (IsOpen (x ∷ whole_log run log) old.tran (old.left.items ++ (length (whole_log run log) + 1) ∷ []) old.held.items) (sym used)
-    (open_change (whole_log run log) old.tran c old.left.items old.held.items old.used o)))))
+    mine kept.script replies kept.tran doing_next (change_opens run log s old next c mine kept)
 
 -- the Commit of a transaction
-pub commit_comes : (run : Setting) (log : List Record) (s : ℕ) (old : Session) (changes : _) (rows : Option ℕ) →
-    IsSession run log s old → old.doing ≡ Changing changes true rows → changes.items ≡ [] → MayCome (work_of run s log) (Commit (record { 0 = old.tran }))
-commit_comes run log s old changes rows mine doing items =
-    busy_comes run log s (Commit (record { 0 = old.tran })) []
-    ((changing_due run log s old changes true rows mine doing).0 ∙ ap (λ xs. change_items old.tran (reverse xs) true) items)
+ending_due : (run : Setting) (log : List Record) (s : ℕ) (old : Session) (rows : Option ℕ) → old.doing ≡ Ending rows → IsSession run log s old →
+    ((progress_of run s log).due ≡ Commit (record { 0 = old.tran }) ∷ []) × ((progress_of run s log).telling ≡ Answers (reply_of rows))
+ending_due run log s old rows doing mine = subst (IsAt run log s (length old.replies.items + 1) old.tran (progress_of run s log)) doing mine.doing_is
 
-pub commit_ends : (run : Setting) (log : List Record) (s : ℕ) (old next : Session) (changes : _) (rows : Option ℕ) →
-    IsStart run → IsLegal run log → 0 < s → IsSession run log s old → old.doing ≡ Changing changes true rows → changes.items ≡ [] →
+pub commit_comes : (run : Setting) (log : List Record) (s : ℕ) (old : Session) (rows : Option ℕ) → old.doing ≡ Ending rows → IsSession run log s old →
+    MayCome (work_of run s log) (Commit (record { 0 = old.tran }))
+commit_comes run log s old rows doing mine = busy_comes run log s (Commit (record { 0 = old.tran })) [] (ending_due run log s old rows doing mine).0
+
+pub commit_ends : (run : Setting) (log : List Record) (s : ℕ) (old next : Session) (rows : Option ℕ) →
+    IsStart run → IsLegal run log → 0 < s → old.doing ≡ Ending rows → IsSession run log s old →
     next.script.items ≡ old.script.items → next.replies.items ≡ old.replies.items ++ reply_of rows ∷ [] → next.tran ≡ 0 → next.doing ≡ Idle →
     IsSession run (Commit (record { 0 = old.tran }) ∷ log) s next
-commit_ends run log s old next changes rows start legal hs mine doing items script replies tran doing_next =
+commit_ends run log s old next rows start legal hs doing mine script replies tran doing_next =
     let x = Commit (record { 0 = old.tran }) in
-    let due_is = changing_due run log s old changes true rows mine doing in
-    let due : (progress_of run s log).due ≡ x ∷ [] = due_is.0 ∙ ap (λ xs. change_items old.tran (reverse xs) true) items in
-    let same = busy run log s x [] due in
-    let st = steps_of run log s x start legal hs (busy_comes run log s x [] due) in
-    ends_with run log s x (reply_of rows) old next st.belongs (ap (λ (q : Progress). q.due) same ∙ due) refl
-    (subst (λ tell. Tells run.geometry tell (reply_of rows)) (sym (ap (λ (q : Progress). q.telling) same ∙ due_is.1)) refl)
+    let due = ending_due run log s old rows doing mine in
+    let same = busy run log s x [] due.0 in
+    let st = steps_of run log s x start legal hs (busy_comes run log s x [] due.0) in
+    ends_with run log s x (reply_of rows) old next st.belongs (ap (λ (q : Progress). q.due) same ∙ due.0) refl
+    (subst (λ tell. Tells run.geometry tell (reply_of rows)) (sym (ap (λ (q : Progress). q.telling) same ∙ due.1)) refl)
     mine script replies tran doing_next (inl tran)
 
 -- what a session owes that undoes

@@ -1,5 +1,5 @@
 -- What the core keeps of each session, tied to the history.
-use Rattle.std.specs.Prelude.{◌≡◌, ℕ, ◌+◌, ◌-◌, ◌<◌, ◌≤◌, Bool, List, [], ◌∷◌, ◌++◌, length, map, reverse, take, slice_get, Option, Some, None, ◌⊎◌}
+use Rattle.std.specs.Prelude.{◌≡◌, ℕ, ◌+◌, ◌-◌, ◌<◌, ◌≤◌, Bool, true, List, [], ◌∷◌, ◌++◌, length, map, reverse, take, slice_get, Option, Some, None, ◌⊎◌}
 use Rattle.std.specs.List.{list_any}
 use Rattle.spec_file.specs.declared.data.Resource.{Resource}
 use Rattle.spec_file.specs.Image.{Image}
@@ -19,7 +19,7 @@ use Rattle.spec_run.specs.Turns.{AreTold, told_to, IsLegal, Turn}
 use Rattle.law_run.specs.Laws.{IsStart}
 use Rattle.law_run.specs.Doing.{change_items, abort_items}
 use Rattle.db_core.specs.declared.session.Doing.{Doing}
-use Rattle.db_core.specs.declared.session.Doing.TheVariants.{Idle, Changing, Undoing, Checking}
+use Rattle.db_core.specs.declared.session.Doing.TheVariants.{Idle, Changing, Ending, Undoing, Checking}
 use Rattle.db_core.specs.declared.session.Session.{Session}
 
 -- what contracts see of the core: what the run began with, and its items, the newest first
@@ -54,7 +54,8 @@ pub record IsSnapshot (run : Setting) (log : List Record) (point : ℕ) (snapsho
 -- what the session is doing: the items that it owes, and what it is told after them
 abbrev pub IsAt : Setting → List Record → ℕ → ℕ → ℕ → Progress → Doing → Type 0
 IsAt run log s index t p Idle = p.due ≡ []
-IsAt run log s index t p (Changing changes own rows) = (p.due ≡ change_items t (reverse changes.items) own) × (p.telling ≡ Answers (reply_of rows))
+IsAt run log s index t p (Changing next later own rows) = (p.due ≡ change_items t (next ∷ reverse later.items) own) × (p.telling ≡ Answers (reply_of rows))
+IsAt run log s index t p (Ending rows) = (p.due ≡ change_items t [] true) × (p.telling ≡ Answers (reply_of rows))
 IsAt run log s index t p Undoing = (p.due ≡ abort_items t (left_of t (whole_log run log))) × (p.telling ≡ Answers Done) × (0 < t)
 IsAt run log s index t p (Checking point snapshot place) = (p.due ≡ CheckEnd s index 0 ∷ []) × IsSnapshot run log point snapshot place p.telling
 

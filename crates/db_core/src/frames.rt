@@ -2,7 +2,8 @@
 ghost use Rattle.std.specs.Prelude.{◌≡◌, ◌+◌, ◌-◌, ◌*◌, ◌/◌, ◌%◌, ◌^◌, ◌<◌, ◌≤◌, ℕ, [], ◌∷◌, ◌++◌, length, take, slice_index, slice_set, IfOk, OnOk, OnErr};
 ghost use Rattle.spec_file.specs.Image.{page};
 ghost use Rattle.spec_log.specs.Cells.{with_bytes, with_bit, with_map_bit, put as image_with};
-ghost use Rattle.spec_log.specs.declared.item.Cell.{Cell};
+ghost use Rattle.spec_log.specs.Images.{page_of_cell};
+ghost use Rattle.db_core.specs.Cells.{FitsCell};
 
 use pg_base::Page;
 use spec_file::NoMemory;
@@ -111,5 +112,52 @@ impl Frames {
             frames.push(frame.copied(alloc)?)?;
         }
         Ok(Frames { frames })
+    }
+
+    /// These bytes, or this bit, stand in a cell from here on.
+    pub fn put(&mut self, cell: Cell, bytes: &[u8])
+        requires inside { page_of_cell cell < length self.old }
+        requires fits { FitsCell cell bytes.now }
+        ensures { self.new ≡ image_with self.old cell bytes.now }
+    {
+        match cell {
+            Cell::Bytes { page, off } => {
+                put_bytes(&mut self.frames[page.0 as usize], off as usize, bytes);
+            }
+            Cell::Bit { page, n } => {
+                put_bit(&mut self.frames[page.0 as usize], n, bytes[0]);
+            }
+        }
+    }
+}
+
+/// Puts bytes into a page at an offset.
+fn put_bytes(frame: &mut Frame, off: usize, bytes: &[u8])
+    requires { off + length bytes.now ≤ 8192 }
+    ensures { frame.new ≡ with_bytes frame.old off bytes.now }
+{
+    for (i, byte) in bytes.iter().enumerate() {
+        frame.page.bytes[off + i] = *byte;
+    }
+}
+
+/// Turns bit n of a map page to v.
+fn put_bit(frame: &mut Frame, n: u32, v: u8)
+    requires { n < 63904 }
+    ensures { frame.new ≡ with_map_bit frame.old n v }
+{
+    let at = 96 + n as usize / 8;
+    frame.page.bytes[at] = byte_with_bit(frame.page.bytes[at], n % 8, v);
+}
+
+/// The byte with bit i turned to v.
+fn byte_with_bit(byte: u8, i: u32, v: u8) -> u8
+    requires { i < 8 }
+    ensures { result ≡ with_bit byte i v }
+{
+    if (byte >> i) & 1 == v {
+        byte
+    } else {
+        byte ^ (1 << i)
     }
 }

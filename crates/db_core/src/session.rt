@@ -11,12 +11,16 @@ pub enum Doing {
     Idle,
     /// Of changes. The transaction ends behind them where it is the statement's own.
     Changing {
-        /// Those that are still to be made, the last first.
-        changes: Vec<Planned>,
+        /// The change to be made next.
+        next: Planned,
+        /// Those behind it, the last first.
+        later: Vec<Planned>,
         own: bool,
         /// How many rows the statement writes, where it is one that writes rows.
         rows: Option<u64>,
     },
+    /// Of the Commit of its transaction.
+    Ending { rows: Option<u64> },
     /// Of undoing the changes of its transaction.
     Undoing,
     /// Of a check.

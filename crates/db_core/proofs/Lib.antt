@@ -1,3 +1,4 @@
+pub mod Puts
 pub mod Keeps
 pub mod Moves
 pub mod Opens

@@ -1,5 +1,5 @@
 -- What the core keeps of each session, tied to the history.
-use Rattle.std.specs.Prelude.{◌≡◌, ℕ, ◌+◌, ◌-◌, ◌<◌, ◌≤◌, Bool, true, List, [], ◌∷◌, ◌++◌, length, map, reverse, take, slice_get, Option, Some, None, ◌⊎◌}
+use Rattle.std.specs.Prelude.{◌≡◌, ℕ, ◌+◌, ◌-◌, ◌<◌, ◌≤◌, Bool, true, false, List, [], ◌∷◌, ◌++◌, length, map, reverse, take, slice_get, Option, Some, None, ◌⊎◌}
 use Rattle.std.specs.List.{list_any}
 use Rattle.spec_file.specs.declared.data.Resource.{Resource}
 use Rattle.spec_file.specs.Image.{Image}
@@ -12,6 +12,7 @@ use Rattle.spec_log.specs.Images.{taken_back, final_image}
 use Rattle.spec_script.specs.declared.reply.Reply.{Reply}
 use Rattle.spec_script.specs.declared.reply.Reply.TheVariants.{Done, Rows}
 use Rattle.spec_script.specs.declared.statement.Statement.{Statement}
+use Rattle.spec_plan.specs.declared.plan.Planned.{Planned}
 use Rattle.spec_run.specs.Entries.{Entry, Item}
 use Rattle.spec_run.specs.Begun.{Setting, Telling, Answers, Reports}
 use Rattle.spec_run.specs.Progress.{Progress, progress_of, script_of}
@@ -82,3 +83,24 @@ pub record IsState (run : Setting) (log : List Record) (pages : Image) (sessions
   pub last_is : last ≡ greatest_of (whole_log run log)
   pub all_is : all ≡ all_changes (whole_log run log)
   pub size_is : size ≡ all_bytes (whole_log run log)
+
+-- the changes that a session makes next, and what it does behind them
+abbrev pub IsChanging : List Planned → Bool → Option ℕ → Doing → Type 0
+IsChanging changes own rows Idle = ⊥
+IsChanging changes own rows (Changing next later o r) = (changes ≡ next ∷ reverse later.items) × (o ≡ own) × (r ≡ rows)
+IsChanging changes own rows (Ending r) = ⊥
+IsChanging changes own rows Undoing = ⊥
+IsChanging changes own rows (Checking point snapshot place) = ⊥
+
+-- what a session does with these changes left: them, or the Commit of a transaction of its own, or nothing more
+abbrev pub GoesOnWith : List Planned → Bool → Option ℕ → Session → Session → Type 0
+GoesOnWith [] true rows old new = (new.doing ≡ Ending rows) × (new.replies.items ≡ old.replies.items)
+GoesOnWith [] false rows old new = (new.doing ≡ Idle) × (new.replies.items ≡ old.replies.items ++ reply_of rows ∷ [])
+GoesOnWith (c ∷ cs) own rows old new = IsChanging (c ∷ cs) own rows new.doing × (new.replies.items ≡ old.replies.items)
+
+-- what stays of a session
+pub record Keeps (old new : Session) : Type 0 where
+  pub script : new.script.items ≡ old.script.items
+  pub tran : new.tran ≡ old.tran
+  pub held : new.held.items ≡ old.held.items
+  pub used : new.used ≡ old.used

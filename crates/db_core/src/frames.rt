@@ -41,6 +41,22 @@ impl Frame {
         &self.page
     }
 
+    /// Puts bytes into the page at an offset.
+    fn put_bytes(&mut self, off: usize, bytes: &[u8])
+        requires { off + length bytes.now ≤ 8192 }
+        ensures { self.new ≡ with_bytes self.old off bytes.now }
+    {
+        put_bytes(&mut self.page, off, bytes);
+    }
+
+    /// Turns bit n of a map page to v.
+    fn put_bit(&mut self, n: u32, v: u8)
+        requires { n < 63904 }
+        ensures { self.new ≡ with_map_bit self.old n v }
+    {
+        put_bit(&mut self.page, n, v);
+    }
+
     /// A frame with the same page.
     fn copied(&self, alloc: Global) -> Result<Frame, NoMemory>
         ensures { IfOk result (λ f. f ≡ self.now) }
@@ -122,32 +138,33 @@ impl Frames {
     {
         match cell {
             Cell::Bytes { page, off } => {
-                put_bytes(&mut self.frames[page.0 as usize], off as usize, bytes);
+                self.frames[page.0 as usize].put_bytes(off as usize, bytes);
             }
             Cell::Bit { page, n } => {
-                put_bit(&mut self.frames[page.0 as usize], n, bytes[0]);
+                self.frames[page.0 as usize].put_bit(n, bytes[0]);
             }
         }
     }
 }
 
 /// Puts bytes into a page at an offset.
-fn put_bytes(frame: &mut Frame, off: usize, bytes: &[u8])
+#[tactic(auto, using(crate::proofs::Puts::with_more, crate::proofs::Puts::with_none))]
+fn put_bytes(page: &mut Page, off: usize, bytes: &[u8])
     requires { off + length bytes.now ≤ 8192 }
-    ensures { frame.new ≡ with_bytes frame.old off bytes.now }
+    ensures { page.new.bytes ≡ with_bytes page.old.bytes off bytes.now }
 {
     for (i, byte) in bytes.iter().enumerate() {
-        frame.page.bytes[off + i] = *byte;
+        page.bytes[off + i] = *byte;
     }
 }
 
 /// Turns bit n of a map page to v.
-fn put_bit(frame: &mut Frame, n: u32, v: u8)
+fn put_bit(page: &mut Page, n: u32, v: u8)
     requires { n < 63904 }
-    ensures { frame.new ≡ with_map_bit frame.old n v }
+    ensures { page.new.bytes ≡ with_map_bit page.old.bytes n v }
 {
     let at = 96 + n as usize / 8;
-    frame.page.bytes[at] = byte_with_bit(frame.page.bytes[at], n % 8, v);
+    page.bytes[at] = byte_with_bit(page.bytes[at], n % 8, v);
 }
 
 /// The byte with bit i turned to v.

@@ -4,5 +4,6 @@
 
 mod frames;
 mod session;
+mod steps;
 
 pub use frames::Frames;

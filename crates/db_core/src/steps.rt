@@ -1,0 +1,122 @@
+//! The steps of a statement that is under way.
+ghost use Rattle.std.specs.Prelude.{◌≡◌, ◌+◌, ◌<◌, ◌≤◌, [], ◌∷◌, ◌++◌, length, reverse, vec_len, vec_capacity};
+ghost use Rattle.spec_file.specs.declared.data.Tran.{Tran};
+ghost use Rattle.spec_log.specs.declared.item.Record.TheVariants.{Commit};
+ghost use Rattle.spec_log.specs.Cells.{put as image_with};
+ghost use Rattle.spec_log.specs.Images.{page_of_cell};
+ghost use Rattle.spec_run.specs.Shapes.{change_item};
+ghost use Rattle.db_core.specs.Cells.{FitsCell};
+ghost use Rattle.db_core.specs.States.{reply_of, GoesOnWith, Keeps};
+ghost use Rattle.db_core.specs.declared.session.Doing.TheVariants.{Idle};
+
+use crate::Frames;
+use crate::session::{Doing, Session};
+use spec_file::Tran;
+use spec_log::{Record, Values};
+use spec_plan::Planned;
+use spec_script::Reply;
+use std::alloc::Global;
+
+/// The reply to a statement that changes the file, with the rows that it writes, and to COMMIT.
+pub fn written(alloc: Global, rows: Option<u64>) -> Reply
+    ensures { result ≡ reply_of rows }
+{
+    match rows {
+        None => Reply::Done,
+        Some(count) => Reply::Rows {
+            count,
+            payloads: Values::new(alloc),
+        },
+    }
+}
+
+/// The statement ends with this reply.
+pub fn end(session: &mut Session, reply: Reply)
+    requires { vec_len session.old.replies < vec_capacity session.old.replies }
+    ensures kept { Keeps session.old session.new }
+    ensures left { session.new.left.items ≡ session.old.left.items }
+    ensures replies { session.new.replies.items ≡ session.old.replies.items ++ reply ∷ [] }
+    ensures doing { session.new.doing ≡ Idle }
+{
+    session.doing = Doing::Idle;
+    match session.replies.push(reply) {
+        Ok(()) => {}
+        Err(_) => unreachable!(),
+    }
+}
+
+/// What a session does behind a change: the rest of them, or the Commit, or nothing more.
+pub fn go_on(
+    alloc: Global,
+    session: &mut Session,
+    mut later: Vec<Planned>,
+    own: bool,
+    rows: Option<u64>,
+)
+    requires { vec_len session.old.replies < vec_capacity session.old.replies }
+    ensures kept { Keeps session.old session.new }
+    ensures left { session.new.left.items ≡ session.old.left.items }
+    ensures goes { GoesOnWith (reverse later.items) own rows session.old session.new }
+{
+    match later.pop() {
+        Some(next) => {
+            session.doing = Doing::Changing {
+                next,
+                later,
+                own,
+                rows,
+            };
+        }
+        None => {
+            if own {
+                session.doing = Doing::Ending { rows };
+            } else {
+                end(session, written(alloc, rows));
+            }
+        }
+    }
+}
+
+/// The number of a change, which is left to undo from here on.
+fn push_left(session: &mut Session, number: u64)
+    requires { vec_len session.old.left < vec_capacity session.old.left }
+    ensures kept { Keeps session.old session.new }
+    ensures left { session.new.left.items ≡ session.old.left.items ++ number ∷ [] }
+    ensures replies { session.new.replies.items ≡ session.old.replies.items }
+    ensures room { vec_len session.new.replies ≡ vec_len session.old.replies }
+    ensures room_is { vec_capacity session.new.replies ≡ vec_capacity session.old.replies }
+{
+    match session.left.push(number) {
+        Ok(()) => {}
+        Err(_) => unreachable!(),
+    }
+}
+
+/// Makes a change, whose item has this number.
+pub fn make_change(session: &mut Session, frames: &mut Frames, number: u64, next: Planned) -> Record
+    requires room { vec_len session.old.left < vec_capacity session.old.left }
+    requires inside { page_of_cell next.cell < length frames.old }
+    requires fits { FitsCell next.cell next.after }
+    ensures item { result ≡ change_item session.old.tran next }
+    ensures pages { frames.new ≡ image_with frames.old next.cell next.after }
+    ensures kept { Keeps session.old session.new }
+    ensures left { session.new.left.items ≡ session.old.left.items ++ number ∷ [] }
+    ensures replies { session.new.replies.items ≡ session.old.replies.items }
+    ensures room { vec_len session.new.replies ≡ vec_len session.old.replies }
+    ensures room_is { vec_capacity session.new.replies ≡ vec_capacity session.old.replies }
+{
+    let tran = Tran(session.tran);
+    let Planned {
+        cell,
+        before,
+        after,
+    } = next;
+    frames.put(cell, after.as_slice());
+    push_left(session, number);
+    Record::Change {
+        tran,
+        cell,
+        before,
+        after,
+    }
+}

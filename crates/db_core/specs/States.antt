@@ -4,11 +4,11 @@ use Rattle.std.specs.List.{list_any}
 use Rattle.spec_file.specs.declared.data.Resource.{Resource}
 use Rattle.spec_file.specs.Image.{Image}
 use Rattle.spec_log.specs.declared.item.Record.{Record}
-use Rattle.spec_log.specs.declared.item.Record.TheVariants.{CheckEnd}
+use Rattle.spec_log.specs.declared.item.Record.TheVariants.{Undo, Abort, CheckEnd}
 use Rattle.spec_log.specs.Items.{is_same}
 use Rattle.spec_log.specs.Log.{is_unfinished, holds, greatest_of, left_of}
 use Rattle.spec_log.specs.Limits.{changes_of, all_changes, all_bytes}
-use Rattle.spec_log.specs.Images.{taken_back, final_image}
+use Rattle.spec_log.specs.Images.{put_before, taken_back, final_image}
 use Rattle.spec_script.specs.declared.reply.Reply.{Reply}
 use Rattle.spec_script.specs.declared.reply.Reply.TheVariants.{Done, Rows}
 use Rattle.spec_script.specs.declared.statement.Statement.{Statement}
@@ -104,3 +104,12 @@ pub record Keeps (old new : Session) : Type 0 where
   pub tran : new.tran ≡ old.tran
   pub held : new.held.items ≡ old.held.items
   pub used : new.used ≡ old.used
+
+-- a step of undoing, with the numbers that are left, the last first: the next change is undone, or the transaction ends
+abbrev pub StepsBack : List ℕ → List Record → Session → Session → Image → Image → Record → Type 0
+StepsBack [] items old new pages after x =
+    (x ≡ Abort (record { 0 = old.tran })) × (new.script.items ≡ old.script.items) × (new.tran ≡ 0) × (new.doing ≡ Idle)
+    × (new.replies.items ≡ old.replies.items ++ Done ∷ []) × (after ≡ pages)
+StepsBack (n ∷ rest) items old new pages after x =
+    (x ≡ Undo (record { 0 = old.tran }) (record { 0 = n })) × Keeps old new × (reverse new.left.items ≡ rest) × (new.doing ≡ Undoing)
+    × (new.replies.items ≡ old.replies.items) × (after ≡ put_before (slice_get items (n - 1)) pages)

@@ -2,13 +2,17 @@
 use Rattle.std.specs.Prelude.{◌≡◌, ℕ, ◌+◌, ◌-◌, ◌<◌, ◌≤◌, Bool, true, false, List, [], ◌∷◌, ◌++◌, length, map, reverse, take, slice_get, Option, Some, None, ◌⊎◌}
 use Rattle.std.specs.List.{list_any}
 use Rattle.spec_file.specs.declared.data.Resource.{Resource}
+use Rattle.spec_file.specs.declared.geometry.Geometry.TheVariants.{Small}
 use Rattle.spec_file.specs.Image.{Image}
 use Rattle.spec_log.specs.declared.item.Record.{Record}
-use Rattle.spec_log.specs.declared.item.Record.TheVariants.{Undo, Abort, CheckEnd}
+use Rattle.spec_log.specs.declared.item.Record.TheVariants.{Undo, Commit, Abort, CheckEnd}
 use Rattle.spec_log.specs.Items.{is_same}
 use Rattle.spec_log.specs.Log.{is_unfinished, holds, greatest_of, left_of}
 use Rattle.spec_log.specs.Limits.{changes_of, all_changes, all_bytes}
-use Rattle.spec_log.specs.Images.{put_before, taken_back, final_image}
+use Rattle.spec_log.specs.Images.{page_of_cell, put_before, taken_back, final_image}
+use Rattle.spec_log.specs.Cells.{put}
+use Rattle.spec_run.specs.Shapes.{change_item}
+use Rattle.db_core.specs.Cells.{FitsCell, MayUndo}
 use Rattle.spec_script.specs.declared.reply.Reply.{Reply}
 use Rattle.spec_script.specs.declared.reply.Reply.TheVariants.{Done, Rows}
 use Rattle.spec_script.specs.declared.statement.Statement.{Statement}
@@ -113,3 +117,49 @@ StepsBack [] items old new pages after x =
 StepsBack (n ∷ rest) items old new pages after x =
     (x ≡ Undo (record { 0 = old.tran }) (record { 0 = n })) × Keeps old new × (reverse new.left.items ≡ rest) × (new.doing ≡ Undoing)
     × (new.replies.items ≡ old.replies.items) × (after ≡ put_before (slice_get items (n - 1)) pages)
+
+-- the session is in the middle of a statement that isn't a check
+abbrev pub IsUnderWay : Doing → Type 0
+IsUnderWay Idle = ⊥
+IsUnderWay (Changing next later own rows) = Unit {0}
+IsUnderWay (Ending rows) = Unit {0}
+IsUnderWay Undoing = Unit {0}
+IsUnderWay (Checking point snapshot place) = ⊥
+
+-- what the session puts next fits into the pages
+abbrev pub MayStep : Image → List Record → Session → Doing → Type 0
+MayStep pages items old Idle = Unit {0}
+MayStep pages items old (Changing next later own rows) = (page_of_cell next.cell < length pages) × FitsCell next.cell next.after
+MayStep pages items old (Ending rows) = Unit {0}
+MayStep pages items old Undoing = MayUndo pages items (reverse old.left.items)
+MayStep pages items old (Checking point snapshot place) = Unit {0}
+
+-- the step of a session that was doing this, with item x of this number
+abbrev pub StepsBy : ℕ → List Record → Session → Session → Image → Image → Record → Doing → Type 0
+StepsBy number items old new pages after x Idle = ⊥
+StepsBy number items old new pages after x (Changing next later own rows) =
+    (x ≡ change_item old.tran next) × (after ≡ put pages next.cell next.after) × Keeps old new × (new.left.items ≡ old.left.items ++ number ∷ [])
+    × GoesOnWith (reverse later.items) own rows old new
+StepsBy number items old new pages after x (Ending rows) =
+    (x ≡ Commit (record { 0 = old.tran })) × (after ≡ pages) × (new.script.items ≡ old.script.items) × (new.tran ≡ 0) × (new.doing ≡ Idle)
+    × (new.replies.items ≡ old.replies.items ++ reply_of rows ∷ [])
+StepsBy number items old new pages after x Undoing = StepsBack (reverse old.left.items) items old new pages after x
+StepsBy number items old new pages after x (Checking point snapshot place) = ⊥
+
+abbrev pub is_under_way : Doing → Bool
+is_under_way Idle = false
+is_under_way (Changing next later own rows) = true
+is_under_way (Ending rows) = true
+is_under_way Undoing = true
+is_under_way (Checking point snapshot place) = false
+
+-- the sessions differ in their room alone
+pub record IsSame (old new : Session) : Type 0 where
+  pub kept : Keeps old new
+  pub left : new.left.items ≡ old.left.items
+  pub replies : new.replies.items ≡ old.replies.items
+  pub doing : new.doing ≡ old.doing
+
+-- what a run over these pages begins with, with sessions that have these scripts
+abbrev pub run_of : Image → List Session → Setting
+run_of image sessions = record { geometry = Small; opened = []; image = image; scripts = map (λ (x : Session). x.script.items) sessions }

@@ -3,7 +3,9 @@
 #![tactic(auto)]
 
 mod frames;
+mod machine;
 mod session;
 mod steps;
 
 pub use frames::Frames;
+pub use machine::Machine;

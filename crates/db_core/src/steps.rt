@@ -7,7 +7,7 @@ ghost use Rattle.spec_log.specs.Images.{page_of_cell, put_before};
 ghost use Rattle.spec_log.specs.declared.item.Record.{Record};
 ghost use Rattle.spec_run.specs.Shapes.{change_item};
 ghost use Rattle.db_core.specs.Cells.{FitsCell, MayPutBack, MayUndo};
-ghost use Rattle.db_core.specs.States.{reply_of, GoesOnWith, Keeps, StepsBack};
+ghost use Rattle.db_core.specs.States.{reply_of, GoesOnWith, Keeps, StepsBack, IsUnderWay, MayStep, StepsBy};
 ghost use Rattle.db_core.specs.declared.session.Doing.TheVariants.{Idle};
 
 use crate::Frames;
@@ -17,6 +17,7 @@ use spec_log::{Record, Values};
 use spec_plan::Planned;
 use spec_script::Reply;
 use std::alloc::Global;
+use std::mem::replace;
 
 /// The reply to a statement that changes the file, with the rows that it writes, and to COMMIT.
 pub fn written(alloc: Global, rows: Option<u64>) -> Reply
@@ -197,5 +198,37 @@ pub fn step_back(session: &mut Session, frames: &mut Frames, items: &[Record]) -
             end(session, Reply::Done);
             Record::Abort { tran }
         }
+    }
+}
+
+/// The next step of a statement that is under way, whose item has this number.
+pub fn step(
+    alloc: Global,
+    session: &mut Session,
+    frames: &mut Frames,
+    items: &[Record],
+    number: u64,
+) -> Record
+    requires under_way { IsUnderWay session.old.doing }
+    requires replies { vec_len session.old.replies < vec_capacity session.old.replies }
+    requires left { vec_len session.old.left < vec_capacity session.old.left }
+    requires fits { MayStep frames.old items.now session.old session.old.doing }
+    ensures { StepsBy number items.now session.old session.new frames.old frames.new result session.old.doing }
+{
+    match replace(&mut session.doing, Doing::Idle) {
+        Doing::Changing {
+            next,
+            later,
+            own,
+            rows,
+        } => {
+            let item = make_change(session, frames, number, next);
+            go_on(alloc, session, later, own, rows);
+            item
+        }
+        Doing::Ending { rows } => commit(alloc, session, rows),
+        Doing::Undoing => step_back(session, frames, items),
+        Doing::Idle => unreachable!(),
+        Doing::Checking { .. } => unreachable!(),
     }
 }

@@ -1,0 +1,101 @@
+//! The sessions of a run over one file and one log.
+ghost use Rattle.std.specs.Prelude.{◌≡◌, ◌+◌, ◌<◌, ◌≤◌, [], ◌∷◌, ◌++◌, length, max, IfOk, OnOk, OnErr, vec_len, vec_capacity, if◌then◌else◌};
+ghost use Rattle.spec_log.specs.Items.{tran_of};
+ghost use Rattle.db_core.specs.States.{is_under_way, IsSame};
+
+use crate::Frames;
+use crate::session::{Doing, Session};
+use crate::steps::step;
+use spec_file::NoMemory;
+use spec_log::Record;
+use std::alloc::Global;
+use std::marker::Model;
+use std::snapshot::Snapshot;
+
+/// Sessions that take turns over one file and one log, all in memory.
+#[derive(Drop)]
+pub struct Machine {
+    alloc: Global,
+    base: Snapshot<Frames>,
+    first: Snapshot<Vec<Session>>,
+    items: Vec<Record>,
+    frames: Frames,
+    sessions: Vec<Session>,
+    /// The greatest transaction of the log.
+    last: u64,
+    /// How many changes the log's Starts announce, and the bytes of these and of their Undos.
+    all: u64,
+    size: u64,
+}
+
+impl Model for Machine {
+    ghost use Rattle.std.specs.Prelude.{reverse, map, []};
+    ghost use Rattle.spec_file.specs.declared.geometry.Geometry.TheVariants.{Small};
+    ghost use Rattle.db_core.specs.States.{Db, IsState, run_of};
+
+    ghost Value = { Db };
+
+    ghost view = { λ c. record { run = run_of c.base.value c.first.value.items; log = reverse c.items.items } };
+
+    ghost invariant = { λ c. IsState (run_of c.base.value c.first.value.items) (reverse c.items.items) c.frames c.sessions.items c.last c.all c.size };
+}
+
+/// Whether a session is in the middle of a statement that isn't a check.
+fn under_way(session: &Session) -> bool
+    ensures { result ≡ is_under_way session.now.doing }
+{
+    match session.doing {
+        Doing::Idle => false,
+        Doing::Changing { .. } => true,
+        Doing::Ending { .. } => true,
+        Doing::Undoing => true,
+        Doing::Checking { .. } => false,
+    }
+}
+
+/// The transaction of an item, 0 where it has none.
+fn tran_of_item(item: &Record) -> u64
+    ensures { result ≡ tran_of item.now }
+{
+    match item {
+        Record::Start { tran, .. } => tran.0,
+        Record::Change { tran, .. } => tran.0,
+        Record::Undo { tran, .. } => tran.0,
+        Record::Commit { tran } => tran.0,
+        Record::Abort { tran } => tran.0,
+        Record::Snap { .. } => 0,
+        Record::Failed { .. } => 0,
+        Record::CheckEnd { .. } => 0,
+    }
+}
+
+/// Room for one item more.
+fn reserve_item(items: &mut Vec<Record>) -> Result<(), NoMemory>
+    ensures same { items.new.items ≡ items.old.items }
+    ensures room { OnOk result (vec_len items.new < vec_capacity items.new) }
+{
+    items.reserve(1)?;
+    Ok(())
+}
+
+/// Room for one reply more, and for the number of one change.
+fn reserve_step(session: &mut Session) -> Result<(), NoMemory>
+    ensures same { IsSame session.old session.new }
+    ensures replies { OnOk result (vec_len session.new.replies < vec_capacity session.new.replies) }
+    ensures left { OnOk result (vec_len session.new.left < vec_capacity session.new.left) }
+{
+    session.replies.reserve(1)?;
+    session.left.reserve(1)?;
+    Ok(())
+}
+
+/// One item more, for which there is room.
+fn push_item(items: &mut Vec<Record>, item: Record)
+    requires { vec_len items.old < vec_capacity items.old }
+    ensures { items.new.items ≡ items.old.items ++ item ∷ [] }
+{
+    match items.push(item) {
+        Ok(()) => {}
+        Err(_) => unreachable!(),
+    }
+}

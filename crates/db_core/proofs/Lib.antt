@@ -4,3 +4,4 @@ pub mod Moves
 pub mod Opens
 pub mod Next
 pub mod Starts
+pub mod Stepped

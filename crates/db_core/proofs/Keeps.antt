@@ -1,24 +1,23 @@
 -- An item of one session keeps what the core knows of all.
-use Rattle.std.proofs.Common.{◌≡◌, ℕ, zero, suc, ◌+◌, ◌-◌, ◌<◌, ◌≤◌, Bool, true, false, eqb, List, [], ◌∷◌, ◌++◌, length, map, reverse, take, Option, Some, None, ◌⊎◌, inl, inr, refl, sym, ap, ◌∙◌, subst, arith, length-append}
+use Rattle.std.proofs.Common.{◌≡◌, ℕ, zero, suc, ◌+◌, ◌-◌, ◌<◌, ◌≤◌, List, [], ◌∷◌, length, map, reverse, take, Some, ◌⊎◌, inl, inr, refl, sym, ap, ◌∙◌, subst, arith}
 use Rattle.std.specs.Prelude.{if◌then◌else◌, slice_get, slice_set}
-use Rattle.std.specs.List.{list_any}
 use Rattle.std.proofs.Math.ListN.{length-set}
 use Rattle.std.proofs.lemmas.List.{take-append-le, length-reverse, reverse-append}
 use Rattle.std.proofs.lemmas.Bool.{eq-eqb, ne_eqb}
 use Rattle.spec_file.specs.Image.{Image}
 use Rattle.spec_log.specs.declared.item.Record.{Record}
 use Rattle.spec_log.specs.declared.item.Record.TheVariants.{Start, Change, Undo, Commit, Abort, Snap, Failed, CheckEnd}
-use Rattle.spec_log.specs.Items.{tran_of, is_same}
-use Rattle.spec_log.specs.Log.{is_unfinished, holds, greatest_of, left_of}
+use Rattle.spec_log.specs.Items.{tran_of}
+use Rattle.spec_log.specs.Log.{is_unfinished, greatest_of}
 use Rattle.spec_log.specs.Limits.{changes_of, all_changes, all_bytes}
-use Rattle.spec_log.specs.Images.{apply, taken_back, final_image}
+use Rattle.spec_log.specs.Images.{apply, taken_back}
 use Rattle.spec_run.specs.Sessions.{session_of}
 use Rattle.spec_run.specs.Begun.{Setting, Telling, Reports}
-use Rattle.spec_run.specs.Progress.{Progress, progress_of, at_work, moved, work_of, MayCome}
-use Rattle.spec_run.specs.Turns.{IsLegal, IsSession as IsSessionOf, AreTold, told_to}
+use Rattle.spec_run.specs.Progress.{Progress, progress_of, moved, work_of, MayCome}
+use Rattle.spec_run.specs.Turns.{IsLegal, AreTold}
 use Rattle.law_run.specs.Laws.{IsStart}
 use Rattle.law_run.specs.Others.{holds_other, left_other}
-use Rattle.law_run.specs.Doing.{Owns, IsDoing, abort_items, StepsTo}
+use Rattle.law_run.specs.Doing.{IsDoing, abort_items, StepsTo}
 use Rattle.law_run.specs.Keeps.{apart, progress_other}
 use Rattle.law_run.specs.Legal.{IsRight, legal_right, comes_steps, doing_opens}
 use Rattle.db_core.specs.declared.session.Doing.{Doing}
@@ -120,7 +119,7 @@ other_session run log x s other y right st differ theirs =
     zero_or zero = inl refl
     zero_or (suc m) = inr (omega arith)
 
-get_set : {X : Type 0} (xs : List X) (i j : ℕ) (v y : X) → slice_get (slice_set xs i v) j ≡ Some y → ((i ≡ j) × (y ≡ v)) ⊎ ((i ≡ j → ⊥) × (slice_get xs j ≡ Some y))
+pub get_set : {X : Type 0} (xs : List X) (i j : ℕ) (v y : X) → slice_get (slice_set xs i v) j ≡ Some y → ((i ≡ j) × (y ≡ v)) ⊎ ((i ≡ j → ⊥) × (slice_get xs j ≡ Some y))
 get_set [] i j v y h = absurd (cc)
 get_set (x ∷ xs) zero zero v y h = let e : y ≡ v = cc in inl (refl, e)
 get_set (x ∷ xs) zero (suc j) v y h = inr ((λ e. omega arith), h)

@@ -3,5 +3,7 @@ pub mod Keeps
 pub mod Moves
 pub mod Opens
 pub mod Next
-pub mod Starts
+pub mod Records
 pub mod Stepped
+pub mod Room
+pub mod GoOn

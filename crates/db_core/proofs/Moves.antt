@@ -1,6 +1,6 @@
 -- What the core keeps of a session after an item of it.
-use Rattle.std.proofs.Common.{◌≡◌, ℕ, ◌+◌, Bool, true, false, List, [], ◌∷◌, ◌++◌, length, reverse, Option, Some, None, ◌⊎◌, inl, inr, refl, sym, ap, ◌∙◌, subst, arith, length-append}
-use Rattle.std.specs.Prelude.{if◌then◌else◌, slice_get}
+use Rattle.std.proofs.Common.{◌≡◌, ℕ, ◌+◌, true, false, List, [], ◌∷◌, ◌++◌, length, reverse, Option, Some, None, ◌⊎◌, refl, sym, ap, ◌∙◌, subst}
+use Rattle.std.specs.Prelude.{slice_get}
 use Rattle.std.proofs.lemmas.List.{reverse-append}
 use Rattle.spec_file.specs.declared.geometry.Geometry.{Geometry}
 use Rattle.spec_log.specs.declared.item.Record.{Record}
@@ -10,9 +10,9 @@ use Rattle.spec_script.specs.declared.statement.Statement.{Statement}
 use Rattle.spec_plan.specs.Refusals.{out_of_memory}
 use Rattle.spec_run.specs.Sessions.{session_of, open_after}
 use Rattle.spec_run.specs.Begun.{Setting, Telling, Answers, Tells}
-use Rattle.spec_run.specs.Progress.{Progress, progress_of, at_work, with_statement, script_of, is_short, cut_short, moved_to, moved, work_of}
-use Rattle.spec_run.specs.Turns.{AreTold, told_to}
-use Rattle.law_run.specs.Moved.{moved_whole, moved_short, moved_tran}
+use Rattle.spec_run.specs.Progress.{Progress, progress_of, at_work, with_statement, script_of, is_short, cut_short, moved_to, work_of}
+use Rattle.spec_run.specs.Turns.{AreTold}
+use Rattle.law_run.specs.Moved.{moved_whole, moved_short}
 use Rattle.db_core.specs.declared.session.Doing.TheVariants.{Idle}
 use Rattle.db_core.specs.declared.session.Session.{Session}
 use Rattle.db_core.specs.States.{whole_log, IsAt, IsOpen, IsSession}

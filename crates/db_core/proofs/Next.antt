@@ -1,5 +1,5 @@
 -- The next item of a session, and what the core keeps of the session behind it.
-use Rattle.std.proofs.Common.{◌≡◌, ℕ, zero, suc, ◌+◌, ◌<◌, ◌≤◌, Bool, true, false, eqb, not, List, [], ◌∷◌, ◌++◌, length, map, reverse, Option, Some, None, ◌⊎◌, inl, inr, refl, sym, ap, ◌∙◌, subst, arith}
+use Rattle.std.proofs.Common.{◌≡◌, ℕ, ◌+◌, ◌<◌, Bool, false, List, [], ◌∷◌, ◌++◌, length, map, reverse, Option, Some, ◌⊎◌, inl, inr, refl, sym, ap, ◌∙◌, subst, arith}
 use Rattle.std.specs.Prelude.{if◌then◌else◌, slice_get}
 use Rattle.std.proofs.lemmas.Bool.{eq-eqb}
 use Rattle.std.proofs.lemmas.List.{reverse-append, length-reverse}
@@ -8,7 +8,7 @@ use Rattle.spec_check.specs.declared.report.CheckReport.{CheckReport}
 use Rattle.spec_check.specs.Written.{IsCheckOf}
 use Rattle.spec_file.specs.declared.geometry.Geometry.{Geometry}
 use Rattle.spec_log.specs.declared.item.Record.{Record}
-use Rattle.spec_log.specs.declared.item.Record.TheVariants.{Start, Change, Undo, Commit, Abort, Snap, CheckEnd}
+use Rattle.spec_log.specs.declared.item.Record.TheVariants.{Undo, Commit, Abort, CheckEnd}
 use Rattle.spec_log.specs.Log.{left_of, rest_of}
 use Rattle.spec_script.specs.declared.reply.Reply.{Reply}
 use Rattle.spec_script.specs.declared.reply.Reply.TheVariants.{Done, Report}
@@ -20,15 +20,14 @@ use Rattle.spec_run.specs.Begun.{Setting, Telling, Answers, Tells, begun}
 use Rattle.spec_run.specs.Progress.{Progress, progress_of, at_work, with_statement, script_of, is_short, moved_to, work_of, first_of, MayCome}
 use Rattle.spec_run.specs.Turns.{AreTold, told_to, IsLegal}
 use Rattle.law_run.specs.Laws.{IsStart}
-use Rattle.law_run.specs.Doing.{change_items, abort_items, StepsTo}
+use Rattle.law_run.specs.Doing.{change_items, abort_items}
 use Rattle.law_run.specs.Legal.{with_begun}
-use Rattle.db_core.specs.declared.session.Doing.{Doing}
 use Rattle.db_core.specs.declared.session.Doing.TheVariants.{Idle, Changing, Ending, Undoing, Checking}
 use Rattle.db_core.specs.declared.session.Session.{Session}
 use Rattle.db_core.specs.States.{whole_log, reply_of, IsSnapshot, IsAt, IsOpen, IsSession}
-use Rattle.db_core.proofs.Keeps.{steps_of, snapshot_more}
+use Rattle.db_core.proofs.Keeps.{steps_of}
 use Rattle.db_core.proofs.Moves.{goes_on, ends_with}
-use Rattle.db_core.proofs.Opens.{open_change, open_undo, open_snap, open_end}
+use Rattle.db_core.proofs.Opens.{open_change, open_undo, open_end}
 
 -- a session that owes items works at these
 pub busy : (run : Setting) (log : List Record) (s : ℕ) (x : Record) (rest : List Record) → (progress_of run s log).due ≡ x ∷ rest → work_of run s log ≡ progress_of run s log

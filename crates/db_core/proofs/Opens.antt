@@ -1,18 +1,18 @@
 -- What the core keeps of an open transaction after an item of it.
-use Rattle.std.proofs.Common.{◌≡◌, ℕ, ◌+◌, ◌<◌, ◌≤◌, Bool, true, false, eqb, ltb, not, ◌&&◌, ◌||◌, List, [], ◌∷◌, ◌++◌, length, map, reverse, ◌⊎◌, inl, inr, refl, sym, ap, ◌∙◌, subst, arith}
+use Rattle.std.proofs.Common.{◌≡◌, ℕ, ◌+◌, ◌<◌, Bool, true, false, eqb, ltb, ◌&&◌, ◌||◌, List, [], ◌∷◌, ◌++◌, length, map, inl, inr, refl, sym, ap, ◌∙◌, arith}
 use Rattle.std.specs.Prelude.{if◌then◌else◌}
 use Rattle.std.specs.List.{list_any}
 use Rattle.std.proofs.lemmas.List.{reverse-append}
-use Rattle.std.proofs.lemmas.Bool.{eq-eqb, ne_eqb, both_ways, false≢true, cases_Bool, and_from, or_left, or_right}
+use Rattle.std.proofs.lemmas.Bool.{eq-eqb, ne_eqb, both_ways, cases_Bool, and_from, or_left}
 use Rattle.spec_file.specs.declared.data.Resource.{Resource}
 use Rattle.spec_file.specs.declared.geometry.Geometry.{Geometry}
 use Rattle.spec_log.specs.declared.item.Record.{Record}
 use Rattle.spec_log.specs.declared.item.Record.TheVariants.{Start, Change, Undo, Commit, Abort, Snap, Failed, CheckEnd}
-use Rattle.spec_log.specs.Items.{tran_of, is_same}
-use Rattle.spec_log.specs.Log.{has_started, has_taken, is_unfinished, holds, takes_it, greatest_of, left_of, rest_of}
+use Rattle.spec_log.specs.Items.{is_same}
+use Rattle.spec_log.specs.Log.{has_started, has_taken, is_unfinished, greatest_of, left_of, rest_of}
 use Rattle.spec_log.specs.Limits.{changes_of}
 use Rattle.spec_log.specs.Rules.{KeepsRules}
-use Rattle.law_undo.specs.Holders.{unfinished_parts, taken_started, holds_parts}
+use Rattle.law_undo.specs.Holders.{unfinished_parts, taken_started}
 use Rattle.law_run.specs.Fresh.{started_below, not_started_above, false_if}
 use Rattle.spec_plan.specs.declared.plan.Planned.{Planned}
 use Rattle.spec_run.specs.Shapes.{change_item}

@@ -1,9 +1,8 @@
 -- A step of a statement that is under way fits into the pages, and keeps the core's state.
-use Rattle.std.proofs.Common.{◌≡◌, ℕ, zero, suc, ◌+◌, ◌-◌, ◌<◌, ◌≤◌, max, Bool, true, false, eqb, ltb, leb, not, ◌&&◌, List, [], ◌∷◌, ◌++◌, length, map, reverse, Option, Some, None, ◌⊎◌, inl, inr, refl, sym, ap, ◌∙◌, subst, arith, length-append, append-nil}
-use Rattle.std.specs.Prelude.{if◌then◌else◌, slice_get, slice_set, IsSomeAnd}
+use Rattle.std.proofs.Common.{◌≡◌, ℕ, zero, suc, ◌+◌, ◌-◌, ◌<◌, ◌≤◌, max, Bool, true, false, eqb, ltb, leb, List, [], ◌∷◌, ◌++◌, length, map, reverse, Option, Some, None, inl, inr, refl, sym, ap, ◌∙◌, subst, arith}
+use Rattle.std.specs.Prelude.{if◌then◌else◌, slice_get, slice_set}
 use Rattle.std.proofs.lemmas.List.{reverse-append, length-reverse}
 use Rattle.std.proofs.lemmas.Bool.{eq-eqb, ne_eqb, eqb-true, cond_both, cases_Bool, and_parts, leb-true, ltb-true, ltb-false, both_ways}
-use Rattle.spec_file.specs.declared.data.Resource.{Resource}
 use Rattle.spec_file.specs.declared.geometry.Geometry.{Geometry}
 use Rattle.spec_file.specs.Image.{Image}
 use Rattle.spec_file.specs.Roles.{role_of}
@@ -12,12 +11,11 @@ use Rattle.spec_log.specs.declared.item.Cell.TheVariants.{Bytes, Bit}
 use Rattle.spec_log.specs.declared.item.Record.{Record}
 use Rattle.spec_log.specs.declared.item.Record.TheVariants.{Start, Change, Undo, Commit, Abort, Snap, Failed, CheckEnd}
 use Rattle.spec_log.specs.Items.{tran_of, has_cell_form}
-use Rattle.spec_log.specs.Log.{item_at, left_of, greatest_of}
+use Rattle.spec_log.specs.Log.{item_at, left_of}
 use Rattle.spec_log.specs.Limits.{all_changes, all_bytes}
-use Rattle.spec_log.specs.Cells.{put}
-use Rattle.spec_log.specs.Cover.{IsCovered, HoldsGuard, in_file, byte_guard, byte_guard_by, bit_guard, bit_guard_by}
+use Rattle.spec_log.specs.Cover.{IsCovered, byte_guard_by, bit_guard_by}
 use Rattle.spec_log.specs.Rules.{KeepsRules, HaveForm}
-use Rattle.spec_log.specs.Images.{page_of_cell, put_before, apply, final_image}
+use Rattle.spec_log.specs.Images.{page_of_cell, put_before, apply}
 use Rattle.law_undo.specs.Guards.{guarded_inside}
 use Rattle.law_undo.specs.ReadLogs.{cell_form}
 use Rattle.law_undo.specs.Views.{sound_rules, sound_forms}
@@ -35,7 +33,7 @@ use Rattle.db_core.specs.declared.session.Doing.{Doing}
 use Rattle.db_core.specs.declared.session.Doing.TheVariants.{Idle, Changing, Ending, Undoing, Checking}
 use Rattle.db_core.specs.declared.session.Session.{Session}
 use Rattle.db_core.specs.Cells.{FitsCell, MayPutBack, MayUndo}
-use Rattle.db_core.specs.States.{whole_log, reply_of, IsAt, IsOpen, IsSession, IsState, IsChanging, GoesOnWith, Keeps, StepsBack, MayStep, StepsBy}
+use Rattle.db_core.specs.States.{whole_log, reply_of, IsAt, IsSession, IsState, IsChanging, GoesOnWith, StepsBack, MayStep, StepsBy}
 use Rattle.db_core.proofs.Keeps.{steps_of, keeps}
 use Rattle.db_core.proofs.Next.{change_comes, ChangeKept, change_goes, change_ends, commit_comes, commit_ends, undo_comes, undo_goes, abort_comes, abort_ends}
 

@@ -15,7 +15,6 @@ use Rattle.spec_run.specs.Shapes.{change_item}
 use Rattle.db_core.specs.Cells.{FitsCell, MayUndo}
 use Rattle.spec_script.specs.declared.reply.Reply.{Reply}
 use Rattle.spec_script.specs.declared.reply.Reply.TheVariants.{Done, Rows}
-use Rattle.spec_script.specs.declared.statement.Statement.{Statement}
 use Rattle.spec_plan.specs.declared.plan.Planned.{Planned}
 use Rattle.spec_run.specs.Entries.{Entry, Item}
 use Rattle.spec_run.specs.Begun.{Setting, Telling, Answers, Reports}

@@ -5,6 +5,7 @@
 mod frames;
 mod machine;
 mod session;
+mod starts;
 mod steps;
 
 pub use frames::Frames;

@@ -69,21 +69,22 @@ fn tran_of_item(item: &Record) -> u64
     }
 }
 
-/// Room for one item more.
-fn reserve_item(items: &mut Vec<Record>) -> Result<(), NoMemory>
-    ensures same { items.new.items ≡ items.old.items }
-    ensures room { OnOk result (vec_len items.new < vec_capacity items.new) }
+/// The greater of two numbers.
+fn greater(a: u64, b: u64) -> u64
+    ensures { result ≡ max a b }
 {
-    items.reserve(1)?;
-    Ok(())
+    if a > b { a } else { b }
 }
 
-/// Room for one reply more, and for the number of one change.
-fn reserve_step(session: &mut Session) -> Result<(), NoMemory>
+/// Room for one item more, one reply more, and the number of one change.
+fn reserve_step(items: &mut Vec<Record>, session: &mut Session) -> Result<(), NoMemory>
+    ensures items { items.new.items ≡ items.old.items }
     ensures same { IsSame session.old session.new }
+    ensures room { OnOk result (vec_len items.new < vec_capacity items.new) }
     ensures replies { OnOk result (vec_len session.new.replies < vec_capacity session.new.replies) }
     ensures left { OnOk result (vec_len session.new.left < vec_capacity session.new.left) }
 {
+    items.reserve(1)?;
     session.replies.reserve(1)?;
     session.left.reserve(1)?;
     Ok(())
@@ -97,5 +98,36 @@ fn push_item(items: &mut Vec<Record>, item: Record)
     match items.push(item) {
         Ok(()) => {}
         Err(_) => unreachable!(),
+    }
+}
+
+impl Machine {
+    ghost use Rattle.std.specs.Bool.{MatchBool};
+    ghost use Rattle.db_core.specs.States.{TurnIn};
+
+    /// A turn of a session that is in the middle of a statement other than a check. False where it
+    /// isn't.
+    fn go_on(&mut self, session: u32) -> Result<bool, NoMemory>
+        requires above { 0 < session }
+        requires within { session ≤ length self.old.run.scripts }
+        ensures ok { IfOk result (λ went. MatchBool went (TurnIn session self.old self.new) (self.new ≡ self.old)) }
+        ensures err { OnErr result (self.new ≡ self.old) }
+    {
+        let at = (session - 1) as usize;
+        if !under_way(&self.sessions[at]) {
+            return Ok(false);
+        }
+        reserve_step(&mut self.items, &mut self.sessions[at])?;
+        let number = self.items.len() as u64 + 1;
+        let item = step(
+            self.alloc,
+            &mut self.sessions[at],
+            &mut self.frames,
+            &self.items,
+            number,
+        );
+        self.last = greater(tran_of_item(&item), self.last);
+        push_item(&mut self.items, item);
+        Ok(true)
     }
 }

@@ -20,7 +20,9 @@ pub enum Doing {
         rows: Option<u64>,
     },
     /// Of the Commit of its transaction.
-    Ending { rows: Option<u64> },
+    Ending {
+        rows: Option<u64>,
+    },
     /// Of undoing the changes of its transaction.
     Undoing,
     /// Of a check.

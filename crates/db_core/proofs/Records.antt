@@ -1,30 +1,27 @@
 -- The record of a statement, and what the core keeps of the session behind it.
-use Rattle.std.proofs.Common.{◌≡◌, ℕ, zero, suc, ◌+◌, ◌-◌, ◌<◌, ◌≤◌, Bool, true, false, eqb, ltb, not, List, [], ◌∷◌, ◌++◌, length, map, reverse, take, drop, Option, Some, None, ◌⊎◌, inl, inr, refl, sym, ap, ◌∙◌, subst, arith}
-use Rattle.std.specs.Prelude.{if◌then◌else◌, slice_get}
+use Rattle.std.proofs.Common.{◌≡◌, ℕ, ◌+◌, ◌-◌, ◌<◌, ◌≤◌, true, false, List, [], ◌∷◌, ◌++◌, length, reverse, take, Some, ◌⊎◌, inl, inr, refl, sym, ap, ◌∙◌, subst, arith}
+use Rattle.std.specs.Prelude.{slice_get}
 use Rattle.std.proofs.lemmas.List.{length-reverse, take_all, reverse-append}
-use Rattle.std.proofs.lemmas.Bool.{eq-eqb, ne_eqb, cond_both}
-use Rattle.spec_file.specs.Image.{Image}
 use Rattle.spec_log.specs.declared.item.Record.{Record}
-use Rattle.spec_log.specs.declared.item.Record.TheVariants.{Start, Snap, CheckEnd}
-use Rattle.spec_log.specs.Log.{is_unfinished, greatest_of, left_of}
+use Rattle.spec_log.specs.declared.item.Record.TheVariants.{Snap}
+use Rattle.spec_log.specs.Log.{is_unfinished}
 use Rattle.spec_log.specs.Images.{taken_back, final_image, committed_image, undone_image}
 use Rattle.spec_script.specs.declared.reply.Reply.{Reply}
-use Rattle.spec_script.specs.declared.reply.Reply.TheVariants.{Done, Refused}
+use Rattle.spec_script.specs.declared.reply.Reply.TheVariants.{Refused}
 use Rattle.spec_script.specs.declared.statement.Statement.{Statement}
 use Rattle.spec_plan.specs.Refusals.{out_of_memory}
-use Rattle.spec_run.specs.Sessions.{session_of, open_after}
-use Rattle.spec_run.specs.Begun.{Setting, Telling, Answers, Reports, Tells, Begun, begun}
+use Rattle.spec_run.specs.Sessions.{open_after}
+use Rattle.spec_run.specs.Begun.{Setting, Answers, Reports, Tells, Begun, begun}
 use Rattle.spec_run.specs.Progress.{Progress, progress_of, script_of, is_short, work_of, first_of, MayCome}
 use Rattle.spec_run.specs.Turns.{IsLegal}
 use Rattle.law_undo.specs.Law.{undo_gives_committed}
 use Rattle.law_run.specs.Laws.{IsStart}
 use Rattle.law_run.specs.Legal.{with_begun, legal_is_sound}
-use Rattle.db_core.specs.declared.session.Doing.{Doing}
 use Rattle.db_core.specs.declared.session.Doing.TheVariants.{Idle}
 use Rattle.db_core.specs.declared.session.Session.{Session}
 use Rattle.db_core.specs.States.{whole_log, IsSnapshot, IsAt, IsOpen, IsSession}
 use Rattle.db_core.proofs.Keeps.{steps_of, first_items}
-use Rattle.db_core.proofs.Moves.{goes_on, ends_with, ends_short}
+use Rattle.db_core.proofs.Moves.{ends_with, ends_short}
 use Rattle.db_core.proofs.Next.{idle_work, told_count, goes_by}
 
 -- an idle session that has a next statement, and what becomes of this

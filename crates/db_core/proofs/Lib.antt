@@ -7,3 +7,4 @@ pub mod Records
 pub mod Stepped
 pub mod Room
 pub mod GoOn
+pub mod Words

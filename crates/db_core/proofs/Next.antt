@@ -64,7 +64,7 @@ goes_by run log s x [] old next belongs due some whole mine script replies tran 
 goes_by run log s x (y ∷ rest) old next belongs due some whole mine script replies tran at opens =
     goes_on run log s x y rest old next belongs due whole mine script replies tran (at (moved_to (work_of run s log) x (y ∷ rest)) refl refl) opens
 
-opens_after : (run : Setting) (log : List Record) (x : Record) (t : ℕ) (old next : Session) → old.tran ≡ t → next.tran ≡ t →
+pub opens_after : (run : Setting) (log : List Record) (x : Record) (t : ℕ) (old next : Session) → old.tran ≡ t → next.tran ≡ t →
     (old.tran ≡ 0) ⊎ IsOpen (whole_log run log) old.tran old.left.items old.held.items old.used →
     (IsOpen (whole_log run log) t old.left.items old.held.items old.used → IsOpen (x ∷ whole_log run log) t next.left.items next.held.items next.used) →
     (next.tran ≡ 0) ⊎ IsOpen (x ∷ whole_log run log) next.tran next.left.items next.held.items next.used

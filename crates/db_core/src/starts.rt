@@ -1,10 +1,12 @@
 //! The records of statements that need no plan: BEGIN, COMMIT, ROLLBACK, and a refusal.
-ghost use Rattle.std.specs.Prelude.{◌≡◌, ◌<◌, [], ◌∷◌, ◌++◌, vec_len, vec_capacity, None};
+ghost use Rattle.std.specs.Prelude.{◌≡◌, ◌+◌, ◌^◌, ◌<◌, [], ◌∷◌, ◌++◌, vec_len, vec_capacity, None};
 ghost use Rattle.spec_run.specs.Shapes.{plain_start as start_of};
 ghost use Rattle.spec_script.specs.declared.reply.Reply.TheVariants.{Done, Refused};
 ghost use Rattle.spec_plan.specs.Refusals.{plain_refusal};
 ghost use Rattle.db_core.specs.States.{Keeps};
 ghost use Rattle.db_core.specs.declared.session.Doing.TheVariants.{Idle, Ending, Undoing};
+
+ghost use Rattle.db_core.specs.Words.{StartsBy};
 
 use crate::session::{Doing, Session};
 use crate::steps::end;
@@ -18,6 +20,14 @@ use std::alloc::Global;
 pub struct Place {
     pub session: u16,
     pub index: u32,
+}
+
+/// A statement that needs no plan.
+#[derive(Clone, Copy)]
+pub enum Word {
+    Begin,
+    Commit,
+    Rollback,
 }
 
 /// The Start of a statement without changes.
@@ -105,4 +115,39 @@ pub fn start_undo(alloc: Global, session: &mut Session, place: Place) -> Record
 {
     session.doing = Doing::Undoing;
     plain_start(alloc, place, session.tran, 0)
+}
+
+/// The record of a statement that needs no plan; `last` is the greatest transaction so far.
+pub fn start(
+    alloc: Global,
+    session: &mut Session,
+    place: Place,
+    last: u64,
+    word: Word,
+) -> Record
+    requires room { vec_len session.old.replies < vec_capacity session.old.replies }
+    requires low { last + 1 < 2 ^ 64 }
+    ensures { StartsBy word last place session.old session.new result }
+{
+    let open_now = session.tran != 0;
+    match word {
+        Word::Begin => {
+            if open_now {
+                return refuse(alloc, session, place, 60001);
+            }
+            open(alloc, session, place, last + 1)
+        }
+        Word::Commit => {
+            if open_now {
+                return start_commit(alloc, session, place);
+            }
+            refuse(alloc, session, place, 3902)
+        }
+        Word::Rollback => {
+            if open_now {
+                return start_undo(alloc, session, place);
+            }
+            refuse(alloc, session, place, 3903)
+        }
+    }
 }

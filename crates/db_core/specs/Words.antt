@@ -1,5 +1,5 @@
 -- The records of statements that need no plan.
-use Rattle.std.specs.Prelude.{◌≡◌, ◌≢◌, ℕ, ◌+◌, List, [], ◌∷◌, ◌++◌, None, ◌⊎◌}
+use Rattle.std.specs.Prelude.{◌≡◌, ◌≢◌, ℕ, ◌+◌, List, [], ◌∷◌, ◌++◌, length, slice_get, None, Some, ◌⊎◌}
 use Rattle.spec_log.specs.declared.item.Record.{Record}
 use Rattle.spec_script.specs.declared.reply.Reply.TheVariants.{Done, Refused}
 use Rattle.spec_script.specs.declared.statement.Statement.{Statement}
@@ -53,3 +53,8 @@ StartsBy Begin last place old new x =
     ((old.tran ≡ 0) × IsOpening place (last + 1) old new x) ⊎ ((old.tran ≢ 0) × IsRefusal place 60001 old new x)
 StartsBy Commit last place old new x = ((old.tran ≡ 0) × IsRefusal place 3902 old new x) ⊎ ((old.tran ≢ 0) × IsGoing place (Ending None) old new x)
 StartsBy Rollback last place old new x = ((old.tran ≡ 0) × IsRefusal place 3903 old new x) ⊎ ((old.tran ≢ 0) × IsGoing place Undoing old new x)
+
+-- an idle session's next statement
+pub record IsNextWord (word : Word) (x : Session) : Type 0 where
+  pub idle : x.doing ≡ Idle
+  pub next : slice_get x.script.items (length x.replies.items) ≡ Some (statement_of word)

@@ -1,18 +1,18 @@
 //! The records of statements that need no plan: BEGIN, COMMIT, ROLLBACK, and a refusal.
-ghost use Rattle.std.specs.Prelude.{◌≡◌, ◌+◌, ◌^◌, ◌<◌, [], ◌∷◌, ◌++◌, vec_len, vec_capacity, None};
+ghost use Rattle.std.specs.Prelude.{◌≡◌, ◌+◌, ◌^◌, ◌<◌, [], ◌∷◌, ◌++◌, vec_len, vec_capacity, None, Some, MatchOption, slice_get};
 ghost use Rattle.spec_run.specs.Shapes.{plain_start as start_of};
 ghost use Rattle.spec_script.specs.declared.reply.Reply.TheVariants.{Done, Refused};
 ghost use Rattle.spec_plan.specs.Refusals.{plain_refusal};
 ghost use Rattle.db_core.specs.States.{Keeps};
 ghost use Rattle.db_core.specs.declared.session.Doing.TheVariants.{Idle, Ending, Undoing};
 
-ghost use Rattle.db_core.specs.Words.{StartsBy};
+ghost use Rattle.db_core.specs.Words.{StartsBy, IsNextWord, statement_of};
 
 use crate::session::{Doing, Session};
 use crate::steps::end;
 use spec_file::{PageNo, Tran};
 use spec_log::{Record, Values};
-use spec_script::{Name, Refusal, Reply};
+use spec_script::{Name, Refusal, Reply, Statement};
 use std::alloc::Global;
 
 /// Which statement of which session, both from 1.
@@ -149,5 +149,27 @@ pub fn start(
             }
             refuse(alloc, session, place, 3903)
         }
+    }
+}
+
+/// The next statement of an idle session, where it needs no plan.
+pub fn next_word(session: &Session) -> Option<Word>
+    ensures { MatchOption result (Unit {0}) (λ word. IsNextWord word session.now) }
+{
+    if !matches!(&session.doing, Doing::Idle) {
+        return None;
+    }
+    word_at(&session.script, session.replies.len())
+}
+
+/// The statement at a place of a script, where it needs no plan.
+fn word_at(script: &[Statement], at: usize) -> Option<Word>
+    ensures { MatchOption result (Unit {0}) (λ word. slice_get script.now at ≡ Some (statement_of word)) }
+{
+    match script.get(at) {
+        Some(Statement::Begin) => Some(Word::Begin),
+        Some(Statement::Commit) => Some(Word::Commit),
+        Some(Statement::Rollback) => Some(Word::Rollback),
+        _ => None,
     }
 }

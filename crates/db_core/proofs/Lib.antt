@@ -8,3 +8,4 @@ pub mod Stepped
 pub mod Room
 pub mod GoOn
 pub mod Words
+pub mod BeginWord

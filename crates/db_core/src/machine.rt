@@ -1,10 +1,11 @@
 //! The sessions of a run over one file and one log.
-ghost use Rattle.std.specs.Prelude.{◌≡◌, ◌+◌, ◌<◌, ◌≤◌, [], ◌∷◌, ◌++◌, length, max, IfOk, OnOk, OnErr, vec_len, vec_capacity, if◌then◌else◌};
+ghost use Rattle.std.specs.Prelude.{◌≡◌, ◌+◌, ◌<◌, ◌≤◌, [], ◌∷◌, ◌++◌, ◌^◌, length, max, IfOk, OnOk, OnErr, vec_len, vec_capacity, if◌then◌else◌};
 ghost use Rattle.spec_log.specs.Items.{tran_of};
 ghost use Rattle.db_core.specs.States.{is_under_way, IsSame};
 
 use crate::Frames;
 use crate::session::{Doing, Session};
+use crate::starts::{Place, next_word, start};
 use crate::steps::step;
 use spec_file::NoMemory;
 use spec_log::Record;
@@ -103,6 +104,9 @@ fn push_item(items: &mut Vec<Record>, item: Record)
 
 impl Machine {
     ghost use Rattle.std.specs.Bool.{MatchBool};
+    ghost use Rattle.std.specs.Prelude.{ℕ};
+    ghost use Rattle.spec_log.specs.Log.{greatest_of};
+    ghost use Rattle.spec_run.specs.Progress.{script_of};
     ghost use Rattle.db_core.specs.States.{TurnIn};
 
     /// A turn of a session that is in the middle of a statement other than a check. False where it
@@ -129,5 +133,47 @@ impl Machine {
         self.last = greater(tran_of_item(&item), self.last);
         push_item(&mut self.items, item);
         Ok(true)
+    }
+
+    /// A turn of an idle session whose next statement is BEGIN, COMMIT or ROLLBACK. False where it is
+    /// another, or there is none.
+    fn begin_word(&mut self, session: u32) -> Result<bool, NoMemory>
+        requires above { 0 < session }
+        requires within { session ≤ length self.old.run.scripts }
+        requires few { session < 2 ^ 16 }
+        requires short { (s : ℕ) → length (script_of self.old.run.scripts s) < 2 ^ 32 }
+        requires low { greatest_of self.old.log + 1 < 2 ^ 64 }
+        ensures ok { IfOk result (λ went. MatchBool went (TurnIn session self.old self.new) (self.new ≡ self.old)) }
+        ensures err { OnErr result (self.new ≡ self.old) }
+    {
+        let at = (session - 1) as usize;
+        let Some(word) = next_word(&self.sessions[at]) else {
+            return Ok(false);
+        };
+        let place = place_of(session, &self.sessions[at]);
+        reserve_step(&mut self.items, &mut self.sessions[at])?;
+        let item = start(
+            self.alloc,
+            &mut self.sessions[at],
+            place,
+            self.last,
+            word,
+        );
+        self.last = greater(tran_of_item(&item), self.last);
+        push_item(&mut self.items, item);
+        Ok(true)
+    }
+}
+
+/// Which statement of its session comes next.
+fn place_of(number: u32, session: &Session) -> Place
+    requires few { number < 2 ^ 16 }
+    requires short { length session.now.replies.items + 1 < 2 ^ 32 }
+    ensures session { result.session ≡ number }
+    ensures index { result.index ≡ length session.now.replies.items + 1 }
+{
+    Place {
+        session: number as u16,
+        index: session.replies.len() as u32 + 1,
     }
 }

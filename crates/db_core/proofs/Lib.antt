@@ -9,3 +9,4 @@ pub mod Room
 pub mod GoOn
 pub mod Words
 pub mod BeginWord
+pub mod Begins

@@ -162,3 +162,7 @@ pub record IsSame (old new : Session) : Type 0 where
 -- what a run over these pages begins with, with sessions that have these scripts
 abbrev pub run_of : Image → List Session → Setting
 run_of image sessions = record { geometry = Small; opened = []; image = image; scripts = map (λ (x : Session). x.script.items) sessions }
+
+-- sessions that have done nothing
+abbrev pub AreIdle : List Session → Type 0
+AreIdle sessions = (k : ℕ) (x : Session) → slice_get sessions k ≡ Some x → (x.replies.items ≡ []) × (x.tran ≡ 0) × (x.doing ≡ Idle)

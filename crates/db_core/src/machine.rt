@@ -111,7 +111,7 @@ impl Machine {
 
     /// A turn of a session that is in the middle of a statement other than a check. False where it
     /// isn't.
-    fn go_on(&mut self, session: u32) -> Result<bool, NoMemory>
+    pub fn go_on(&mut self, session: u32) -> Result<bool, NoMemory>
         requires above { 0 < session }
         requires within { session ≤ length self.old.run.scripts }
         ensures ok { IfOk result (λ went. MatchBool went (TurnIn session self.old self.new) (self.new ≡ self.old)) }
@@ -137,7 +137,7 @@ impl Machine {
 
     /// A turn of an idle session whose next statement is BEGIN, COMMIT or ROLLBACK. False where it is
     /// another, or there is none.
-    fn begin_word(&mut self, session: u32) -> Result<bool, NoMemory>
+    pub fn begin_word(&mut self, session: u32) -> Result<bool, NoMemory>
         requires above { 0 < session }
         requires within { session ≤ length self.old.run.scripts }
         requires few { session < 2 ^ 16 }
@@ -162,6 +162,41 @@ impl Machine {
         self.last = greater(tran_of_item(&item), self.last);
         push_item(&mut self.items, item);
         Ok(true)
+    }
+}
+
+impl Machine {
+    ghost use Rattle.std.specs.Prelude.{reverse, slice_get};
+    ghost use Rattle.spec_log.specs.Cells.{HasWholePages};
+    ghost use Rattle.spec_run.specs.Turns.{IsLegal};
+    ghost use Rattle.db_core.specs.States.{AreIdle, run_of};
+
+    /// Sessions that have done nothing yet, over a file of whole pages with an empty log.
+    fn begin(alloc: Global, frames: Frames, sessions: Vec<Session>) -> Machine
+        requires whole { HasWholePages frames }
+        requires many { 16 ≤ length frames }
+        requires idle { AreIdle sessions.items }
+        ensures { result ≡ record { run = run_of frames sessions.items; log = [] } }
+    {
+        Machine {
+            alloc,
+            base: Snapshot::of(&frames),
+            first: Snapshot::of(&sessions),
+            items: Vec::new(alloc),
+            frames,
+            sessions,
+            last: 0,
+            all: 0,
+            size: 0,
+        }
+    }
+
+    /// The items so far, the oldest first.
+    pub fn items(&self) -> &[Record]
+        ensures items { reverse result.now ≡ self.now.log }
+        ensures legal { IsLegal self.now.run self.now.log }
+    {
+        &self.items
     }
 }
 

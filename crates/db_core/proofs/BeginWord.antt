@@ -1,5 +1,5 @@
 -- A turn of an idle session whose next statement needs no plan.
-use Rattle.std.proofs.Common.{◌≡◌, ℕ, ◌+◌, ◌-◌, ◌<◌, ◌≤◌, max, get_or, List, [], ◌∷◌, ◌++◌, length, reverse, Some, refl, sym, ap, ◌∙◌, subst, arith}
+use Rattle.std.proofs.Common.{◌≡◌, ℕ, ◌+◌, ◌<◌, max, get_or, List, [], ◌∷◌, ◌++◌, length, reverse, Some, refl, sym, ap, ◌∙◌, subst, arith}
 use Rattle.std.specs.Prelude.{slice_get, slice_set}
 use Rattle.std.proofs.lemmas.List.{reverse-append, get_or-set_same}
 use Rattle.std.proofs.Math.ListN.{length-set}
@@ -15,7 +15,7 @@ use Rattle.db_core.specs.declared.session.Doing.TheVariants.{Idle}
 use Rattle.db_core.specs.declared.session.Session.{Session}
 use Rattle.db_core.specs.declared.starts.Place.{Place}
 use Rattle.db_core.specs.declared.starts.Word.{Word}
-use Rattle.db_core.specs.States.{Db, whole_log, entries_of, run_of, IsState, IsSame}
+use Rattle.db_core.specs.States.{Db, entries_of, run_of, IsState}
 use Rattle.db_core.specs.Words.{statement_of, IsNextWord, StartsBy}
 use Rattle.db_core.proofs.Records.{IsBegun}
 use Rattle.db_core.proofs.Stepped.{IsStepped, stepped_state}

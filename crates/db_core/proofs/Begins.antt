@@ -6,10 +6,8 @@ use Rattle.spec_file.specs.Image.{Image}
 use Rattle.spec_log.specs.Cells.{HasWholePages}
 use Rattle.spec_run.specs.Turns.{AreTold}
 use Rattle.spec_run.specs.Progress.{script_of, progress_of}
-use Rattle.spec_script.specs.declared.statement.Statement.{Statement}
-use Rattle.db_core.specs.declared.session.Doing.TheVariants.{Idle}
 use Rattle.db_core.specs.declared.session.Session.{Session}
-use Rattle.db_core.specs.States.{run_of, IsAt, IsSession, IsState, AreIdle}
+use Rattle.db_core.specs.States.{run_of, IsAt, IsState, AreIdle}
 
 script_at : (sessions : List Session) (k : ℕ) (x : Session) → slice_get sessions k ≡ Some x → script_of (map (λ (y : Session). y.script.items) sessions) (k + 1) ≡ x.script.items
 script_at [] k x e = absurd (cc)

@@ -1,6 +1,6 @@
 -- The record of a statement that needs no plan keeps what the core knows.
-use Rattle.std.proofs.Common.{◌≡◌, ◌≢◌, ℕ, zero, suc, ◌+◌, ◌<◌, ◌≤◌, Bool, true, false, eqb, not, List, [], ◌∷◌, ◌++◌, length, Option, Some, None, ◌⊎◌, inl, inr, refl, sym, ap, ◌∙◌, subst, arith, append-nil}
-use Rattle.std.specs.Prelude.{if◌then◌else◌, slice_get}
+use Rattle.std.proofs.Common.{◌≡◌, ℕ, zero, suc, ◌+◌, ◌<◌, true, false, eqb, not, List, [], ◌∷◌, ◌++◌, length, None, ◌⊎◌, inl, inr, refl, sym, ap, ◌∙◌, subst, arith, append-nil}
+use Rattle.std.specs.Prelude.{if◌then◌else◌}
 use Rattle.std.proofs.lemmas.Bool.{eq-eqb, ne_eqb, lt-ltb, or_left}
 use Rattle.spec_file.specs.Image.{Image}
 use Rattle.spec_log.specs.declared.item.Record.{Record}
@@ -8,18 +8,17 @@ use Rattle.spec_log.specs.Log.{has_started, is_unfinished, greatest_of, left_of}
 use Rattle.law_undo.specs.Holders.{unfinished_from}
 use Rattle.law_run.specs.Fresh.{not_ended_above}
 use Rattle.law_undo.specs.Views.{sound_rules}
-use Rattle.spec_script.specs.declared.reply.Reply.{Reply}
 use Rattle.spec_script.specs.declared.reply.Reply.TheVariants.{Done, Refused}
 use Rattle.spec_script.specs.declared.statement.Statement.{Statement}
 use Rattle.spec_plan.specs.Refusals.{plain_refusal}
 use Rattle.spec_run.specs.Shapes.{plain_start, Opening, Refused as Refusing, Committing, RollingBack}
-use Rattle.spec_run.specs.Begun.{Setting, Begun, Answers, surely, begun}
-use Rattle.spec_run.specs.Progress.{Progress, progress_of, is_short}
+use Rattle.spec_run.specs.Begun.{Setting, Begun, surely, begun}
+use Rattle.spec_run.specs.Progress.{Progress, progress_of}
 use Rattle.spec_run.specs.Turns.{IsLegal}
 use Rattle.law_run.specs.Laws.{IsStart}
-use Rattle.law_run.specs.Doing.{Owns, change_items, abort_items}
+use Rattle.law_run.specs.Doing.{change_items, abort_items}
 use Rattle.law_run.specs.Legal.{legal_right, doing_opens}
-use Rattle.db_core.specs.declared.session.Doing.TheVariants.{Idle, Ending, Undoing}
+use Rattle.db_core.specs.declared.session.Doing.TheVariants.{Ending, Undoing}
 use Rattle.db_core.specs.declared.session.Session.{Session}
 use Rattle.db_core.specs.declared.starts.Place.{Place}
 use Rattle.db_core.specs.declared.starts.Word.{Word}
@@ -28,7 +27,6 @@ use Rattle.db_core.specs.States.{whole_log, IsAt, IsOpen, IsSession, Keeps}
 use Rattle.db_core.specs.Words.{statement_of, IsRefusal, IsOpening, IsGoing, StartsBy}
 use Rattle.db_core.proofs.Keeps.{steps_of}
 use Rattle.db_core.proofs.Opens.{open_start, open_fresh}
-use Rattle.db_core.proofs.Next.{opens_after}
 use Rattle.db_core.proofs.Records.{IsBegun, begun_comes, begun_ends, begun_goes}
 use Rattle.db_core.proofs.Stepped.{IsStepped}
 

@@ -152,13 +152,7 @@ impl Machine {
         };
         let place = place_of(session, &self.sessions[at]);
         reserve_step(&mut self.items, &mut self.sessions[at])?;
-        let item = start(
-            self.alloc,
-            &mut self.sessions[at],
-            place,
-            self.last,
-            word,
-        );
+        let item = start(self.alloc, &mut self.sessions[at], place, self.last, word);
         self.last = greater(tran_of_item(&item), self.last);
         push_item(&mut self.items, item);
         Ok(true)

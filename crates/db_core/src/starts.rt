@@ -5,7 +5,6 @@ ghost use Rattle.spec_script.specs.declared.reply.Reply.TheVariants.{Done, Refus
 ghost use Rattle.spec_plan.specs.Refusals.{plain_refusal};
 ghost use Rattle.db_core.specs.States.{Keeps};
 ghost use Rattle.db_core.specs.declared.session.Doing.TheVariants.{Idle, Ending, Undoing};
-
 ghost use Rattle.db_core.specs.Words.{StartsBy, IsNextWord, statement_of};
 
 use crate::session::{Doing, Session};
@@ -118,13 +117,7 @@ pub fn start_undo(alloc: Global, session: &mut Session, place: Place) -> Record
 }
 
 /// The record of a statement that needs no plan; `last` is the greatest transaction so far.
-pub fn start(
-    alloc: Global,
-    session: &mut Session,
-    place: Place,
-    last: u64,
-    word: Word,
-) -> Record
+pub fn start(alloc: Global, session: &mut Session, place: Place, last: u64, word: Word) -> Record
     requires room { vec_len session.old.replies < vec_capacity session.old.replies }
     requires low { last + 1 < 2 ^ 64 }
     ensures { StartsBy word last place session.old session.new result }

@@ -1,7 +1,7 @@
-use Rattle.std.proofs.Common.{◌≡◌, ℕ, ◌+◌, ◌-◌, ◌<◌, ◌≤◌, length, max, sym, subst, ap, ◌∙◌, refl, arith, ◌^◌}
+use Rattle.std.proofs.Common.{◌≡◌, ◌+◌, ◌-◌, length, max, subst, ap, ◌∙◌, arith, ◌^◌}
 use Rattle.db_core.specs.declared.session.Session.{Session}
 use Rattle.db_core.specs.Words.{IsNextWord}
-use Rattle.db_core.proofs.GoOn.{Ready, below_is, ready_state, turn_in}
+use Rattle.db_core.proofs.GoOn.{below_is, ready_state, turn_in}
 use Rattle.db_core.proofs.BeginWord.{ready_word, state_behind, turn_behind, index_small, last_small, same_at}
 use Rattle.db_core.proofs.machine.Machine.begin_word.Goals as goal
 

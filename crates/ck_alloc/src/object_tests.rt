@@ -1,6 +1,6 @@
 ghost use Rattle.std.specs.Prelude.{◌<◌};
 
-use crate::objects_of;
+use crate::objects::objects_of;
 use db_cat::catalog_passes;
 use pg_base::{ObjId, Page, put_u32};
 use std::test::Fail;

@@ -1,22 +1,12 @@
 -- What a statement appends, the first item first. A record fixes the statement's place: its Start, or the
 -- Snap of a check.
-use Rattle.std.specs.Prelude.{◌≡◌, ◌≢◌, ℕ, ◌+◌, ◌<◌, ◌≤◌, ◌==◌, Bool, if◌then◌else◌, List, [], ◌∷◌, ◌++◌, length, map, sum_by}
+use Rattle.std.specs.Prelude.{◌≡◌, ◌≢◌, ℕ, ◌+◌, ◌<◌, ◌≤◌, ◌==◌, Bool, if◌then◌else◌, List, [], ◌∷◌, ◌++◌, length, map}
 use Rattle.spec_file.specs.declared.data.Resource.{Resource}
-use Rattle.spec_log.specs.declared.item.Cell.{Cell}
 use Rattle.spec_log.specs.declared.item.Record.{Record}
 use Rattle.spec_log.specs.declared.item.Record.TheVariants.{Start, Change, Undo, Commit, Abort, Snap, Failed, CheckEnd}
-use Rattle.spec_log.specs.Bytes.{change_length}
 use Rattle.spec_log.specs.Log.{greatest_of, left_of}
-
--- a change as a statement plans it
-pub record Planned : Type 0 where
-  pub cell : Cell
-  pub before : List ℕ
-  pub after : List ℕ
-
--- the bytes that planned changes have in the log
-abbrev pub planned_size : List Planned → ℕ
-planned_size changes = sum_by (λ (c : Planned). change_length (length c.after)) changes
+use Rattle.spec_plan.specs.declared.plan.Planned.{Planned}
+use Rattle.spec_plan.specs.Planned.{planned_size}
 
 -- what becomes of a statement
 pub data Shape : Type 0 where

@@ -1,0 +1,12 @@
+pub mod Puts
+pub mod Keeps
+pub mod Moves
+pub mod Opens
+pub mod Next
+pub mod Records
+pub mod Stepped
+pub mod Room
+pub mod GoOn
+pub mod Words
+pub mod BeginWord
+pub mod Begins

@@ -1,0 +1,55 @@
+//! What the core keeps of each session.
+use crate::Frames;
+use spec_file::Resource;
+use spec_plan::Planned;
+use spec_script::{Reply, Statement};
+
+/// What a session is in the middle of.
+#[derive(Drop)]
+pub enum Doing {
+    /// Of no statement.
+    Idle,
+    /// Of changes. The transaction ends behind them where it is the statement's own.
+    Changing {
+        /// The change to be made next.
+        next: Planned,
+        /// Those behind it, the last first.
+        later: Vec<Planned>,
+        own: bool,
+        /// How many rows the statement writes, where it is one that writes rows.
+        rows: Option<u64>,
+    },
+    /// Of the Commit of its transaction.
+    Ending {
+        rows: Option<u64>,
+    },
+    /// Of undoing the changes of its transaction.
+    Undoing,
+    /// Of a check.
+    Checking {
+        /// The check's Snap.
+        point: u64,
+        /// The pages, from which the items of open transactions are being taken back.
+        snapshot: Frames,
+        /// How many items before the Snap have not been looked at yet.
+        place: usize,
+    },
+}
+
+/// A session.
+#[derive(Drop)]
+pub struct Session {
+    /// Its statements.
+    pub script: Vec<Statement>,
+    /// What the finished ones answered.
+    pub replies: Vec<Reply>,
+    /// Its open transaction, 0 for none.
+    pub tran: u64,
+    /// The numbers of the changes of its transaction that aren't undone.
+    pub left: Vec<u64>,
+    /// What its transaction holds.
+    pub held: Vec<Resource>,
+    /// How many changes its transaction has announced.
+    pub used: u64,
+    pub doing: Doing,
+}

@@ -1,0 +1,168 @@
+//! The records of statements that need no plan: BEGIN, COMMIT, ROLLBACK, and a refusal.
+ghost use Rattle.std.specs.Prelude.{◌≡◌, ◌+◌, ◌^◌, ◌<◌, [], ◌∷◌, ◌++◌, vec_len, vec_capacity, None, Some, MatchOption, slice_get};
+ghost use Rattle.spec_run.specs.Shapes.{plain_start as start_of};
+ghost use Rattle.spec_script.specs.declared.reply.Reply.TheVariants.{Done, Refused};
+ghost use Rattle.spec_plan.specs.Refusals.{plain_refusal};
+ghost use Rattle.db_core.specs.States.{Keeps};
+ghost use Rattle.db_core.specs.declared.session.Doing.TheVariants.{Idle, Ending, Undoing};
+ghost use Rattle.db_core.specs.Words.{StartsBy, IsNextWord, statement_of};
+
+use crate::session::{Doing, Session};
+use crate::steps::end;
+use spec_file::{PageNo, Tran};
+use spec_log::{Record, Values};
+use spec_script::{Name, Refusal, Reply, Statement};
+use std::alloc::Global;
+
+/// Which statement of which session, both from 1.
+#[derive(Clone, Copy)]
+pub struct Place {
+    pub session: u16,
+    pub index: u32,
+}
+
+/// A statement that needs no plan.
+#[derive(Clone, Copy)]
+pub enum Word {
+    Begin,
+    Commit,
+    Rollback,
+}
+
+/// The Start of a statement without changes.
+fn plain_start(alloc: Global, place: Place, tran: u64, number: u16) -> Record
+    ensures { result ≡ start_of place.session place.index tran number }
+{
+    Record::Start {
+        session: place.session,
+        index: place.index,
+        tran: Tran(tran),
+        number,
+        changes: 0,
+        size: 0,
+        takes: Values::new(alloc),
+    }
+}
+
+/// A refusal that names nothing.
+fn refusal(alloc: Global, number: u16) -> Refusal
+    ensures { result ≡ plain_refusal number }
+{
+    Refusal {
+        number,
+        name: Name::empty(alloc),
+        key: 0,
+        page: PageNo(0),
+        resource: None,
+        by: Tran(0),
+    }
+}
+
+/// The statement is refused, and its transaction stands as before.
+pub fn refuse(alloc: Global, session: &mut Session, place: Place, number: u16) -> Record
+    requires { vec_len session.old.replies < vec_capacity session.old.replies }
+    ensures item { result ≡ start_of place.session place.index session.old.tran number }
+    ensures kept { Keeps session.old session.new }
+    ensures left { session.new.left.items ≡ session.old.left.items }
+    ensures replies { session.new.replies.items ≡ session.old.replies.items ++ Refused (plain_refusal number) ∷ [] }
+    ensures doing { session.new.doing ≡ Idle }
+{
+    let tran = session.tran;
+    end(session, Reply::Refused(refusal(alloc, number)));
+    plain_start(alloc, place, tran, number)
+}
+
+/// BEGIN: the session has this transaction open from here on.
+pub fn open(alloc: Global, session: &mut Session, place: Place, tran: u64) -> Record
+    requires { vec_len session.old.replies < vec_capacity session.old.replies }
+    ensures item { result ≡ start_of place.session place.index tran 0 }
+    ensures script { session.new.script.items ≡ session.old.script.items }
+    ensures tran { session.new.tran ≡ tran }
+    ensures left { session.new.left.items ≡ [] }
+    ensures held { session.new.held.items ≡ [] }
+    ensures used { session.new.used ≡ 0 }
+    ensures replies { session.new.replies.items ≡ session.old.replies.items ++ Done ∷ [] }
+    ensures doing { session.new.doing ≡ Idle }
+{
+    session.tran = tran;
+    session.left.clear();
+    session.held.clear();
+    session.used = 0;
+    end(session, Reply::Done);
+    plain_start(alloc, place, tran, 0)
+}
+
+/// COMMIT: the Commit of the session's transaction comes next.
+pub fn start_commit(alloc: Global, session: &mut Session, place: Place) -> Record
+    ensures item { result ≡ start_of place.session place.index session.old.tran 0 }
+    ensures kept { Keeps session.old session.new }
+    ensures left { session.new.left.items ≡ session.old.left.items }
+    ensures replies { session.new.replies.items ≡ session.old.replies.items }
+    ensures doing { session.new.doing ≡ Ending None }
+{
+    session.doing = Doing::Ending { rows: None };
+    plain_start(alloc, place, session.tran, 0)
+}
+
+/// ROLLBACK: the changes of the session's transaction are undone next.
+pub fn start_undo(alloc: Global, session: &mut Session, place: Place) -> Record
+    ensures item { result ≡ start_of place.session place.index session.old.tran 0 }
+    ensures kept { Keeps session.old session.new }
+    ensures left { session.new.left.items ≡ session.old.left.items }
+    ensures replies { session.new.replies.items ≡ session.old.replies.items }
+    ensures doing { session.new.doing ≡ Undoing }
+{
+    session.doing = Doing::Undoing;
+    plain_start(alloc, place, session.tran, 0)
+}
+
+/// The record of a statement that needs no plan; `last` is the greatest transaction so far.
+pub fn start(alloc: Global, session: &mut Session, place: Place, last: u64, word: Word) -> Record
+    requires room { vec_len session.old.replies < vec_capacity session.old.replies }
+    requires low { last + 1 < 2 ^ 64 }
+    ensures { StartsBy word last place session.old session.new result }
+{
+    let open_now = session.tran != 0;
+    match word {
+        Word::Begin => {
+            if open_now {
+                return refuse(alloc, session, place, 60001);
+            }
+            open(alloc, session, place, last + 1)
+        }
+        Word::Commit => {
+            if open_now {
+                return start_commit(alloc, session, place);
+            }
+            refuse(alloc, session, place, 3902)
+        }
+        Word::Rollback => {
+            if open_now {
+                return start_undo(alloc, session, place);
+            }
+            refuse(alloc, session, place, 3903)
+        }
+    }
+}
+
+/// The next statement of an idle session, where it needs no plan.
+pub fn next_word(session: &Session) -> Option<Word>
+    ensures { MatchOption result (Unit {0}) (λ word. IsNextWord word session.now) }
+{
+    if !matches!(&session.doing, Doing::Idle) {
+        return None;
+    }
+    word_at(&session.script, session.replies.len())
+}
+
+/// The statement at a place of a script, where it needs no plan.
+fn word_at(script: &[Statement], at: usize) -> Option<Word>
+    ensures { MatchOption result (Unit {0}) (λ word. slice_get script.now at ≡ Some (statement_of word)) }
+{
+    match script.get(at) {
+        Some(Statement::Begin) => Some(Word::Begin),
+        Some(Statement::Commit) => Some(Word::Commit),
+        Some(Statement::Rollback) => Some(Word::Rollback),
+        _ => None,
+    }
+}

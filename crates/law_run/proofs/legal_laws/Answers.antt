@@ -1,0 +1,5 @@
+use Rattle.law_run.specs.Legal.{legal_is_sound, next_belongs}
+use Rattle.law_run.proofs.legal_laws.Goals as goal
+
+pub returns : goal.returns
+returns c = record { sound = legal_is_sound; belongs = next_belongs }

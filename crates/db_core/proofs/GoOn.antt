@@ -1,16 +1,21 @@
 -- A turn of a session that is in the middle of a statement.
-use Rattle.std.proofs.Common.{◌≡◌, ℕ, zero, suc, ◌+◌, ◌-◌, ◌<◌, ◌≤◌, max, get_or, List, [], ◌∷◌, ◌++◌, length, reverse, Some, refl, sym, ap, ◌∙◌, subst, arith, append-nil}
+use Rattle.std.proofs.Common.{◌≡◌, ℕ, zero, suc, ◌+◌, ◌-◌, ◌<◌, ◌≤◌, Bool, true, max, get_or, List, [], ◌∷◌, ◌++◌, length, reverse, Some, refl, sym, ap, ◌∙◌, subst, arith, append-nil}
 use Rattle.std.specs.Prelude.{slice_get, slice_set}
 use Rattle.std.proofs.Math.ListN.{length-set}
 use Rattle.std.proofs.lemmas.List.{reverse-append, length-reverse}
 use Rattle.spec_file.specs.Image.{Image}
 use Rattle.spec_log.specs.declared.item.Record.{Record}
 use Rattle.spec_log.specs.Items.{tran_of}
+use Rattle.spec_log.specs.Log.{left_of}
 use Rattle.spec_run.specs.Entries.{Entry, Item, items_of}
-use Rattle.spec_run.specs.Progress.{work_of, MayCome}
+use Rattle.spec_run.specs.Begun.{Setting}
+use Rattle.spec_run.specs.Progress.{Progress, progress_of, work_of, MayCome}
 use Rattle.spec_run.specs.Turns.{Turn, Appends}
+use Rattle.law_run.specs.Doing.{abort_items}
+use Rattle.db_core.specs.declared.session.Doing.{Doing}
+use Rattle.db_core.specs.declared.session.Doing.TheVariants.{Idle, Changing, Ending, Undoing, Checking}
 use Rattle.db_core.specs.declared.session.Session.{Session}
-use Rattle.db_core.specs.States.{Db, whole_log, entries_of, run_of, IsState, IsSame, MayStep, StepsBy}
+use Rattle.db_core.specs.States.{Db, whole_log, entries_of, run_of, IsAt, IsState, IsSame, MayStep, StepsBy, is_under_way, owes_step}
 use Rattle.db_core.proofs.Room.{room_state}
 use Rattle.db_core.proofs.Stepped.{reverse_back, may_step, IsStepped, stepped, stepped_state}
 
@@ -114,3 +119,29 @@ turn_in image first items session d new above view turn =
     let place : session - 1 + 1 ≡ session = omega (arith, above) in
     subst (λ (e : Db). (run_of image first ≡ e.run) × Turn e.run session (entries_of e.log) new) view
     (refl, subst (λ s. Turn (run_of image first) s (entries_of (reverse items)) new) place turn)
+
+-- a session that undoes owes an Undo or the Abort
+undo_owed : (t : ℕ) (left : List (ℕ × Record)) → owes_step (abort_items t left) ≡ true
+undo_owed t [] = refl
+undo_owed t (p ∷ left) = refl
+
+-- a session is in the middle of a statement that isn't a check where the items that it owes say so
+at_owes : (run : Setting) (log : List Record) (s index t : ℕ) (p : Progress) (d : Doing) → IsAt run log s index t p d → is_under_way d ≡ owes_step p.due
+at_owes run log s index t p Idle at = sym (ap owes_step at)
+at_owes run log s index t p (Changing next later own rows) at = sym (ap owes_step at.0)
+at_owes run log s index t p (Ending rows) at = sym (ap owes_step at.0)
+at_owes run log s index t p Undoing at = sym (ap owes_step at.0 ∙ undo_owed t (left_of t (whole_log run log)))
+at_owes run log s index t p (Checking point snapshot place) at = sym (ap owes_step at.0)
+
+pub goes_when : (image : Image) (first : List Session) (items : List Record) (pages : Image) (sessions : List Session) (last all size session : ℕ) (x : Session) (d : Db) → 0 < session →
+    record { run = run_of image first; log = reverse items } ≡ d → session ≤ length d.run.scripts → IsState (run_of image first) (reverse items) pages sessions last all size →
+    x ≡ get_or sessions (session - 1) x → is_under_way x.doing ≡ owes_step (progress_of d.run session d.log).due
+goes_when image first items pages sessions last all size session x d above view within state at =
+    let run = run_of image first in
+    let log = reverse items in
+    let below = below_is image first items pages sessions last all size session d above view within state in
+    let mine = state.each (session - 1) x (get_at sessions (session - 1) x below at) in
+    let place : session - 1 + 1 ≡ session = omega (arith, above) in
+    subst (λ (e : Db). is_under_way x.doing ≡ owes_step (progress_of e.run session e.log).due) view
+    (subst (λ s. is_under_way x.doing ≡ owes_step (progress_of run s log).due) place
+    (at_owes run log (session - 1 + 1) (length x.replies.items + 1) x.tran (progress_of run (session - 1 + 1) log) x.doing mine.doing_is))

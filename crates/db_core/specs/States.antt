@@ -145,6 +145,16 @@ StepsBy number items old new pages after x (Ending rows) =
 StepsBy number items old new pages after x Undoing = StepsBack (reverse old.left.items) items old new pages after x
 StepsBy number items old new pages after x (Checking point snapshot place) = ⊥
 
+-- an item of a statement that isn't a check
+abbrev pub is_step : Record → Bool
+is_step (CheckEnd session index outcome) = false
+is_step other = true
+
+-- with these items due, a statement that isn't a check is under way
+abbrev pub owes_step : List Record → Bool
+owes_step [] = false
+owes_step (x ∷ due) = is_step x
+
 abbrev pub is_under_way : Doing → Bool
 is_under_way Idle = false
 is_under_way (Changing next later own rows) = true

@@ -106,14 +106,15 @@ impl Machine {
     ghost use Rattle.std.specs.Bool.{MatchBool};
     ghost use Rattle.std.specs.Prelude.{ℕ};
     ghost use Rattle.spec_log.specs.Log.{greatest_of};
-    ghost use Rattle.spec_run.specs.Progress.{script_of};
-    ghost use Rattle.db_core.specs.States.{TurnIn};
+    ghost use Rattle.spec_run.specs.Progress.{progress_of, script_of};
+    ghost use Rattle.db_core.specs.States.{TurnIn, owes_step};
 
     /// A turn of a session that is in the middle of a statement other than a check. False where it
     /// isn't.
     pub fn go_on(&mut self, session: u32) -> Result<bool, NoMemory>
         requires above { 0 < session }
         requires within { session ≤ length self.old.run.scripts }
+        ensures when { IfOk result (λ went. went ≡ owes_step (progress_of self.old.run session self.old.log).due) }
         ensures ok { IfOk result (λ went. MatchBool went (TurnIn session self.old self.new) (self.new ≡ self.old)) }
         ensures err { OnErr result (self.new ≡ self.old) }
     {

@@ -1,7 +1,13 @@
 use Rattle.std.proofs.Common.{◌+◌, ◌-◌, length, max, sym, subst, ap, ◌∙◌}
 use Rattle.db_core.specs.States.{MayStep, StepsBy}
-use Rattle.db_core.proofs.GoOn.{below_is, ready_state, ready_may, done_state, done_turn, turn_in}
+use Rattle.db_core.proofs.GoOn.{below_is, ready_state, ready_may, done_state, done_turn, turn_in, goes_when}
 use Rattle.db_core.proofs.machine.Machine.go_on.Goals as goal
+
+pub returns-then-not-under_way-clause-when : goal.returns-then-not-under_way-clause-when
+returns-then-not-under_way-clause-when c =
+    let owed = goes_when c.self.inside.base.value c.self.inside.first.value.items c.self.inside.items.items c.self.inside.frames c.self.inside.sessions.items
+    c.self.inside.last c.self.inside.all c.self.inside.size c.args.session c.index.result.now c.args.self.now c.requires.above c.self.view_is c.requires.within c.self.invariant c.index.ensures in
+    sym c.if-not-under_way.true ∙ c.under_way.ensures ∙ owed
 
 pub invariant_of-self : goal.invariant_of-self
 invariant_of-self c =
@@ -35,6 +41,12 @@ invariant_of-self-2 c =
     c.deref.ensures.value c.step-item.ensures)
     c.push_item.ensures
     (c.greater-self-inside.ensures ∙ ap (λ t. max t c.self.inside.last) c.tran_of_item.ensures)
+
+pub returns-clause-when : goal.returns-clause-when
+returns-clause-when c =
+    let owed = goes_when c.self.inside.base.value c.self.inside.first.value.items c.self.inside.items.items c.self.inside.frames c.self.inside.sessions.items
+    c.self.inside.last c.self.inside.all c.self.inside.size c.args.session c.index.result.now c.args.self.now c.requires.above c.self.view_is c.requires.within c.self.invariant c.index.ensures in
+    sym c.if-not-under_way.false ∙ c.under_way.ensures ∙ owed
 
 pub returns-clause-ok : goal.returns-clause-ok
 returns-clause-ok c =

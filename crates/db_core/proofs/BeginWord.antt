@@ -1,26 +1,33 @@
 -- A turn of an idle session whose next statement needs no plan.
-use Rattle.std.proofs.Common.{◌≡◌, ℕ, ◌+◌, ◌<◌, max, get_or, List, [], ◌∷◌, ◌++◌, length, reverse, Some, refl, sym, ap, ◌∙◌, subst, arith}
-use Rattle.std.specs.Prelude.{slice_get, slice_set}
+use Rattle.std.proofs.Common.{◌≡◌, ℕ, ◌+◌, ◌<◌, ◌≤◌, Bool, true, false, max, get_or, List, [], ◌∷◌, ◌++◌, length, reverse, Option, Some, refl, sym, ap, ◌∙◌, subst, arith}
+use Rattle.std.specs.Prelude.{◌-◌, slice_get, slice_set}
 use Rattle.std.proofs.lemmas.List.{reverse-append, get_or-set_same}
 use Rattle.std.proofs.Math.ListN.{length-set}
 use Rattle.std.proofs.lemmas.Option.{slice_get_within}
 use Rattle.spec_file.specs.Image.{Image}
 use Rattle.spec_log.specs.declared.item.Record.{Record}
 use Rattle.spec_log.specs.Items.{tran_of}
-use Rattle.spec_log.specs.Log.{greatest_of}
 use Rattle.spec_run.specs.Entries.{Item}
-use Rattle.spec_run.specs.Progress.{script_of, work_of, MayCome}
+use Rattle.spec_log.specs.Log.{greatest_of, left_of}
+use Rattle.spec_script.specs.declared.statement.Statement.{Statement}
+use Rattle.spec_run.specs.Begun.{Setting}
+use Rattle.spec_run.specs.Progress.{Progress, progress_of, script_of, work_of, MayCome}
+use Rattle.law_run.specs.Doing.{abort_items}
 use Rattle.spec_run.specs.Turns.{Turn, Appends}
-use Rattle.db_core.specs.declared.session.Doing.TheVariants.{Idle}
+use Rattle.db_core.specs.declared.session.Doing.{Doing}
+use Rattle.db_core.specs.declared.session.Doing.TheVariants.{Idle, Changing, Ending, Undoing, Checking}
 use Rattle.db_core.specs.declared.session.Session.{Session}
 use Rattle.db_core.specs.declared.starts.Place.{Place}
 use Rattle.db_core.specs.declared.starts.Word.{Word}
-use Rattle.db_core.specs.States.{Db, entries_of, run_of, IsState}
+use Rattle.db_core.specs.declared.starts.Word.TheVariants.{Begin, Commit, Rollback}
+use Rattle.db_core.specs.States.{Db, whole_log, entries_of, run_of, IsAt, IsState}
+use Rattle.db_core.specs.Starting.{is_word, begins_word, starts_word, idle_word}
 use Rattle.db_core.specs.Words.{statement_of, IsNextWord, StartsBy}
 use Rattle.db_core.proofs.Records.{IsBegun}
 use Rattle.db_core.proofs.Stepped.{IsStepped, stepped_state}
 use Rattle.db_core.proofs.Words.{word_step}
-use Rattle.db_core.proofs.GoOn.{Ready, get_at, ready_state, items_entries, whole_is}
+use Rattle.db_core.proofs.Next.{told_count}
+use Rattle.db_core.proofs.GoOn.{below_is, Ready, get_at, ready_state, items_entries, whole_is}
 
 -- the session with more room, found again
 again : (sessions : List Session) (k : ℕ) (mid x : Session) → k < length sessions → x ≡ get_or (slice_set sessions k mid) k x → x ≡ mid
@@ -93,3 +100,41 @@ last_small image first items pages sessions last all size limit d view low state
 -- one session stands at a place
 pub same_at : (xs : List Session) (i : ℕ) (a b : Session) → i < length xs → a ≡ get_or xs i a → b ≡ get_or xs i b → a ≡ b
 same_at xs i a b lt ea eb = let e : Some a ≡ Some b = sym (get_at xs i a lt ea) ∙ get_at xs i b lt eb in cc
+
+-- a session that undoes begins nothing
+undoes_first : (t : ℕ) (left : List (ℕ × Record)) (next : Option Statement) → begins_word (abort_items t left) next ≡ false
+undoes_first t [] next = refl
+undoes_first t (p ∷ left) next = refl
+
+-- a session begins its next statement where nothing is due
+at_begins : (run : Setting) (log : List Record) (s index t : ℕ) (p : Progress) (d : Doing) (next : Option Statement) → IsAt run log s index t p d → idle_word d next ≡ begins_word p.due next
+at_begins run log s index t p Idle next at = sym (ap (λ due. begins_word due next) at)
+at_begins run log s index t p (Changing change later own rows) next at = sym (ap (λ due. begins_word due next) at.0)
+at_begins run log s index t p (Ending rows) next at = sym (ap (λ due. begins_word due next) at.0)
+at_begins run log s index t p Undoing next at = sym (ap (λ due. begins_word due next) at.0 ∙ undoes_first t (left_of t (whole_log run log)) next)
+at_begins run log s index t p (Checking point snapshot place) next at = sym (ap (λ due. begins_word due next) at.0)
+
+pub begins_when : (image : Image) (first : List Session) (items : List Record) (pages : Image) (sessions : List Session) (last all size session : ℕ) (x : Session) (d : Db) → 0 < session →
+    record { run = run_of image first; log = reverse items } ≡ d → session ≤ length d.run.scripts → IsState (run_of image first) (reverse items) pages sessions last all size →
+    x ≡ get_or sessions (session - 1) x → idle_word x.doing (slice_get x.script.items (length x.replies.items)) ≡ starts_word d.run d.log session
+begins_when image first items pages sessions last all size session x d above view within state at =
+    let run = run_of image first in
+    let log = reverse items in
+    let s = session - 1 + 1 in
+    let below = below_is image first items pages sessions last all size session d above view within state in
+    let mine = state.each (session - 1) x (get_at sessions (session - 1) x below at) in
+    let place : session - 1 + 1 ≡ session = omega (arith, above) in
+    subst (λ (e : Db). idle_word x.doing (slice_get x.script.items (length x.replies.items)) ≡ starts_word e.run e.log session) view
+    (subst (λ n. idle_word x.doing (slice_get x.script.items (length x.replies.items)) ≡ starts_word run log n) place
+    (at_begins run log s (length x.replies.items + 1) x.tran (progress_of run s log) x.doing (slice_get x.script.items (length x.replies.items)) mine.doing_is
+    ∙ ap (λ n. begins_word (progress_of run s log).due (slice_get x.script.items n)) (sym (told_count run log s x mine))
+    ∙ ap (λ script. begins_word (progress_of run s log).due (slice_get script (length (progress_of run s log).told))) (sym mine.script_is)))
+
+plain_word : (word : Word) → is_word (Some (statement_of word)) ≡ true
+plain_word Begin = refl
+plain_word Commit = refl
+plain_word Rollback = refl
+
+-- the next word of an idle session
+pub is_begun : (x : Session) (word : Word) → IsNextWord word x → idle_word x.doing (slice_get x.script.items (length x.replies.items)) ≡ true
+is_begun x word next = ap (λ d. idle_word d (slice_get x.script.items (length x.replies.items))) next.idle ∙ ap is_word next.next ∙ plain_word word

@@ -1,3 +1,4 @@
 pub mod Cells
 pub mod States
 pub mod Words
+pub mod Starting

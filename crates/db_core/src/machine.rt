@@ -108,6 +108,7 @@ impl Machine {
     ghost use Rattle.spec_log.specs.Log.{greatest_of};
     ghost use Rattle.spec_run.specs.Progress.{progress_of, script_of};
     ghost use Rattle.db_core.specs.States.{TurnIn, owes_step};
+    ghost use Rattle.db_core.specs.Starting.{starts_word};
 
     /// A turn of a session that is in the middle of a statement other than a check. False where it
     /// isn't.
@@ -144,6 +145,7 @@ impl Machine {
         requires few { session < 2 ^ 16 }
         requires short { (s : ℕ) → length (script_of self.old.run.scripts s) < 2 ^ 32 }
         requires low { greatest_of self.old.log + 1 < 2 ^ 64 }
+        ensures when { IfOk result (λ went. went ≡ starts_word self.old.run self.old.log session) }
         ensures ok { IfOk result (λ went. MatchBool went (TurnIn session self.old self.new) (self.new ≡ self.old)) }
         ensures err { OnErr result (self.new ≡ self.old) }
     {

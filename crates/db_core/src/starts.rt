@@ -1,10 +1,11 @@
 //! The records of statements that need no plan: BEGIN, COMMIT, ROLLBACK, and a refusal.
-ghost use Rattle.std.specs.Prelude.{◌≡◌, ◌+◌, ◌^◌, ◌<◌, [], ◌∷◌, ◌++◌, vec_len, vec_capacity, None, Some, MatchOption, slice_get};
+ghost use Rattle.std.specs.Prelude.{◌≡◌, ◌+◌, ◌^◌, ◌<◌, [], ◌∷◌, ◌++◌, vec_len, vec_capacity, length, false, None, Some, MatchOption, slice_get};
 ghost use Rattle.spec_run.specs.Shapes.{plain_start as start_of};
 ghost use Rattle.spec_script.specs.declared.reply.Reply.TheVariants.{Done, Refused};
 ghost use Rattle.spec_plan.specs.Refusals.{plain_refusal};
 ghost use Rattle.db_core.specs.States.{Keeps};
 ghost use Rattle.db_core.specs.declared.session.Doing.TheVariants.{Idle, Ending, Undoing};
+ghost use Rattle.db_core.specs.Starting.{idle_word, is_word};
 ghost use Rattle.db_core.specs.Words.{StartsBy, IsNextWord, statement_of};
 
 use crate::session::{Doing, Session};
@@ -147,7 +148,7 @@ pub fn start(alloc: Global, session: &mut Session, place: Place, last: u64, word
 
 /// The next statement of an idle session, where it needs no plan.
 pub fn next_word(session: &Session) -> Option<Word>
-    ensures { MatchOption result (Unit {0}) (λ word. IsNextWord word session.now) }
+    ensures { MatchOption result (idle_word session.now.doing (slice_get session.now.script.items (length session.now.replies.items)) ≡ false) (λ word. IsNextWord word session.now) }
 {
     if !matches!(&session.doing, Doing::Idle) {
         return None;
@@ -157,7 +158,7 @@ pub fn next_word(session: &Session) -> Option<Word>
 
 /// The statement at a place of a script, where it needs no plan.
 fn word_at(script: &[Statement], at: usize) -> Option<Word>
-    ensures { MatchOption result (Unit {0}) (λ word. slice_get script.now at ≡ Some (statement_of word)) }
+    ensures { MatchOption result (is_word (slice_get script.now at) ≡ false) (λ word. slice_get script.now at ≡ Some (statement_of word)) }
 {
     match script.get(at) {
         Some(Statement::Begin) => Some(Word::Begin),

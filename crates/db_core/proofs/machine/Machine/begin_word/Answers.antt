@@ -1,9 +1,14 @@
-use Rattle.std.proofs.Common.{◌≡◌, ◌+◌, ◌-◌, length, max, subst, ap, ◌∙◌, arith, ◌^◌}
+use Rattle.std.proofs.Common.{◌≡◌, ◌+◌, ◌-◌, length, max, sym, subst, ap, ◌∙◌, arith, ◌^◌}
 use Rattle.db_core.specs.declared.session.Session.{Session}
 use Rattle.db_core.specs.Words.{IsNextWord}
 use Rattle.db_core.proofs.GoOn.{below_is, ready_state, turn_in}
-use Rattle.db_core.proofs.BeginWord.{ready_word, state_behind, turn_behind, index_small, last_small, same_at}
+use Rattle.db_core.proofs.BeginWord.{ready_word, state_behind, turn_behind, index_small, last_small, same_at, begins_when, is_begun}
 use Rattle.db_core.proofs.machine.Machine.begin_word.Goals as goal
+
+pub returns-in_default-clause-when : goal.returns-in_default-clause-when
+returns-in_default-clause-when c =
+    sym c.in_default.ensures ∙ begins_when c.self.inside.base.value c.self.inside.first.value.items c.self.inside.items.items c.self.inside.frames c.self.inside.sessions.items
+    c.self.inside.last c.self.inside.all c.self.inside.size c.args.session c.index.result.now c.args.self.now c.requires.above c.self.view_is c.requires.within c.self.invariant c.index.ensures
 
 pub place_of-place-requires-clause-short : goal.place_of-place-requires-clause-short
 place_of-place-requires-clause-short c =
@@ -43,6 +48,11 @@ invariant_of-self-2 c =
     c.index_mut.result.now c.reserve_step.new.session c.start-item.new.session c.start-item.result
     (record { state = c.self.invariant; below = below; at = c.index_mut.ensures.value; items_same = c.reserve_step.ensures.items; same = c.reserve_step.ensures.same })
     step c.push_item.ensures (c.greater-self-inside.ensures ∙ ap (λ t. max t c.self.inside.last) c.tran_of_item.ensures)
+
+pub returns-clause-when : goal.returns-clause-when
+returns-clause-when c =
+    sym (is_begun c.index.result.now c.in-Some.word c.in-Some.ensures) ∙ begins_when c.self.inside.base.value c.self.inside.first.value.items c.self.inside.items.items c.self.inside.frames c.self.inside.sessions.items
+    c.self.inside.last c.self.inside.all c.self.inside.size c.args.session c.index.result.now c.args.self.now c.requires.above c.self.view_is c.requires.within c.self.invariant c.index.ensures
 
 pub returns-clause-ok : goal.returns-clause-ok
 returns-clause-ok c =

@@ -6,3 +6,4 @@ pub mod Rows
 pub mod Changes
 pub mod Statements
 pub mod ReplayForm
+pub mod Shown

@@ -100,7 +100,7 @@ started run log s i u number changes size takes (inr (inr fresh)) free nothing =
 plain : (run : Setting) (log : List Record) (s i u number : ℕ) → Begins run log s u → Started run log s u (plain_start s i u number)
 plain run log s i u number begins = started run log s i u number 0 0 [] begins (λ r h. absurd (false≢true h)) (λ e. refl)
 
-plain_form : (s i u number : ℕ) → 0 < s → 0 < i → has_form (plain_start s i u number) ≡ true
+pub plain_form : (s i u number : ℕ) → 0 < s → 0 < i → has_form (plain_start s i u number) ≡ true
 plain_form s i u number hs hi = start_form s i u number 0 0 [] hs hi (omega arith) (omega arith) (omega arith)
 
 -- a statement that is one Start, refused or accepted
@@ -202,20 +202,23 @@ writing_steps run log s i u size takes changes own w st above form planned due =
         (subst (λ t. ArePlannedIn run (Start s i (record { 0 = u }) 0 (length changes) size takes ∷ log) t changes) (sym tran_is) planned)
 
 -- a check
+pub snap_form : (s i : ℕ) → 0 < s → 0 < i → has_form (Snap s i) ≡ true
+snap_form s i hs hi = and_from (ltb 0 s) (ltb 0 i) (lt-ltb 0 s hs) (lt-ltb 0 i hi)
+
+pub end_form : (s i outcome : ℕ) → 0 < s → 0 < i → outcome ≤ 3 → has_form (CheckEnd s i outcome) ≡ true
+end_form s i outcome hs hi few = and_from (ltb 0 s && ltb 0 i) (leb outcome 3) (snap_form s i hs hi) (le-leb outcome 3 few)
+
 pub snap_steps : (run : Setting) (log : List Record) (s i outcome : ℕ) (w : Progress) → 0 < s → 0 < i → outcome ≤ 3 → Opens run log s w.tran →
     w.due ≡ Snap s i ∷ CheckEnd s i outcome ∷ [] → StepsTo run log s w (Snap s i)
 snap_steps run log s i outcome w hs hi few opens due =
     let x = Snap s i in
     record {
-      form = and_from (ltb 0 s) (ltb 0 i) (lt-ltb 0 s hs) (lt-ltb 0 i hi);
+      form = snap_form s i hs hi;
       belongs = refl;
       own = inl refl;
       follows = tt;
       fits = tt;
       after = subst (IsDoing run (x ∷ log) s) (sym (moved_whole w x (CheckEnd s i outcome ∷ []) refl due))
-          (Checking i outcome refl refl (end_form outcome few, end_form 3 (omega arith))
+          (Checking i outcome refl refl (end_form s i outcome hs hi few, end_form s i 3 hs hi (omega arith))
           (elim opens [ inl e ↦ inl e | inr o ↦ inr (record { unfinished = o.0.unfinished; is_new = o.0.is_new; owner = o.0.owner }, o.1) ]));
     }
-  where
-    end_form : (n : ℕ) → n ≤ 3 → has_form (CheckEnd s i n) ≡ true
-    end_form n le = and_from (ltb 0 s && ltb 0 i) (leb n 3) (and_from (ltb 0 s) (ltb 0 i) (lt-ltb 0 s hs) (lt-ltb 0 i hi)) (le-leb n 3 le)

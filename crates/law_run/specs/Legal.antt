@@ -24,10 +24,11 @@ use Rattle.law_run.specs.Laws.{IsStart, LegalIsSound, NextBelongs}
 use Rattle.law_run.specs.Doing.{Owns, Opens, change_items, abort_items, IsDoing, Idle, Changing, Undoing, Checking, StepsTo}
 use Rattle.law_run.specs.Keeps.{other_session}
 use Rattle.law_run.specs.Steps.{IsSoundIn, change_steps, commit_steps, abort_steps, undo_steps, end_steps}
-use Rattle.law_run.specs.Good.{IsGoodPlan}
+use Rattle.law_plan.specs.Good.{IsGoodPlan}
 use Rattle.law_run.specs.Begins.{Begins, opens_begins, single_steps, committing_steps, rolling_steps, writing_steps, snap_steps}
-use Rattle.law_run.specs.Shows.{view_shape}
-use Rattle.law_run.specs.InsertGood.{insert_good, whole_shape, count_writes_nothing, IsNoWrite}
+use Rattle.law_undo.specs.Shapes.{view_shape, whole_shape}
+use Rattle.law_plan.specs.Laws.{IsNoWrite}
+use Rattle.law_plan.specs.InsertGood.{insert_good, count_writes_nothing}
 use Rattle.law_run.specs.Written.{writes_for, few_changes, is_written}
 
 some_same : (x y : Record) → Some x ≡ Some y → x ≡ y

@@ -7,12 +7,9 @@ pub mod Left
 pub mod Shows
 pub mod Moved
 pub mod Steps
-pub mod Good
 pub mod Begins
-pub mod PageChanges
-pub mod ReadingGood
-pub mod RowFits
-pub mod InsertGood
 pub mod Written
 pub mod Laws
 pub mod Legal
+pub mod Bounds
+pub mod Ongoing

@@ -21,22 +21,10 @@ use Rattle.law_undo.specs.Guards.{guard_of, atom, covered_at, follows_at, rules_
 use Rattle.law_undo.specs.Holders.{one_holder}
 use Rattle.law_undo.specs.CellAtoms.{same_cell}
 use Rattle.law_undo.specs.Views.{writer_holds}
+use Rattle.law_undo.specs.Shapes.{shape_sym}
 use Rattle.spec_plan.specs.declared.plan.Planned.{Planned}
+use Rattle.law_plan.specs.Good.{Find, HaveCells, AreCovered}
 use Rattle.law_run.specs.Others.{holds_other}
-
--- each change finds its before bytes where those before it are made
-abbrev pub Find : Image → List Planned → Type 0
-Find image [] = Unit {0}
-Find image (c ∷ cs) = (read_cell image c.cell (length c.before) ≡ c.before) × Find (put image c.cell c.after) cs
-
-abbrev pub HaveCells : List Planned → Type 0
-HaveCells [] = Unit {0}
-HaveCells (c ∷ cs) = (has_cell_form c.cell c.before c.after ≡ true) × HaveCells cs
-
--- what the transaction holds covers each change
-abbrev pub AreCovered : Geometry → ℕ → List Record → ℕ → List Planned → Type 0
-AreCovered g pages log t [] = Unit {0}
-AreCovered g pages log t (c ∷ cs) = IsCovered g pages log t c.cell (length c.after) × AreCovered g pages log t cs
 
 -- changes of transaction t that are planned over an image after a log
 pub record ArePlanned (g : Geometry) (pages : ℕ) (log : List Record) (t : ℕ) (image : Image) (changes : List Planned) : Type 0 where
@@ -48,9 +36,6 @@ pub record ArePlanned (g : Geometry) (pages : ℕ) (log : List Record) (t : ℕ)
 abbrev pub SameWhereHeld : Geometry → ℕ → List Record → ℕ → Image → Image → Type 0
 SameWhereHeld g pages log t x y =
     (p i j : ℕ) → IsInside (atom g pages p i j) x → holds log t (guard_of g pages p i j) ≡ true → read x (atom g pages p i j) ≡ read y (atom g pages p i j)
-
-pub shape_sym : (x y : Image) → SameShape x y → SameShape y x
-shape_sym x y s = record { pages = sym s.pages; bytes = λ p. sym (s.bytes p) }
 
 shape_both : (x y : Image) (cell : Cell) (bytes : List ℕ) → SameShape x y → SameShape (put x cell bytes) (put y cell bytes)
 shape_both x y cell bytes s =

@@ -10,27 +10,17 @@ use Rattle.spec_log.specs.Cells.{read_cell}
 use Rattle.spec_log.specs.Cover.{IsCovered}
 use Rattle.spec_log.specs.Images.{view_of, final_image}
 use Rattle.spec_log.specs.Sound.{IsSound, is_old}
-use Rattle.law_undo.specs.Reading.{SameShape, shape_trans, inside_shape}
-use Rattle.law_undo.specs.ReadLogs.{shape_applied}
+use Rattle.law_undo.specs.Reading.{inside_shape}
 use Rattle.law_undo.specs.Guards.{guard_of, atom, covered_at}
 use Rattle.law_undo.specs.Holders.{unfinished_parts}
 use Rattle.law_undo.specs.HolderLaws.{holders_are_one}
 use Rattle.law_undo.specs.LawAtAtom.{not_true}
 use Rattle.law_undo.specs.Law.{shows_at}
 use Rattle.law_undo.specs.Laws.{IsOngoing}
-use Rattle.law_undo.specs.Views.{sound_rules, sound_commits, shape_view}
+use Rattle.law_undo.specs.Views.{sound_rules}
 use Rattle.law_undo.specs.CellAtoms.{same_cell}
-use Rattle.law_run.specs.Plans.{SameWhereHeld, shape_sym}
-
-pub view_shape : (g : Geometry) (opened log : List Record) (b : Image) (t : ℕ) → IsSound g (length b) opened b log → SameShape b (view_of t opened log b)
-view_shape g opened log b t s = shape_view t opened log b (sound_commits g (length b) opened b log s)
-
-pub final_shape : (opened log : List Record) (b : Image) → SameShape b (final_image opened log b)
-final_shape opened log b = shape_applied (λ t. true) opened log b
-
-pub view_final_shape : (g : Geometry) (opened log : List Record) (b : Image) (t : ℕ) → IsSound g (length b) opened b log → SameShape (view_of t opened log b) (final_image opened log b)
-view_final_shape g opened log b t s =
-    shape_trans (view_of t opened log b) b (final_image opened log b) (shape_sym b (view_of t opened log b) (view_shape g opened log b t s)) (final_shape opened log b)
+use Rattle.law_undo.specs.Shapes.{shape_sym, view_shape, view_final_shape}
+use Rattle.law_run.specs.Plans.{SameWhereHeld}
 
 -- what a longer log's holder holds is free for the transaction now
 pub view_shows : (g : Geometry) (opened log : List Record) (b : Image) (t : ℕ) (longer : List Record) (u : ℕ) → IsSound g (length b) opened b log → IsOngoing opened log t →

@@ -1,30 +1,30 @@
 -- The record of a writing statement, from its plan.
-use Rattle.std.proofs.Common.{◌≡◌, ℕ, ◌+◌, ◌<◌, ◌≤◌, true, false, eqb, ltb, not, ◌||◌, List, ◌∷◌, ◌++◌, length, None, ◌⊎◌, inl, inr, refl, sym, ap, ◌∙◌, subst, arith}
-use Rattle.std.specs.Prelude.{MatchOption}
+use Rattle.std.proofs.Common.{◌≡◌, ℕ, ◌+◌, ◌<◌, ◌≤◌, true, false, eqb, ltb, not, ◌||◌, List, ◌∷◌, ◌++◌, length, ◌⊎◌, inl, inr, refl, sym, ap, ◌∙◌, subst, arith}
 use Rattle.std.specs.List.{list_any}
 use Rattle.std.proofs.lemmas.Bool.{cases_Bool, and_parts, and_from, or_left, or_right, eq-eqb, eqb-true, eqb-false, both_ways, ltb-true, ltb-false, cond_both}
 use Rattle.spec_file.specs.declared.data.Resource.{Resource}
 use Rattle.spec_log.specs.declared.item.Record.{Record}
 use Rattle.spec_log.specs.declared.item.Record.TheVariants.{Start}
 use Rattle.spec_log.specs.Items.{has_form, is_same}
-use Rattle.spec_log.specs.Log.{takes_it, has_started, has_ended, has_taken, has_undone, is_unfinished, holds, holder_of, IsFreeFor, greatest_of}
+use Rattle.spec_log.specs.Log.{takes_it, has_started, has_ended, has_taken, has_undone, is_unfinished, holds, IsFreeFor, greatest_of}
 use Rattle.spec_log.specs.Limits.{passes_limit, changes_of}
 use Rattle.spec_log.specs.Images.{view_of, final_image}
 use Rattle.spec_log.specs.Sound.{is_old}
 use Rattle.law_undo.specs.Holders.{unfinished_parts, holds_parts, holds_older}
-use Rattle.law_undo.specs.HolderLaws.{IsOther, holder_is_other, holders_are_one}
+use Rattle.law_undo.specs.HolderLaws.{none_other, holders_are_one}
 use Rattle.law_undo.specs.LawAtAtom.{not_true}
 use Rattle.law_undo.specs.Laws.{IsOngoing}
 use Rattle.law_undo.specs.Views.{sound_rules}
+use Rattle.law_undo.specs.Shapes.{view_shape, view_final_shape}
+use Rattle.law_plan.specs.Good.{AreCovered, IsGoodPlan, IsOwnOrTaken, AreCoveredBy, all_covered_by, size_bound}
 use Rattle.spec_plan.specs.declared.plan.Planned.{Planned}
 use Rattle.spec_plan.specs.Planned.{planned_size}
 use Rattle.spec_run.specs.Shapes.{tran_to_write}
 use Rattle.spec_run.specs.Begun.{Setting, sight_of}
 use Rattle.law_run.specs.Fresh.{not_started_above, none_ended}
-use Rattle.law_run.specs.Plans.{AreCovered, find_same}
+use Rattle.law_run.specs.Plans.{find_same}
 use Rattle.law_run.specs.Doing.{Owns, Opens, ArePlannedIn}
-use Rattle.law_run.specs.Good.{IsGoodPlan, IsOwnOrTaken, AreCoveredBy, all_covered_by, size_bound}
-use Rattle.law_run.specs.Shows.{view_shape, view_final_shape, view_shows}
+use Rattle.law_run.specs.Shows.{view_shows}
 use Rattle.law_run.specs.Steps.{IsSoundIn}
 use Rattle.law_run.specs.Begins.{Begins, Started, started, start_form}
 
@@ -56,9 +56,6 @@ above_zero g v r held e = both_ways (ltb 0 v) (ap (ltb 0) e) (unfinished_parts g
 writer_free : (g : List Record) (t u : ℕ) (r : Resource) → WritesFor g t u → IsFreeFor g t r → IsFreeFor g u r
 writer_free g t u r (inl w) free v held = absurd (above_zero g v r held (free v held ∙ w.0))
 writer_free g t u r (inr w) free v held = free v held ∙ sym w.1
-
-none_other : (g : List Record) (r : Resource) (t : ℕ) → holder_of g r t ≡ None → IsFreeFor g t r
-none_other g r t e = subst (λ o. MatchOption o (IsFreeFor g t r) (IsOther g r t)) e (holder_is_other g r t)
 
 pub ongoing : (run : Setting) (log : List Record) (s t : ℕ) → IsSoundIn run log → Opens run log s t → IsOngoing run.opened log t
 ongoing run log s t sound (inl none) = (

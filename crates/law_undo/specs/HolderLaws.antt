@@ -59,6 +59,10 @@ holder_is_other log r t = whole (holder_of log r t) (found log log r t)
     whole None none = λ u held. none u (taken_started log u r (holds_parts log u r held).1) held
     whole (Some u) some = some
 
+-- where the log names no other holder, the resource is free
+pub none_other : (log : List Record) (r : Resource) (t : ℕ) → holder_of log r t ≡ None → IsFreeFor log t r
+none_other log r t e = subst (λ o. MatchOption o (IsFreeFor log t r) (IsOther log r t)) e (holder_is_other log r t)
+
 takes_once : (x : Record) (t u : ℕ) (r : Resource) → takes_it t r x ≡ true → takes_it u r x ≡ true → t ≡ u
 takes_once (Start session index tran number changes size takes) t u r h k =
     sym (eqb-true tran.0 t (and_parts (eqb tran.0 t) (list_any (is_same r) takes) h).0) ∙ eqb-true tran.0 u (and_parts (eqb tran.0 u) (list_any (is_same r) takes) k).0

@@ -14,3 +14,4 @@ pub mod Unguarded
 pub mod TakenParts
 pub mod Damage
 pub mod HolderLaws
+pub mod Shapes

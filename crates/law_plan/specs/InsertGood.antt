@@ -1,8 +1,8 @@
 -- What INSERT plans may be carried out.
-use Rattle.std.proofs.Common.{◌≡◌, ℕ, zero, suc, ◌+◌, ◌-◌, ◌*◌, ◌/◌, ◌<◌, ◌≤◌, get_or, ext_get_or, append-nil, true, false, eqb, ltb, leb, not, ◌&&◌, Bool, List, [], ◌∷◌, ◌++◌, length, Some, None, inl, inr, refl, sym, ap, ◌∙◌, subst, arith}
+use Rattle.std.proofs.Common.{◌≡◌, ℕ, ◌+◌, ◌-◌, ◌*◌, ◌/◌, ◌<◌, ◌≤◌, get_or, ext_get_or, append-nil, true, false, eqb, ltb, leb, not, ◌&&◌, Bool, List, [], ◌∷◌, ◌++◌, length, None, inl, inr, refl, sym, ap, ◌∙◌, subst, arith}
 use Rattle.std.specs.Prelude.{if◌then◌else◌, IsSomeAnd, slice_range}
 use Rattle.std.specs.List.{list_any}
-use Rattle.std.proofs.lemmas.Bool.{false≢true, cases_Bool, cond_both, and_parts, and_from, or_cases, or_left, or_right, eqb-true, eq-eqb, lt-ltb, ltb-true, le-leb, both_ways}
+use Rattle.std.proofs.lemmas.Bool.{false≢true, cases_Bool, cond_both, and_parts, and_from, or_cases, or_left, or_right, eqb-true, eq-eqb, le-leb, both_ways}
 use Rattle.std.proofs.lemmas.List.{get_or-set_other}
 use Rattle.spec_file.specs.declared.data.Resource.{Resource}
 use Rattle.spec_file.specs.declared.data.Resource.TheVariants as resource
@@ -17,44 +17,27 @@ use Rattle.spec_file.specs.CatalogRows.{CatalogRow}
 use Rattle.spec_log.specs.declared.item.Cell.TheVariants.{Bytes}
 use Rattle.spec_log.specs.Items.{is_same, grain_of, number_of, has_cell_form}
 use Rattle.spec_log.specs.Cells.{HasWholePages, read_cell, put, with_bytes}
-use Rattle.spec_log.specs.Cover.{IsOfOneExtent, byte_guard, byte_guard_by, paged_at}
-use Rattle.law_undo.specs.Reading.{SameShape}
+use Rattle.spec_log.specs.Cover.{IsOfOneExtent, byte_guard, paged_at}
 use Rattle.law_cover.specs.Places.{pages_guard_bytes}
+use Rattle.law_cover.specs.Pages.{ordinary_role, pages_guard_themselves, pfs_inside}
 use Rattle.spec_chain.specs.Chains.{is_ordinary, is_for_objects}
 use Rattle.spec_chain.specs.Uses.{pfs_byte}
 use Rattle.spec_rows.specs.Slots.{slot_count}
-use Rattle.spec_plan.specs.declared.plan.Planned.{Planned}
 use Rattle.spec_plan.specs.Sight.{Sight, Outcome, Refuses, Counts, Writes}
 use Rattle.spec_file.specs.Pfs.{fullness_of}
 use Rattle.std.proofs.Math.ListN.{length-set}
 use Rattle.spec_plan.specs.Rows.{passes_page, heap_row, with_row, free_count}
 use Rattle.spec_plan.specs.Changes.{change_between, page_changes}
-use Rattle.spec_plan.specs.Statements.{with_fullness, counted, count_outcome, byte_change, not_own, row_put, inserted, insert_outcome}
-use Rattle.law_run.specs.Plans.{Find, HaveCells}
-use Rattle.law_run.specs.Good.{IsGoodPlan, IsOwnOrTaken, IsCoveredBy, AreCoveredBy}
-use Rattle.law_run.specs.PageChanges.{slice_length, slice_get, between_cells, between_covered, between_find}
-use Rattle.law_run.specs.ReadingGood.{all_heap, all_counted, all_inserted, IsChosen}
-use Rattle.law_run.specs.RowFits.{RowFits, row_fits}
+use Rattle.spec_plan.specs.Statements.{with_fullness, counted, byte_change, not_own, row_put, inserted}
+use Rattle.law_plan.specs.Good.{Find, HaveCells, IsGoodPlan, IsOwnOrTaken, IsCoveredBy, AreCoveredBy}
+use Rattle.law_plan.specs.PageChanges.{slice_length, slice_get, between_cells, between_covered, between_find}
+use Rattle.law_plan.specs.ReadingGood.{all_heap, all_counted, all_inserted, IsChosen}
+use Rattle.law_plan.specs.RowFits.{RowFits, row_fits}
+use Rattle.law_plan.specs.Laws.{InsertIsGood, IsNoWrite, CountWritesNothing}
 
--- COUNT writes nothing
-abbrev pub IsNoWrite : Outcome → Type 0
-IsNoWrite (Refuses refusal) = Unit {0}
-IsNoWrite (Counts count) = Unit {0}
-IsNoWrite (Writes takes changes) = ⊥
-
-pub count_writes_nothing : (sight : Sight) (name : List ℕ) → IsNoWrite (count_outcome sight name)
+pub count_writes_nothing : CountWritesNothing
 count_writes_nothing sight name =
     all_heap IsNoWrite sight name (λ row pages. counted sight row 0 pages) (λ refusal. tt) (λ row pages free readable. all_counted IsNoWrite sight row 0 pages (λ refusal. tt) (λ n. tt))
-
-pub whole_shape : (image other : Image) → SameShape image other → HasWholePages image → HasWholePages other
-whole_shape image other shape whole k d lt =
-    let inside : k < length image = subst (λ n. k < n) shape.pages lt in
-    default_free other k d [] lt ∙ shape.bytes k ∙ whole k [] inside
-  where
-    default_free : (xs : Image) (i : ℕ) (a b : List ℕ) → i < length xs → length (get_or xs i a) ≡ length (get_or xs i b)
-    default_free [] i a b h = absurd (omega (arith, h))
-    default_free (x ∷ xs) zero a b h = refl
-    default_free (x ∷ xs) (suc i) a b h = default_free xs i a b (omega (arith, h))
 
 -- a resource is the same as another where grain and number are
 same_resource : (r s : Resource) → is_same r s ≡ true → r ≡ s
@@ -110,7 +93,7 @@ free_rest sight [] free = tt
 free_rest sight (r ∷ rs) free =
     cond_both (not (sight.own r)) (r ∷ not_own sight rs) (not_own sight rs) (AreFree sight) (λ e. (free.0, free_rest sight rs free.1)) (λ e. free_rest sight rs free.1)
 
-few_rest : (sight : Sight) (rs : List Resource) → length (not_own sight rs) ≤ length rs
+pub few_rest : (sight : Sight) (rs : List Resource) → length (not_own sight rs) ≤ length rs
 few_rest sight [] = omega arith
 few_rest sight (r ∷ rs) =
     let ih = few_rest sight rs in
@@ -134,15 +117,6 @@ own_or_taken sight (s ∷ rs) r h = elim (cases_Bool (sight.own r)) [
 ]
 
 -- roles
-ordinary_role : (r : Role) → is_for_objects r ≡ true → r ≡ role.Ordinary
-ordinary_role role.Ordinary e = refl
-ordinary_role role.FileHeader e = absurd (false≢true e)
-ordinary_role role.Pfs e = absurd (false≢true e)
-ordinary_role role.Gam e = absurd (false≢true e)
-ordinary_role role.Sgam e = absurd (false≢true e)
-ordinary_role role.Reserved e = absurd (false≢true e)
-ordinary_role role.Boot e = absurd (false≢true e)
-
 pfs_first : (a b : Bool) (rest : Role) → b ≡ true → is_for_objects (if a then role.FileHeader else (if b then role.Pfs else rest)) ≡ false
 pfs_first true b rest e = refl
 pfs_first false true rest e = refl
@@ -167,26 +141,6 @@ one_byte_extent role.Gam p off = tt
 one_byte_extent role.Sgam p off = tt
 one_byte_extent role.Reserved p off = tt
 one_byte_extent role.Boot p off = tt
-
--- a page's own bytes are guarded by the page
-page_guard : (P : Resource → Type 0) (g : Geometry) (pages p : ℕ) → p < pages → is_ordinary g p ≡ true → P (resource.Page (record { 0 = p })) → (i : ℕ) → IsSomeAnd (byte_guard g pages p i) P
-page_guard P g pages p lt ordinary held i =
-    subst (λ b. IsSomeAnd (if b then byte_guard_by (role_of g p) g pages p i else None) P) (sym (lt-ltb p pages lt))
-    (subst (λ r. IsSomeAnd (byte_guard_by r g pages p i) P) (sym (ordinary_role (role_of g p) ordinary)) held)
-
--- a PFS byte of a page of the file stands in the file
-pfs_inside : (g : Geometry) (pages p : ℕ) → 16 ≤ pages → p < pages → (pfs_place g p).page < pages
-pfs_inside g pages p many lt = elim (cases_Bool (ltb (pfs_place g p).page pages)) [
-  | inl e ↦ ltb-true (pfs_place g p).page pages e
-  | inr e ↦
-      let none : byte_guard g pages (pfs_place g p).page (pfs_place g p).at ≡ None =
-      ap (λ b. if b then byte_guard_by (role_of g (pfs_place g p).page) g pages (pfs_place g p).page (pfs_place g p).at else None) e in
-      let some = pages_guard_bytes g pages p many lt in
-      absurd (differ (resource.Byte (record { 0 = p })) (sym none ∙ some))
-]
-  where
-    differ : (r : Resource) → None ≡ Some r → ⊥
-    differ r e = cc
 
 pfs_low : (g : Geometry) (p : ℕ) → (pfs_place g p).at + 1 ≤ 8192
 pfs_low Standard p = omega arith
@@ -259,7 +213,7 @@ page_covered : (P : Resource → Type 0) (g : Geometry) (pages p : ℕ) (old new
     AreCoveredBy P g pages (page_changes p old new (slot_count old + 1))
 page_covered P g pages p old new lt ordinary held =
     let s = 8192 - 2 * (slot_count old + 1) in
-    let guards = page_guard P g pages p lt ordinary held in
+    let guards = λ (i : ℕ). subst (λ o. IsSomeAnd o P) (sym (pages_guard_themselves g pages p i lt ordinary)) held in
     let extent = λ (off size : ℕ). one_extent_by (role_of g p) p off size (ordinary_role (role_of g p) ordinary) in
     between_covered P g pages p old new 96 s (change_between p old new s 8192 ++ change_between p old new 0 96) guards extent
     (between_covered P g pages p old new s 8192 (change_between p old new 0 96) guards extent
@@ -326,8 +280,7 @@ put_good sight row bytes p whole many table_free chosen =
     page_good_by (eqb byte (pfs_byte sight.geometry sight.view p)) sight row p byte (with_row (page sight.view p) bytes) whole many table_free chosen.inside chosen.byte_free chosen.page_free good.0
     (row_fits p row.id (page sight.view p) bytes (whole p [] chosen.inside) good.1 chosen.room)
 
-pub insert_good : (sight : Sight) (name : List ℕ) (key : ℕ) (payload : List ℕ) (takes : List Resource) (changes : List Planned) →
-    HasWholePages sight.view → 16 ≤ length sight.view → insert_outcome sight name key payload ≡ Writes takes changes → IsGoodPlan sight takes changes
+pub insert_good : InsertIsGood
 insert_good sight name key payload takes changes whole many e =
     subst (IsGoodIfWrites sight) e
     (all_heap (IsGoodIfWrites sight) sight name (λ row pages. inserted sight row (heap_row key payload) pages) (λ refusal. tt)

@@ -15,8 +15,7 @@ use Rattle.spec_log.specs.Cells.{byte_with, with_bytes, put}
 use Rattle.spec_log.specs.Cover.{IsOfOneExtent, byte_guard}
 use Rattle.spec_plan.specs.declared.plan.Planned.{Planned}
 use Rattle.spec_plan.specs.Changes.{differing, last_of, change_over, change_between}
-use Rattle.law_run.specs.Plans.{Find, HaveCells}
-use Rattle.law_run.specs.Good.{AreCoveredBy}
+use Rattle.law_plan.specs.Good.{Find, HaveCells, AreCoveredBy}
 
 -- parts of lists
 pub slice_length : (xs : List ℕ) (i j : ℕ) → j ≤ length xs → length (slice_range xs i j) ≡ j - i

@@ -7,18 +7,33 @@ use Rattle.std.proofs.lemmas.Bool.{and_parts, leb-true, eqb-true}
 use Rattle.std.proofs.lemmas.List.Sums.{sum_by-cons}
 use Rattle.spec_file.specs.declared.data.Resource.{Resource}
 use Rattle.spec_file.specs.declared.geometry.Geometry.{Geometry}
+use Rattle.spec_file.specs.Image.{Image}
 use Rattle.spec_file.specs.Roles.{role_of}
 use Rattle.spec_log.specs.declared.item.Cell.{Cell}
 use Rattle.spec_log.specs.declared.item.Cell.TheVariants.{Bytes, Bit}
 use Rattle.spec_log.specs.declared.item.Record.{Record}
 use Rattle.spec_log.specs.Items.{is_same, has_cell_form}
+use Rattle.spec_log.specs.Cells.{read_cell, put}
 use Rattle.spec_log.specs.Log.{holds}
 use Rattle.spec_log.specs.Bytes.{change_length}
 use Rattle.spec_log.specs.Cover.{IsCovered, IsOfOneExtent, byte_guard, bit_guard, HoldsGuard}
 use Rattle.spec_plan.specs.declared.plan.Planned.{Planned}
 use Rattle.spec_plan.specs.Planned.{planned_size}
 use Rattle.spec_plan.specs.Sight.{Sight}
-use Rattle.law_run.specs.Plans.{Find, HaveCells, AreCovered}
+
+-- each change finds its before bytes where those before it are made
+abbrev pub Find : Image → List Planned → Type 0
+Find image [] = Unit {0}
+Find image (c ∷ cs) = (read_cell image c.cell (length c.before) ≡ c.before) × Find (put image c.cell c.after) cs
+
+abbrev pub HaveCells : List Planned → Type 0
+HaveCells [] = Unit {0}
+HaveCells (c ∷ cs) = (has_cell_form c.cell c.before c.after ≡ true) × HaveCells cs
+
+-- what the transaction holds covers each change
+abbrev pub AreCovered : Geometry → ℕ → List Record → ℕ → List Planned → Type 0
+AreCovered g pages log t [] = Unit {0}
+AreCovered g pages log t (c ∷ cs) = IsCovered g pages log t c.cell (length c.after) × AreCovered g pages log t cs
 
 -- each guard of the cell is one that fits
 abbrev pub IsCoveredBy : (Resource → Type 0) → Geometry → ℕ → Cell → ℕ → Type 0

@@ -1,0 +1,6 @@
+use Rattle.law_plan.specs.InsertGood.{insert_good, count_writes_nothing}
+use Rattle.law_plan.specs.InsertShort.{insert_is_short}
+use Rattle.law_plan.proofs.plan_laws.Goals as goal
+
+pub returns : goal.returns
+returns c = record { insert = insert_good; short = insert_is_short; count = count_writes_nothing }

@@ -1,0 +1,5 @@
+use Rattle.law_run.specs.Bounds.{begun_is_bounded}
+use Rattle.law_run.proofs.begun_law.Goals as goal
+
+pub returns : goal.returns
+returns c = begun_is_bounded

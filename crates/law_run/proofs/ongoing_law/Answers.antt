@@ -1,0 +1,5 @@
+use Rattle.law_run.specs.Ongoing.{unfinished_is_open}
+use Rattle.law_run.proofs.ongoing_law.Goals as goal
+
+pub returns : goal.returns
+returns c = unfinished_is_open

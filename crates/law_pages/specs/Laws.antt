@@ -1,0 +1,46 @@
+-- What a statement may take from the file and from the sessions, in place of the log's images and holders.
+use Rattle.std.specs.Prelude.{◌≡◌, ◌≢◌, ◌≤◌, ◌↔◌, ◌==◌, ◌&&◌, not, MatchOption, ℕ, Bool, true, List, length, Contains, find, Option, Some, option_map}
+use Rattle.spec_file.specs.declared.data.Resource.{Resource}
+use Rattle.spec_file.specs.declared.geometry.Geometry.{Geometry}
+use Rattle.spec_log.specs.declared.item.Record.{Record}
+use Rattle.spec_log.specs.Log.{is_unfinished, holds, holder_of}
+use Rattle.spec_log.specs.Cells.{HasWholePages}
+use Rattle.spec_log.specs.Images.{final_image}
+use Rattle.spec_log.specs.Rules.{KeepsRules}
+use Rattle.spec_log.specs.Sound.{IsSound}
+use Rattle.law_undo.specs.Laws.{IsOngoing}
+use Rattle.spec_plan.specs.Shown.{IsShown}
+use Rattle.spec_run.specs.Begun.{Setting, sight_of}
+
+-- the file as it stands shows a transaction that hasn't ended its view, page by page
+abbrev pub FileIsShown : Type 0
+FileIsShown = (run : Setting) (log : List Record) (t : ℕ) → IsSound run.geometry (length run.image) run.opened run.image log →
+    HasWholePages run.image → 16 ≤ length run.image → IsOngoing run.opened log t →
+    IsShown (sight_of run log t) (final_image run.opened log run.image)
+
+-- the log names u beside t exactly where u isn't t and holds the resource
+abbrev pub HolderIsExact : Type 0
+HolderIsExact = (g : Geometry) (pages : ℕ) (log : List Record) (r : Resource) (t u : ℕ) → KeepsRules g pages log →
+    (holder_of log r t ≡ Some u) ↔ ((u ≢ t) × (holds log u r ≡ true))
+
+-- a list, as that of the sessions, has every unfinished transaction of the log, and tells exactly what the
+-- transactions in it hold; 0, which stands for none, may be in it and holds nothing
+pub record ListsHolders {A : Type 0} (log : List Record) (tran : A → ℕ) (held : A → Resource → Bool) (xs : List A) : Type 0 where
+  pub exact : (x : A) → Contains xs x → (r : Resource) → held x r ≡ holds log (tran x) r
+  pub whole : (u : ℕ) → is_unfinished log u ≡ true → (x : A) × Contains xs x × (tran x ≡ u)
+
+-- one that isn't t and holds the resource is in the list, or there is none
+abbrev pub IsHolderAmong : {A : Type 0} → (A → ℕ) → (A → Resource → Bool) → List A → Resource → ℕ → Option ℕ → Type 0
+IsHolderAmong {A = A} tran held xs r t found =
+    MatchOption found ((x : A) → Contains xs x → held x r ≡ true → tran x ≡ t)
+    (λ u. (x : A) × Contains xs x × (tran x ≡ u) × (u ≢ t) × (held x r ≡ true))
+
+-- such a search finds whom the log names
+abbrev pub HolderIsSession : Type 0 → Type 0
+HolderIsSession A = (g : Geometry) (pages : ℕ) (log : List Record) (tran : A → ℕ) (held : A → Resource → Bool) (xs : List A) (r : Resource) (t : ℕ) (found : Option ℕ) →
+    KeepsRules g pages log → ListsHolders log tran held xs → IsHolderAmong tran held xs r t found → holder_of log r t ≡ found
+
+-- the first in the list that isn't t and holds the resource is found by such a search
+abbrev pub FirstIsAmong : Type 0 → Type 0
+FirstIsAmong A = (tran : A → ℕ) (held : A → Resource → Bool) (xs : List A) (r : Resource) (t : ℕ) →
+    IsHolderAmong tran held xs r t (option_map tran (find (λ x. held x r && not (tran x == t)) xs))

@@ -1,0 +1,22 @@
+//! Laws of what a statement reads: the pages of the file, and the locks of sessions.
+#![tactic(auto)]
+
+ghost use Rattle.law_pages.specs.Laws.{FileIsShown, HolderIsExact, HolderIsSession, FirstIsAmong};
+
+/// Wherever nobody else holds what guards a page or a PFS byte, the file has there what a transaction that
+/// hasn't ended sees.
+pub fn shown_law()
+    ensures { FileIsShown }
+{}
+
+/// The log names another holder exactly where one holds the resource.
+pub fn holder_law()
+    ensures { HolderIsExact }
+{}
+
+/// A search through whatever lists the unfinished transactions with what they hold, as the sessions do,
+/// finds whom the log names; to take the first such is such a search.
+pub fn session_laws<A>()
+    ensures session { HolderIsSession A }
+    ensures first { FirstIsAmong A }
+{}

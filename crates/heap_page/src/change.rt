@@ -1,0 +1,108 @@
+// The changes from one state of a page to another.
+ghost use Rattle.std.specs.Prelude.{◌≡◌, ◌++◌, ◌<◌, ◌≤◌, IfOk, OnOk};
+ghost use Rattle.spec_plan.specs.Changes as spec;
+ghost use Rattle.heap_page.specs.Spans.{changes_of_byte};
+
+use crate::span::{Span, differing_span};
+use pg_base::{NoMemory, Page, PageNo};
+use spec_log::{Cell, Values};
+use spec_plan::Planned;
+use std::alloc::Global;
+
+/// The net changes of page p: rows, slots, header, each from the first to the last byte that differs.
+pub fn page_changes(
+    alloc: Global,
+    p: PageNo,
+    old: &Page,
+    new: &Page,
+    slots: u16,
+) -> Result<Vec<Planned>, NoMemory>
+    requires { slots ≤ 4048 }
+    ensures { IfOk result (λ changes. changes.items ≡ spec.page_changes p.0 old.now.bytes new.now.bytes slots) }
+{
+    with_page_changes(alloc, Vec::with_capacity(alloc, 3)?, p, old, new, slots)
+}
+
+/// Changes, and behind them the net changes of page p.
+pub fn with_page_changes(
+    alloc: Global,
+    mut changes: Vec<Planned>,
+    p: PageNo,
+    old: &Page,
+    new: &Page,
+    slots: u16,
+) -> Result<Vec<Planned>, NoMemory>
+    requires { slots ≤ 4048 }
+    ensures { IfOk result (λ all. all.items ≡ changes.items ++ spec.page_changes p.0 old.now.bytes new.now.bytes slots) }
+{
+    let slots_from = 8192 - 2 * slots as usize;
+    add_change(alloc, &mut changes, p, old, new, 96, slots_from)?;
+    add_change(alloc, &mut changes, p, old, new, slots_from, 8192)?;
+    add_change(alloc, &mut changes, p, old, new, 0, 96)?;
+    Ok(changes)
+}
+
+// Adds the change of one part of a page, where any of its bytes differs.
+fn add_change(
+    alloc: Global,
+    changes: &mut Vec<Planned>,
+    p: PageNo,
+    old: &Page,
+    new: &Page,
+    lo: usize,
+    hi: usize,
+) -> Result<(), NoMemory>
+    requires order { lo ≤ hi }
+    requires end { hi ≤ 8192 }
+    ensures { OnOk result (changes.new.items ≡ changes.old.items ++ spec.change_between p.0 old.now.bytes new.now.bytes lo hi) }
+{
+    if let Some(span) = differing_span(old, new, lo, hi) {
+        let change = bytes_change(alloc, p, old, new, span)?;
+        changes.push(change)?;
+    }
+    Ok(())
+}
+
+// The change of these bytes of a page.
+fn bytes_change(
+    alloc: Global,
+    p: PageNo,
+    old: &Page,
+    new: &Page,
+    span: Span,
+) -> Result<Planned, NoMemory>
+    requires order { span.from ≤ span.to }
+    requires end { span.to ≤ 8192 }
+    ensures { IfOk result (λ change. change ≡ spec.bytes_change p.0 old.now.bytes new.now.bytes span.from span.to) }
+{
+    Ok(Planned {
+        cell: Cell::Bytes {
+            page: p,
+            off: span.from as u32,
+        },
+        before: Values::copied(alloc, &old.bytes[span.from..span.to])?,
+        after: Values::copied(alloc, &new.bytes[span.from..span.to])?,
+    })
+}
+
+/// The change of one byte, as that of a page in its PFS page, where it changes; with room for the
+/// changes of a page behind it.
+pub fn byte_change(
+    alloc: Global,
+    page: PageNo,
+    at: u32,
+    before: u8,
+    after: u8,
+) -> Result<Vec<Planned>, NoMemory>
+    ensures { IfOk result (λ changes. changes.items ≡ changes_of_byte page.0 at before after) }
+{
+    let mut changes = Vec::with_capacity(alloc, 4)?;
+    if after != before {
+        changes.push(Planned {
+            cell: Cell::Bytes { page, off: at },
+            before: Values::copied(alloc, &[before])?,
+            after: Values::copied(alloc, &[after])?,
+        })?;
+    }
+    Ok(changes)
+}

@@ -1,0 +1,13 @@
+//! One page of a heap as a plan sees it: its test, the room on it, a row more behind its last, and the
+//! changes from one state of it to another.
+#![tactic(auto)]
+
+mod change;
+mod page;
+mod span;
+
+pub use change::{byte_change, page_changes, with_page_changes};
+pub use page::{has_room, heap_row, is_heap_page, put_row};
+
+#[cfg(test)]
+mod tests;

@@ -1,0 +1,4 @@
+pub mod Lists
+pub mod Seen
+pub mod ChainSteps
+pub mod Inserting

@@ -1,0 +1,6 @@
+pub mod Sizes
+pub mod Reads
+pub mod ReadsLaws
+pub mod Heaps
+pub mod Plans
+pub mod Inserts

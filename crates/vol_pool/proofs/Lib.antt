@@ -1,0 +1,4 @@
+pub mod Puts
+pub mod Filled
+pub mod Written
+pub mod Marked

@@ -1,0 +1,4 @@
+pub mod Cells
+pub mod Reading
+pub mod Writing
+pub mod Changed

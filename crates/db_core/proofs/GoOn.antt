@@ -1,147 +1,92 @@
--- A turn of a session that is in the middle of a statement.
-use Rattle.std.proofs.Common.{◌≡◌, ℕ, zero, suc, ◌+◌, ◌-◌, ◌<◌, ◌≤◌, Bool, true, max, get_or, List, [], ◌∷◌, ◌++◌, length, reverse, Some, refl, sym, ap, ◌∙◌, subst, arith, append-nil}
-use Rattle.std.specs.Prelude.{slice_get, slice_set}
-use Rattle.std.proofs.Math.ListN.{length-set}
-use Rattle.std.proofs.lemmas.List.{reverse-append, length-reverse}
+-- A turn of a session that is in the middle of a statement other than a check.
+use Rattle.std.proofs.Common.{◌≡◌, ℕ, ◌+◌, ◌-◌, ◌<◌, ◌≤◌, false, List, [], ◌∷◌, ◌++◌, length, reverse, Some, refl, sym, ap, ◌∙◌, subst, arith, vec_len, vec_capacity}
+use Rattle.std.specs.Prelude.{slice_get}
+use Rattle.std.proofs.lemmas.List.{length-reverse}
 use Rattle.spec_file.specs.Image.{Image}
 use Rattle.spec_log.specs.declared.item.Record.{Record}
-use Rattle.spec_log.specs.Items.{tran_of}
-use Rattle.spec_log.specs.Log.{left_of}
-use Rattle.spec_run.specs.Entries.{Entry, Item, items_of}
-use Rattle.spec_run.specs.Begun.{Setting}
-use Rattle.spec_run.specs.Progress.{Progress, progress_of, work_of, MayCome}
-use Rattle.spec_run.specs.Turns.{Turn, Appends}
-use Rattle.law_run.specs.Doing.{abort_items}
-use Rattle.db_core.specs.declared.session.Doing.{Doing}
-use Rattle.db_core.specs.declared.session.Doing.TheVariants.{Idle, Changing, Ending, Undoing, Checking}
 use Rattle.db_core.specs.declared.session.Session.{Session}
-use Rattle.db_core.specs.States.{Db, whole_log, entries_of, run_of, IsAt, IsState, IsSame, MayStep, StepsBy, is_under_way, owes_step}
-use Rattle.db_core.proofs.Room.{room_state}
-use Rattle.db_core.proofs.Stepped.{reverse_back, may_step, IsStepped, stepped, stepped_state}
-
-pub get_at : (xs : List Session) (i : ℕ) (x : Session) → i < length xs → x ≡ get_or xs i x → slice_get xs i ≡ Some x
-get_at [] i x lt e = absurd (omega (arith, lt))
-get_at (y ∷ xs) zero x lt e = ap Some (sym e)
-get_at (y ∷ xs) (suc i) x lt e = get_at xs i x (omega (arith, lt)) e
-
--- the items of the entries
-pub items_entries : (log : List Record) → items_of (entries_of log) ≡ log
-items_entries [] = refl
-items_entries (x ∷ log) = ap (λ l. x ∷ l) (items_entries log)
+use Rattle.db_core.specs.declared.state.State.{State}
+use Rattle.db_core.specs.Rooms.{owed_by, HasOwnRoom, turns_left}
+use Rattle.db_core.specs.States.{whole_log, MayStep, StepsBy}
+use Rattle.db_core.specs.Store.{run_is, log_of, is_snap, IsGood, IsSettled, IsNearer, Went}
+use Rattle.db_core.proofs.Good.{get_put, get_same, part_of_sum, whole_is, log_more, IsMid, IsStep, stepped_good, stepped_turn}
+use Rattle.db_core.proofs.RoomSteps.{Lighter}
+use Rattle.db_core.proofs.Stepped.{reverse_back, may_step, stepped}
 
 reverse_twice : (items : List Record) → reverse (reverse items) ≡ items
 reverse_twice items = sym (reverse_back items (reverse items) refl)
 
--- what a core's log is, beside an empty log as it was found
-pub whole_is : (image : Image) (first : List Session) (items : List Record) → whole_log (run_of image first) (reverse items) ≡ reverse items
-whole_is image first items = append-nil (reverse items)
+pub items_are : (st : State) → reverse (whole_log (run_is st) (log_of st)) ≡ st.items.items
+items_are st = ap reverse (whole_is st) ∙ reverse_twice st.items.items
 
-items_are : (image : Image) (first : List Session) (items : List Record) → reverse (whole_log (run_of image first) (reverse items)) ≡ items
-items_are image first items = ap reverse (whole_is image first items) ∙ reverse_twice items
+pub count_is : (st : State) → length (whole_log (run_is st) (log_of st)) ≡ length st.items.items
+count_is st = ap length (whole_is st) ∙ length-reverse st.items.items
 
--- the state as it is, with room for one item more in session k
-pub record Ready (image : Image) (first : List Session) (items now : List Record) (pages : Image) (sessions : List Session) (last all size k : ℕ) (old mid : Session) : Type 0 where
-  pub state : IsState (run_of image first) (reverse items) pages sessions last all size
-  pub below : k < length sessions
-  pub at : old ≡ get_or sessions k old
-  pub items_same : now ≡ items
-  pub same : IsSame old mid
+pub good_may : (st : State) (k : ℕ) (x : Session) → IsGood st → slice_get st.sessions.items k ≡ Some x → MayStep st.frames st.items.items x x.doing
+good_may st k x good here =
+    subst (λ is. MayStep st.frames is x x.doing) (items_are st)
+    (may_step (run_is st) (log_of st) st.frames st.sessions.items st.last st.all st.size k x good.state here)
 
-pub ready_state : (image : Image) (first : List Session) (items now : List Record) (pages : Image) (sessions : List Session) (last all size k : ℕ) (old mid : Session) →
-    Ready image first items now pages sessions last all size k old mid → IsState (run_of image first) (reverse now) pages (slice_set sessions k mid) last all size
-ready_state image first items now pages sessions last all size k old mid r =
-    subst (λ is. IsState (run_of image first) (reverse is) pages (slice_set sessions k mid) last all size) (sym r.items_same)
-    (room_state (run_of image first) (reverse items) pages sessions last all size k old mid r.state (get_at sessions k old r.below r.at) r.same)
+pub good_step : (st : State) (k number : ℕ) (x y : Session) (after : Image) (item : Record) → IsGood st → slice_get st.sessions.items k ≡ Some x → number ≡ length st.items.items + 1 →
+    StepsBy number st.items.items x y st.frames after item x.doing → IsStep (run_is st) (log_of st) (k + 1) y st.frames after item st.all st.size
+good_step st k number x y after item good here count st_by =
+    let run = run_is st in
+    let log = log_of st in
+    let size = count_is st in
+    let s = stepped run log (k + 1) number x y st.frames after item good.state.start good.state.legal (omega arith) (good.state.each k x here) (omega (arith, count, size)) x.doing refl
+    (subst (λ is. MayStep st.frames is x x.doing) (sym (items_are st)) (good_may st k x good here))
+    (subst (λ is. StepsBy number is x y st.frames after item x.doing) (sym (items_are st)) st_by) in
+    record {
+      comes = s.comes;
+      mine = s.mine;
+      pages_are = s.pages_are;
+      all_is = good.state.all_is ∙ sym s.all_same;
+      size_is = good.state.size_is ∙ sym s.size_same;
+    }
 
--- the session that is found at its place again
-found_again : (image : Image) (first : List Session) (items now : List Record) (pages : Image) (sessions : List Session) (last all size k : ℕ) (old mid x : Session) →
-    Ready image first items now pages sessions last all size k old mid → x ≡ get_or (slice_set sessions k mid) k x → slice_get (slice_set sessions k mid) k ≡ Some x
-found_again image first items now pages sessions last all size k old mid x r e =
-    get_at (slice_set sessions k mid) k x (subst (λ n. k < n) (sym (length-set sessions k mid)) r.below) e
+-- there is room for an item of a session that owes room
+pub room_for : (st : State) (k : ℕ) (x : Session) → IsGood st → slice_get st.sessions.items k ≡ Some x → 0 < owed_by x → vec_len st.items < vec_capacity st.items
+room_for st k x good here some =
+    let part = part_of_sum owed_by st.sessions.items k x here in
+    let owed = good.owed_is in
+    let room = good.room in
+    omega (arith, some, part, owed, room)
 
-pub ready_may : (image : Image) (first : List Session) (items now : List Record) (pages : Image) (sessions : List Session) (last all size k : ℕ) (old mid x : Session) →
-    Ready image first items now pages sessions last all size k old mid → x ≡ get_or (slice_set sessions k mid) k x → MayStep pages now x x.doing
-ready_may image first items now pages sessions last all size k old mid x r e =
-    subst (λ is. MayStep pages is x x.doing) (items_are image first now)
-    (may_step (run_of image first) (reverse now) pages (slice_set sessions k mid) last all size k x (ready_state image first items now pages sessions last all size k old mid r)
-    (found_again image first items now pages sessions last all size k old mid x r e))
+-- the room that is left behind a step that takes none
+pub room_behind : (st : State) (k : ℕ) (x y : Session) → IsGood st → slice_get st.sessions.items k ≡ Some x → owed_by y + 1 ≤ owed_by x → vec_len st.items + 1 + (st.owed - owed_by x + owed_by y) ≤ vec_capacity st.items
+room_behind st k x y good here less =
+    let part = part_of_sum owed_by st.sessions.items k x here in
+    let owed = good.owed_is in
+    let room = good.room in
+    omega (arith, less, part, owed, room)
 
--- the step of the session
-pub ready_step : (image : Image) (first : List Session) (items now : List Record) (pages after : Image) (sessions : List Session) (last all size k number : ℕ) (old mid x new : Session) (item : Record) →
-    Ready image first items now pages sessions last all size k old mid → x ≡ get_or (slice_set sessions k mid) k x → number ≡ length now + 1 →
-    StepsBy number now x new pages after item x.doing → IsStepped (run_of image first) (reverse now) (k + 1) new pages after item
-ready_step image first items now pages after sessions last all size k number old mid x new item r e count st =
-    let run = run_of image first in
-    let state = ready_state image first items now pages sessions last all size k old mid r in
-    let here = found_again image first items now pages sessions last all size k old mid x r e in
-    let size_is : length (whole_log run (reverse now)) ≡ length now = ap length (whole_is image first now) ∙ length-reverse now in
-    stepped run (reverse now) (k + 1) number x new pages after item state.start state.legal (omega arith) (state.each k x here) (omega (arith, count, size_is)) x.doing refl
-    (subst (λ is. MayStep pages is x x.doing) (sym (items_are image first now)) (ready_may image first items now pages sessions last all size k old mid x r e))
-    (subst (λ is. StepsBy number is x new pages after item x.doing) (sym (items_are image first now)) st)
+-- a step without memory, which appends one item that isn't a Snap
+pub went : (old mid new : State) (k before : ℕ) (x y : Session) (after : Image) (item : Record) → IsGood old → slice_get old.sessions.items k ≡ Some x → IsMid k y after old mid →
+    mid.items ≡ old.items → mid.all ≡ old.all → mid.size ≡ old.size →
+    IsStep (run_is old) (log_of old) (k + 1) y old.frames after item old.all old.size → HasOwnRoom y → owed_by y + 1 ≤ owed_by x → is_snap item ≡ false → before ≡ owed_by x → IsSettled k before item y mid new → Went k old new
+went old mid new k before x y after item good here is_mid same_items same_all same_size step own less silent owed set = record {
+  good = stepped_good old mid new k x y after item good here is_mid
+      (subst (λ n. IsStep (run_is old) (log_of old) (k + 1) y old.frames after item n mid.size) (sym same_all)
+      (subst (IsStep (run_is old) (log_of old) (k + 1) y old.frames after item old.all) (sym same_size) step))
+      (subst (λ n. n ≤ 524288) (sym same_all) good.all_low) (subst (λ n. n ≤ 268435456) (sym same_size) good.size_low)
+      (subst (λ n. IsSettled k n item y mid new) owed set) own
+      (subst (λ v. vec_len old.items + 1 + (old.owed - owed_by x + owed_by y) ≤ vec_capacity v) (sym same_items) (room_behind old k x y good here less));
+  turn = stepped_turn old mid new k x y after item is_mid step.comes (subst (λ n. IsSettled k n item y mid new) owed set);
+  item = item;
+  appended = log_more old new item (set.items ∙ ap (λ is. is ++ item ∷ []) is_mid.items);
+  silent = silent;
+}
 
-pub done_state : (image : Image) (first : List Session) (items now later : List Record) (pages after : Image) (sessions : List Session) (last last_now all size k number : ℕ) (old mid x new : Session) (item : Record) →
-    Ready image first items now pages sessions last all size k old mid → x ≡ get_or (slice_set sessions k mid) k x → number ≡ length now + 1 →
-    StepsBy number now x new pages after item x.doing → later ≡ now ++ item ∷ [] → last_now ≡ max (tran_of item) last →
-    IsState (run_of image first) (reverse later) after (slice_set (slice_set sessions k mid) k new) last_now all size
-done_state image first items now later pages after sessions last last_now all size k number old mid x new item r e count st pushed last_is =
-    let run = run_of image first in
-    let state = ready_state image first items now pages sessions last all size k old mid r in
-    let step = ready_step image first items now pages after sessions last all size k number old mid x new item r e count st in
-    let lt : k < length run.scripts = subst (λ n. k < n) r.state.few r.below in
-    subst (λ l. IsState run l after (slice_set (slice_set sessions k mid) k new) last_now all size) (sym (ap reverse pushed ∙ reverse-append now (item ∷ [])))
-    (subst (λ n. IsState run (item ∷ reverse now) after (slice_set (slice_set sessions k mid) k new) n all size) (sym last_is)
-    (stepped_state run (reverse now) pages after (slice_set sessions k mid) last all size k item new state lt step))
+pub nearer_by : (old mid new : State) (k before : ℕ) (x y : Session) (after : Image) (item : Record) → k < length old.sessions.items → slice_get old.sessions.items k ≡ Some x → IsMid k y after old mid →
+    turns_left y y.doing < turns_left x x.doing → IsSettled k before item y mid new → IsNearer k old new
+nearer_by old mid new k before x y after item below here is_mid less set a b ea eb =
+    let same_x = get_same old.sessions.items k x a here ea in
+    let same_y = get_same new.sessions.items k y b (ap (λ ss. slice_get ss k) (set.sessions ∙ is_mid.sessions) ∙ get_put old.sessions.items k y below) eb in
+    subst (λ z. turns_left b b.doing < turns_left z z.doing) same_x (subst (λ z. turns_left z z.doing < turns_left x x.doing) same_y less)
 
-pub done_turn : (image : Image) (first : List Session) (items now later : List Record) (pages after : Image) (sessions : List Session) (last all size k number : ℕ) (old mid x new : Session) (item : Record) →
-    Ready image first items now pages sessions last all size k old mid → x ≡ get_or (slice_set sessions k mid) k x → number ≡ length now + 1 →
-    StepsBy number now x new pages after item x.doing → later ≡ now ++ item ∷ [] →
-    Turn (run_of image first) (k + 1) (entries_of (reverse items)) (entries_of (reverse later))
-done_turn image first items now later pages after sessions last all size k number old mid x new item r e count st pushed =
-    let run = run_of image first in
-    let step = ready_step image first items now pages after sessions last all size k number old mid x new item r e count st in
-    let log : reverse now ≡ reverse items = ap reverse r.items_same in
-    Appends item
-    (subst (λ l. MayCome (work_of run (k + 1) l) item) (log ∙ sym (items_entries (reverse items))) step.comes)
-    (ap entries_of (ap reverse pushed ∙ reverse-append now (item ∷ [])) ∙ ap (λ l. Item item ∷ entries_of l) log)
-
--- what contracts see of the core, and the fields behind it
-pub below_is : (image : Image) (first : List Session) (items : List Record) (pages : Image) (sessions : List Session) (last all size session : ℕ) (d : Db) → 0 < session →
-    record { run = run_of image first; log = reverse items } ≡ d → session ≤ length d.run.scripts → IsState (run_of image first) (reverse items) pages sessions last all size →
-    session - 1 < length sessions
-below_is image first items pages sessions last all size session d above view within state =
-    let w : session ≤ length (run_of image first).scripts = subst (λ (e : Db). session ≤ length e.run.scripts) (sym view) within in
-    let few = state.few in
-    omega (arith, above, w, few)
-
-pub turn_in : (image : Image) (first : List Session) (items : List Record) (session : ℕ) (d : Db) (new : List Entry) → 0 < session → record { run = run_of image first; log = reverse items } ≡ d →
-    Turn (run_of image first) (session - 1 + 1) (entries_of (reverse items)) new → (run_of image first ≡ d.run) × Turn d.run session (entries_of d.log) new
-turn_in image first items session d new above view turn =
-    let place : session - 1 + 1 ≡ session = omega (arith, above) in
-    subst (λ (e : Db). (run_of image first ≡ e.run) × Turn e.run session (entries_of e.log) new) view
-    (refl, subst (λ s. Turn (run_of image first) s (entries_of (reverse items)) new) place turn)
-
--- a session that undoes owes an Undo or the Abort
-undo_owed : (t : ℕ) (left : List (ℕ × Record)) → owes_step (abort_items t left) ≡ true
-undo_owed t [] = refl
-undo_owed t (p ∷ left) = refl
-
--- a session is in the middle of a statement that isn't a check where the items that it owes say so
-at_owes : (run : Setting) (log : List Record) (s index t : ℕ) (p : Progress) (d : Doing) → IsAt run log s index t p d → is_under_way d ≡ owes_step p.due
-at_owes run log s index t p Idle at = sym (ap owes_step at)
-at_owes run log s index t p (Changing next later own rows) at = sym (ap owes_step at.0)
-at_owes run log s index t p (Ending rows) at = sym (ap owes_step at.0)
-at_owes run log s index t p Undoing at = sym (ap owes_step at.0 ∙ undo_owed t (left_of t (whole_log run log)))
-at_owes run log s index t p (Checking point snapshot place) at = sym (ap owes_step at.0)
-
-pub goes_when : (image : Image) (first : List Session) (items : List Record) (pages : Image) (sessions : List Session) (last all size session : ℕ) (x : Session) (d : Db) → 0 < session →
-    record { run = run_of image first; log = reverse items } ≡ d → session ≤ length d.run.scripts → IsState (run_of image first) (reverse items) pages sessions last all size →
-    x ≡ get_or sessions (session - 1) x → is_under_way x.doing ≡ owes_step (progress_of d.run session d.log).due
-goes_when image first items pages sessions last all size session x d above view within state at =
-    let run = run_of image first in
-    let log = reverse items in
-    let below = below_is image first items pages sessions last all size session d above view within state in
-    let mine = state.each (session - 1) x (get_at sessions (session - 1) x below at) in
-    let place : session - 1 + 1 ≡ session = omega (arith, above) in
-    subst (λ (e : Db). is_under_way x.doing ≡ owes_step (progress_of e.run session e.log).due) view
-    (subst (λ s. is_under_way x.doing ≡ owes_step (progress_of run s log).due) place
-    (at_owes run log (session - 1 + 1) (length x.replies.items + 1) x.tran (progress_of run (session - 1 + 1) log) x.doing mine.doing_is))
+pub nearer : (old mid new : State) (k before : ℕ) (x y : Session) (after : Image) (item : Record) → k < length old.sessions.items → slice_get old.sessions.items k ≡ Some x → IsMid k y after old mid →
+    Lighter x y → IsSettled k before item y mid new → IsNearer k old new
+nearer old mid new k before x y after item below here is_mid light set a b ea eb =
+    let same_x = get_same old.sessions.items k x a here ea in
+    let same_y = get_same new.sessions.items k y b (ap (λ ss. slice_get ss k) (set.sessions ∙ is_mid.sessions) ∙ get_put old.sessions.items k y below) eb in
+    subst (λ z. turns_left b b.doing < turns_left z z.doing) same_x (subst (λ z. turns_left z z.doing < turns_left x x.doing) same_y light.nearer)

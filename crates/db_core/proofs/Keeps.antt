@@ -22,8 +22,9 @@ use Rattle.law_run.specs.Keeps.{apart, progress_other}
 use Rattle.law_run.specs.Legal.{IsRight, legal_right, comes_steps, doing_opens}
 use Rattle.db_core.specs.declared.session.Doing.{Doing}
 use Rattle.db_core.specs.declared.session.Doing.TheVariants.{Idle, Changing, Ending, Undoing, Checking}
+use Rattle.db_core.specs.declared.session.Check.{Check}
 use Rattle.db_core.specs.declared.session.Session.{Session}
-use Rattle.db_core.specs.States.{whole_log, IsSnapshot, IsAt, IsOpen, IsSession, IsState}
+use Rattle.db_core.specs.States.{whole_log, items_before, IsSnapshot, IsAt, IsOpen, IsSession, IsState}
 
 -- what the law says of an item that may come
 pub steps_of : (run : Setting) (log : List Record) (s : ℕ) (x : Record) → IsStart run → IsLegal run log → 0 < s → MayCome (work_of run s log) x →
@@ -59,20 +60,26 @@ pub first_items : (g : List Record) (x : Record) (n : ℕ) → n ≤ length g �
 first_items g x n le =
     ap (take n) (reverse-append (x ∷ []) g) ∙ take-append-le n (reverse g) (x ∷ []) (subst (λ m. n ≤ m) (sym (length-reverse g)) le)
 
-pub snapshot_more : (run : Setting) (log : List Record) (x : Record) (point : ℕ) (snapshot : Image) (place : ℕ) (telling : Telling) →
-    IsSnapshot run log point snapshot place telling → IsSnapshot run (x ∷ log) point snapshot place telling
-snapshot_more run log x point snapshot place telling p =
+pub before_more : (run : Setting) (log : List Record) (x : Record) (number : ℕ) → 0 < number → number ≤ length (whole_log run log) →
+    items_before run (x ∷ log) number ≡ items_before run log number
+before_more run log x number above inside = ap reverse (first_items (whole_log run log) x (number - 1) (omega (arith, inside)))
+
+pub snapshot_more : (run : Setting) (log : List Record) (x : Record) (check : Check) (telling : Telling) → IsSnapshot run log check telling → IsSnapshot run (x ∷ log) check telling
+snapshot_more run log x check telling p =
     let g = whole_log run log in
-    let above = p.above in
     let inside = p.inside in
     let placed = p.placed in
+    let before = before_more run log x check.point p.above inside in
     record {
       above = p.above;
       inside = omega (arith, inside);
       placed = p.placed;
+      long = p.long;
+      open_is = λ t. ap (λ xs. is_unfinished xs t) before ∙ p.open_is t;
       reports = p.reports
-          ∙ ap (λ xs. Reports point (taken_back (is_unfinished (reverse xs)) (reverse (take place (reverse g))) snapshot)) (sym (first_items g x (point - 1) (omega (arith, inside))))
-          ∙ ap (λ xs. Reports point (taken_back (is_unfinished (reverse (take (point - 1) (reverse (x ∷ g))))) (reverse xs) snapshot)) (sym (first_items g x place (omega (arith, inside, placed))));
+          ∙ ap (λ xs. Reports check.point (taken_back (is_unfinished xs) (reverse (take check.place (reverse g))) check.pages)) (sym before)
+          ∙ ap (λ xs. Reports check.point (taken_back (is_unfinished (items_before run (x ∷ log) check.point)) (reverse xs) check.pages)) (sym (first_items g x check.place (omega (arith, inside, placed))));
+      undone = p.undone;
     }
 
 -- another session goes on as it was
@@ -82,7 +89,7 @@ at_other run log x s index t p Idle n d = d
 at_other run log x s index t p (Changing next later own rows) n d = d
 at_other run log x s index t p (Ending rows) n d = d
 at_other run log x s index t p Undoing n d = (d.0 ∙ ap (abort_items t) (sym (left_other x (whole_log run log) t (n d.2))), d.1, d.2)
-at_other run log x s index t p (Checking point snapshot place) n d = (d.0, snapshot_more run log x point snapshot place p.telling d.1)
+at_other run log x s index t p (Checking check) n d = (d.0, snapshot_more run log x check p.telling d.1, d.2)
 
 -- no transaction of another session is the item's
 apart_above : (run : Setting) (log : List Record) (x : Record) (s other : ℕ) (p : Progress) → IsDoing run log other p → StepsTo run log s (work_of run s log) x → (s ≡ other → ⊥) →
@@ -93,7 +100,7 @@ apart_above run log x s other p doing st differ above =
       | inr owns ↦ apart run log x s other p.tran st.own differ owns
     ]
 
-other_session : (run : Setting) (log : List Record) (x : Record) (s other : ℕ) (y : Session) → IsRight run log → StepsTo run log s (work_of run s log) x → (s ≡ other → ⊥) →
+pub other_session : (run : Setting) (log : List Record) (x : Record) (s other : ℕ) (y : Session) → IsRight run log → StepsTo run log s (work_of run s log) x → (s ≡ other → ⊥) →
     IsSession run log other y → IsSession run (x ∷ log) other y
 other_session run log x s other y right st differ theirs =
     let p = progress_of run other log in

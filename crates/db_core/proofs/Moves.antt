@@ -11,7 +11,7 @@ use Rattle.spec_plan.specs.Refusals.{out_of_memory}
 use Rattle.spec_run.specs.Sessions.{session_of, open_after}
 use Rattle.spec_run.specs.Begun.{Setting, Telling, Answers, Tells}
 use Rattle.spec_run.specs.Progress.{Progress, progress_of, at_work, with_statement, script_of, is_short, cut_short, moved_to, work_of}
-use Rattle.spec_run.specs.Turns.{AreTold}
+use Rattle.spec_run.specs.Turns.{AreTold, told_to}
 use Rattle.law_run.specs.Moved.{moved_whole, moved_short}
 use Rattle.db_core.specs.declared.session.Doing.TheVariants.{Idle}
 use Rattle.db_core.specs.declared.session.Session.{Session}
@@ -98,8 +98,17 @@ ends_with run log s x reply old next belongs due whole tells mine script replies
       opens = opens;
     }
 
+-- what a session was told, and its script and transaction, whatever it is in the middle of
+pub record IsToldSo (run : Setting) (log : List Record) (s : ℕ) (x : Session) : Type 0 where
+  pub script_is : script_of run.scripts s ≡ x.script.items
+  pub told : AreTold run.geometry (told_to run s log) x.replies.items
+  pub tran_is : (progress_of run s log).tran ≡ x.tran
+
+pub told_so : (run : Setting) (log : List Record) (s : ℕ) (x : Session) → IsSession run log s x → IsToldSo run log s x
+told_so run log s x mine = record { script_is = mine.script_is; told = mine.told; tran_is = mine.tran_is }
+
 -- the statement ends for want of memory
-pub ends_short : (run : Setting) (log : List Record) (s : ℕ) (x : Record) (old next : Session) → session_of log x ≡ s → is_short x ≡ true → IsSession run log s old →
+pub ends_short : (run : Setting) (log : List Record) (s : ℕ) (x : Record) (old next : Session) → session_of log x ≡ s → is_short x ≡ true → IsToldSo run log s old →
     next.script.items ≡ old.script.items → next.replies.items ≡ old.replies.items ++ Refused out_of_memory ∷ [] → next.tran ≡ open_after old.tran x → next.doing ≡ Idle →
     (next.tran ≡ 0) ⊎ IsOpen (x ∷ whole_log run log) next.tran next.left.items next.held.items next.used →
     IsSession run (x ∷ log) s next

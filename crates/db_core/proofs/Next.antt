@@ -3,15 +3,12 @@ use Rattle.std.proofs.Common.{◌≡◌, ℕ, ◌+◌, ◌<◌, Bool, false, Lis
 use Rattle.std.specs.Prelude.{if◌then◌else◌, slice_get}
 use Rattle.std.proofs.lemmas.Bool.{eq-eqb}
 use Rattle.std.proofs.lemmas.List.{reverse-append, length-reverse}
-use Rattle.spec_file.specs.Image.{Image}
-use Rattle.spec_check.specs.declared.report.CheckReport.{CheckReport}
-use Rattle.spec_tables.specs.Written.{IsCheckOf}
 use Rattle.spec_file.specs.declared.geometry.Geometry.{Geometry}
 use Rattle.spec_log.specs.declared.item.Record.{Record}
-use Rattle.spec_log.specs.declared.item.Record.TheVariants.{Undo, Commit, Abort, CheckEnd}
+use Rattle.spec_log.specs.declared.item.Record.TheVariants.{Undo, Commit, Abort}
 use Rattle.spec_log.specs.Log.{left_of, rest_of}
 use Rattle.spec_script.specs.declared.reply.Reply.{Reply}
-use Rattle.spec_script.specs.declared.reply.Reply.TheVariants.{Done, Report}
+use Rattle.spec_script.specs.declared.reply.Reply.TheVariants.{Done}
 use Rattle.spec_script.specs.declared.statement.Statement.{Statement}
 use Rattle.spec_plan.specs.declared.plan.Planned.{Planned}
 use Rattle.spec_run.specs.Shapes.{change_item}
@@ -22,18 +19,18 @@ use Rattle.spec_run.specs.Turns.{AreTold, told_to, IsLegal}
 use Rattle.law_run.specs.Laws.{IsStart}
 use Rattle.law_run.specs.Doing.{change_items, abort_items}
 use Rattle.law_run.specs.Legal.{with_begun}
-use Rattle.db_core.specs.declared.session.Doing.TheVariants.{Idle, Changing, Ending, Undoing, Checking}
+use Rattle.db_core.specs.declared.session.Doing.TheVariants.{Idle, Changing, Ending, Undoing}
 use Rattle.db_core.specs.declared.session.Session.{Session}
-use Rattle.db_core.specs.States.{whole_log, reply_of, IsSnapshot, IsAt, IsOpen, IsSession}
+use Rattle.db_core.specs.States.{whole_log, reply_of, IsAt, IsOpen, IsSession}
 use Rattle.db_core.proofs.Keeps.{steps_of}
 use Rattle.db_core.proofs.Moves.{goes_on, ends_with}
-use Rattle.db_core.proofs.Opens.{open_change, open_undo, open_end}
+use Rattle.db_core.proofs.Opens.{open_change, open_undo}
 
 -- a session that owes items works at these
 pub busy : (run : Setting) (log : List Record) (s : ℕ) (x : Record) (rest : List Record) → (progress_of run s log).due ≡ x ∷ rest → work_of run s log ≡ progress_of run s log
 busy run log s x rest due = ap (at_work run log s (progress_of run s log)) due
 
-busy_comes : (run : Setting) (log : List Record) (s : ℕ) (x : Record) (rest : List Record) → (progress_of run s log).due ≡ x ∷ rest → MayCome (work_of run s log) x
+pub busy_comes : (run : Setting) (log : List Record) (s : ℕ) (x : Record) (rest : List Record) → (progress_of run s log).due ≡ x ∷ rest → MayCome (work_of run s log) x
 busy_comes run log s x rest due = inl (ap (λ (q : Progress). first_of q.due) (busy run log s x rest due) ∙ ap first_of due)
 
 -- an idle session works at its next statement
@@ -251,34 +248,3 @@ abort_ends run log s old next start legal hs mine doing left script replies tran
     ends_with run log s x Done old next st.belongs (ap (λ (q : Progress). q.due) same ∙ due) refl
     (subst (λ tell. Tells run.geometry tell Done) (sym (ap (λ (q : Progress). q.telling) same ∙ d.1)) refl)
     mine script replies tran doing_next (inl tran)
-
--- what a session owes that checks
-checking_due : (run : Setting) (log : List Record) (s : ℕ) (old : Session) (point : ℕ) (snapshot : Image) (place : ℕ) → IsSession run log s old → old.doing ≡ Checking point snapshot place →
-    ((progress_of run s log).due ≡ CheckEnd s (length old.replies.items + 1) 0 ∷ []) × IsSnapshot run log point snapshot place (progress_of run s log).telling
-checking_due run log s old point snapshot place mine doing =
-    subst (IsAt run log s (length old.replies.items + 1) old.tran (progress_of run s log)) doing mine.doing_is
-
-pub check_comes : (run : Setting) (log : List Record) (s : ℕ) (old : Session) (point : ℕ) (snapshot : Image) (place : ℕ) → IsSession run log s old → old.doing ≡ Checking point snapshot place →
-    MayCome (work_of run s log) (CheckEnd s (length old.replies.items + 1) 0)
-check_comes run log s old point snapshot place mine doing =
-    busy_comes run log s (CheckEnd s (length old.replies.items + 1) 0) [] (checking_due run log s old point snapshot place mine doing).0
-
--- everything is taken back, and the report is that of what the snapshot has
-pub check_ends : (run : Setting) (log : List Record) (s : ℕ) (old next : Session) (point : ℕ) (snapshot : Image) (report : CheckReport) → IsStart run → IsLegal run log → 0 < s →
-    IsSession run log s old → old.doing ≡ Checking point snapshot 0 → IsCheckOf run.geometry snapshot report →
-    next.script.items ≡ old.script.items → next.replies.items ≡ old.replies.items ++ Report (record { 0 = point }) report ∷ [] → next.tran ≡ old.tran → next.doing ≡ Idle →
-    next.left.items ≡ old.left.items → next.held.items ≡ old.held.items → next.used ≡ old.used →
-    IsSession run (CheckEnd s (length old.replies.items + 1) 0 ∷ log) s next
-check_ends run log s old next point snapshot report start legal hs mine doing right script replies tran doing_next left held used =
-    let x = CheckEnd s (length old.replies.items + 1) 0 in
-    let d = checking_due run log s old point snapshot 0 mine doing in
-    let same = busy run log s x [] d.0 in
-    let st = steps_of run log s x start legal hs (check_comes run log s old point snapshot 0 mine doing) in
-    ends_with run log s x (Report (record { 0 = point }) report) old next st.belongs (ap (λ (q : Progress). q.due) same ∙ d.0) refl
-    (subst (λ tell. Tells run.geometry tell (Report (record { 0 = point }) report)) (sym (ap (λ (q : Progress). q.telling) same ∙ d.1.reports)) (report, refl, right))
-    mine script replies tran doing_next
-    (opens_after run log x old.tran old next refl tran mine.opens (λ o.
-    subst (λ l. IsOpen (x ∷ whole_log run log) old.tran l next.held.items next.used) (sym left)
-    (subst (λ h. IsOpen (x ∷ whole_log run log) old.tran old.left.items h next.used) (sym held)
-    (subst (IsOpen (x ∷ whole_log run log) old.tran old.left.items old.held.items) (sym used)
-    (open_end (whole_log run log) old.tran s (length old.replies.items + 1) 0 old.left.items old.held.items old.used o)))))

@@ -99,7 +99,7 @@ no_changes g pages (Snap session index ∷ log) u rules above = no_changes g pag
 no_changes g pages (Failed session index page ∷ log) u rules above = no_changes g pages log u rules.1 (omega (arith, above))
 no_changes g pages (CheckEnd session index outcome ∷ log) u rules above = no_changes g pages log u rules.1 (omega (arith, above))
 
-none_used : (log : List Record) (u : ℕ) → has_started log u ≡ false → changes_of u log ≡ 0
+pub none_used : (log : List Record) (u : ℕ) → has_started log u ≡ false → changes_of u log ≡ 0
 none_used [] u n = refl
 none_used (Start session index tran number changes size takes ∷ log) u n = elim (cases_Bool (eqb tran.0 u)) [
   | inl e ↦ absurd (both_ways (eqb tran.0 u || has_started log u) n (or_left (eqb tran.0 u) (has_started log u) e))

@@ -1,27 +1,23 @@
 -- The record of a statement, and what the core keeps of the session behind it.
-use Rattle.std.proofs.Common.{◌≡◌, ℕ, ◌+◌, ◌-◌, ◌<◌, ◌≤◌, true, false, List, [], ◌∷◌, ◌++◌, length, reverse, take, Some, ◌⊎◌, inl, inr, refl, sym, ap, ◌∙◌, subst, arith}
+use Rattle.std.proofs.Common.{◌≡◌, ℕ, ◌+◌, ◌<◌, ◌≤◌, true, false, List, [], ◌∷◌, ◌++◌, length, reverse, take, Some, ◌⊎◌, inl, inr, refl, sym, ap, ◌∙◌, subst, arith}
 use Rattle.std.specs.Prelude.{slice_get}
 use Rattle.std.proofs.lemmas.List.{length-reverse, take_all, reverse-append}
 use Rattle.spec_log.specs.declared.item.Record.{Record}
-use Rattle.spec_log.specs.declared.item.Record.TheVariants.{Snap}
-use Rattle.spec_log.specs.Log.{is_unfinished}
-use Rattle.spec_log.specs.Images.{taken_back, final_image, committed_image, undone_image}
 use Rattle.spec_script.specs.declared.reply.Reply.{Reply}
 use Rattle.spec_script.specs.declared.reply.Reply.TheVariants.{Refused}
 use Rattle.spec_script.specs.declared.statement.Statement.{Statement}
 use Rattle.spec_plan.specs.Refusals.{out_of_memory}
 use Rattle.spec_run.specs.Sessions.{open_after}
-use Rattle.spec_run.specs.Begun.{Setting, Answers, Reports, Tells, Begun, begun}
+use Rattle.spec_run.specs.Begun.{Setting, Answers, Tells, Begun, begun}
 use Rattle.spec_run.specs.Progress.{Progress, progress_of, script_of, is_short, work_of, first_of, MayCome}
 use Rattle.spec_run.specs.Turns.{IsLegal}
-use Rattle.law_undo.specs.Law.{undo_gives_committed}
 use Rattle.law_run.specs.Laws.{IsStart}
-use Rattle.law_run.specs.Legal.{with_begun, legal_is_sound}
+use Rattle.law_run.specs.Legal.{with_begun}
 use Rattle.db_core.specs.declared.session.Doing.TheVariants.{Idle}
 use Rattle.db_core.specs.declared.session.Session.{Session}
-use Rattle.db_core.specs.States.{whole_log, IsSnapshot, IsAt, IsOpen, IsSession}
+use Rattle.db_core.specs.States.{whole_log, IsAt, IsOpen, IsSession}
 use Rattle.db_core.proofs.Keeps.{steps_of, first_items}
-use Rattle.db_core.proofs.Moves.{ends_with, ends_short}
+use Rattle.db_core.proofs.Moves.{ends_with, ends_short, told_so}
 use Rattle.db_core.proofs.Next.{idle_work, told_count, goes_by}
 
 -- an idle session that has a next statement, and what becomes of this
@@ -89,7 +85,7 @@ pub begun_short : (run : Setting) (log : List Record) (s : ℕ) (old next : Sess
     IsSession run (x ∷ log) s next
 begun_short run log s old next st b x h want short script replies tran idle opens =
     let step = steps_of run log s x h.start h.legal h.above (want_comes run log s old st b x h want) in
-    ends_short run log s x old next step.belongs short h.mine script replies tran idle opens
+    ends_short run log s x old next step.belongs short (told_so run log s old h.mine) script replies tran idle opens
 
 reverse_reverse : (xs : List Record) → reverse (reverse xs) ≡ xs
 reverse_reverse [] = refl
@@ -97,24 +93,3 @@ reverse_reverse (x ∷ xs) = ap reverse (reverse-append (x ∷ []) xs) ∙ rever
 
 first_of_more : (g : List Record) (x : Record) → take (length g) (reverse (x ∷ g)) ≡ reverse g
 first_of_more g x = first_items g x (length g) (omega arith) ∙ take_all (length g) (reverse g) (subst (λ n. n ≤ length g) (sym (length-reverse g)) (omega arith))
-
--- the snapshot of a check, right behind its Snap: the file as it stands, with nothing taken back yet
-pub fresh_snapshot : (run : Setting) (log : List Record) (s i : ℕ) → IsStart run → IsLegal run log → 0 < length (whole_log run log) + 1 →
-    IsSnapshot run (Snap s i ∷ log) (length (whole_log run log) + 1) (final_image run.opened log run.image) (length (whole_log run log))
-    (Reports (length (whole_log run log) + 1) (committed_image run.opened log run.image))
-fresh_snapshot run log s i start legal above =
-    let g = whole_log run log in
-    let x = Snap s i in
-    let sound = legal_is_sound run log start legal in
-    let law : undone_image run.opened log run.image ≡ committed_image run.opened log run.image = undo_gives_committed run.geometry run.opened log run.image sound in
-    let before : reverse (take (length g) (reverse (x ∷ g))) ≡ g = ap reverse (first_of_more g x) ∙ reverse_reverse g in
-    let point : length g + 1 - 1 ≡ length g = omega arith in
-    record {
-      above = above;
-      inside = omega arith;
-      placed = omega arith;
-      reports = ap (Reports (length g + 1)) (sym law
-          ∙ ap (λ h. taken_back (is_unfinished g) h (final_image run.opened log run.image)) (sym before)
-          ∙ ap (λ h. taken_back (is_unfinished h) (reverse (take (length g) (reverse (x ∷ g)))) (final_image run.opened log run.image)) (sym before)
-          ∙ ap (λ n. taken_back (is_unfinished (reverse (take n (reverse (x ∷ g))))) (reverse (take (length g) (reverse (x ∷ g)))) (final_image run.opened log run.image)) (sym point));
-    }

@@ -28,11 +28,11 @@ use Rattle.spec_run.specs.Turns.{IsLegal}
 use Rattle.law_run.specs.Doing.{change_items}
 use Rattle.law_run.specs.Left.{AreNamed, left_named}
 use Rattle.law_run.specs.Legal.{legal_right}
-use Rattle.law_run.specs.Shows.{final_shape}
+use Rattle.law_undo.specs.Shapes.{final_shape}
 use Rattle.db_core.specs.declared.session.Doing.{Doing}
 use Rattle.db_core.specs.declared.session.Doing.TheVariants.{Idle, Changing, Ending, Undoing, Checking}
 use Rattle.db_core.specs.declared.session.Session.{Session}
-use Rattle.db_core.specs.Cells.{FitsCell, MayPutBack, MayUndo}
+use Rattle.vol_pool.specs.Cells.{FitsCell, MayPutBack, MayUndo}
 use Rattle.db_core.specs.States.{whole_log, reply_of, IsAt, IsSession, IsState, IsChanging, GoesOnWith, StepsBack, MayStep, StepsBy}
 use Rattle.db_core.proofs.Keeps.{steps_of, keeps}
 use Rattle.db_core.proofs.Next.{change_comes, ChangeKept, change_goes, change_ends, commit_comes, commit_ends, undo_comes, undo_goes, abort_comes, abort_ends}
@@ -163,10 +163,10 @@ may_step run log pages sessions last all size k old state here = by_doing old.do
           | inl none ↦ absurd (let above = d.2 in omega (arith, none, above))
           | inr o ↦ subst (MayUndo pages (reverse (whole_log run log))) o.left_is (undone (left_of old.tran (whole_log run log)) refl (left_named old.tran (whole_log run log)))
         ]
-    by_doing (Checking point snapshot place) e = tt
+    by_doing (Checking check) e = tt
 
 -- a doing that is of these changes owes them
-at_changing : (run : Setting) (log : List Record) (s index t : ℕ) (p : Progress) (changes : List Planned) (own : Bool) (rows : Option ℕ) (d : Doing) → IsChanging changes own rows d →
+pub at_changing : (run : Setting) (log : List Record) (s index t : ℕ) (p : Progress) (changes : List Planned) (own : Bool) (rows : Option ℕ) (d : Doing) → IsChanging changes own rows d →
     p.due ≡ change_items t changes own → p.telling ≡ Answers (reply_of rows) → IsAt run log s index t p d
 at_changing run log s index t p changes own rows Idle is due tell = absurd is
 at_changing run log s index t p changes own rows (Changing next later o r) is due tell = (
@@ -175,12 +175,12 @@ at_changing run log s index t p changes own rows (Changing next later o r) is du
 )
 at_changing run log s index t p changes own rows (Ending r) is due tell = absurd is
 at_changing run log s index t p changes own rows Undoing is due tell = absurd is
-at_changing run log s index t p changes own rows (Checking point snapshot place) is due tell = absurd is
+at_changing run log s index t p changes own rows (Checking check) is due tell = absurd is
 
-some_changes : (t : ℕ) (c : Planned) (cs : List Planned) (own : Bool) → change_items t (c ∷ cs) own ≡ [] → ⊥
+pub some_changes : (t : ℕ) (c : Planned) (cs : List Planned) (own : Bool) → change_items t (c ∷ cs) own ≡ [] → ⊥
 some_changes t c cs own e = cc
 
-some_commit : (t : ℕ) → change_items t [] true ≡ [] → ⊥
+pub some_commit : (t : ℕ) → change_items t [] true ≡ [] → ⊥
 some_commit t e = cc
 
 -- the session behind a Change
@@ -264,7 +264,7 @@ stepped run log s number old new pages after x start legal hs mine count (Ending
     })
 stepped run log s number old new pages after x start legal hs mine count Undoing doing may st =
     back_step run log s old new pages after x start legal hs doing mine (reverse old.left.items) refl may st
-stepped run log s number old new pages after x start legal hs mine count (Checking point snapshot place) doing may st = absurd st
+stepped run log s number old new pages after x start legal hs mine count (Checking check) doing may st = absurd st
 
 -- the whole state behind it
 pub stepped_state : (run : Setting) (log : List Record) (pages after : Image) (sessions : List Session) (last all size k : ℕ) (x : Record) (new : Session) → IsState run log pages sessions last all size →

@@ -31,7 +31,7 @@ use Rattle.db_core.proofs.Records.{IsBegun, begun_comes, begun_ends, begun_goes}
 use Rattle.db_core.proofs.Stepped.{IsStepped}
 
 -- a Start without changes of the session's open transaction
-kept_opens : (run : Setting) (log : List Record) (s number : ℕ) (place : Place) (old new : Session) → IsStart run → IsLegal run log → IsSession run log s old → Keeps old new → new.left.items ≡ old.left.items →
+pub kept_opens : (run : Setting) (log : List Record) (s number : ℕ) (place : Place) (old new : Session) → IsStart run → IsLegal run log → IsSession run log s old → Keeps old new → new.left.items ≡ old.left.items →
     (new.tran ≡ 0) ⊎ IsOpen (plain_start place.session place.index old.tran number ∷ whole_log run log) new.tran new.left.items new.held.items new.used
 kept_opens run log s number place old new start legal mine kept left =
     let g = whole_log run log in

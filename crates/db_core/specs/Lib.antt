@@ -1,4 +1,12 @@
-pub mod Cells
+pub mod Back
 pub mod States
 pub mod Words
-pub mod Starting
+pub mod Rooms
+pub mod Store
+pub mod Plans
+pub mod Stages
+pub mod Views
+pub mod ViewLaws
+pub mod Checks
+pub mod Runs
+pub mod Replays

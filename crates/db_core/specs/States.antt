@@ -1,5 +1,5 @@
 -- What the core keeps of each session, tied to the history.
-use Rattle.std.specs.Prelude.{◌≡◌, ℕ, ◌+◌, ◌-◌, ◌<◌, ◌≤◌, Bool, true, false, List, [], ◌∷◌, ◌++◌, length, map, reverse, take, slice_get, Option, Some, None, ◌⊎◌}
+use Rattle.std.specs.Prelude.{◌≡◌, ℕ, ◌+◌, ◌-◌, ◌<◌, ◌≤◌, ◌==◌, Bool, true, false, List, [], ◌∷◌, ◌++◌, length, map, reverse, take, slice_get, vec_capacity, Option, Some, None, ◌⊎◌}
 use Rattle.std.specs.List.{list_any}
 use Rattle.spec_file.specs.declared.data.Resource.{Resource}
 use Rattle.spec_file.specs.declared.geometry.Geometry.TheVariants.{Small}
@@ -12,7 +12,7 @@ use Rattle.spec_log.specs.Limits.{changes_of, all_changes, all_bytes}
 use Rattle.spec_log.specs.Images.{page_of_cell, put_before, taken_back, final_image}
 use Rattle.spec_log.specs.Cells.{put}
 use Rattle.spec_run.specs.Shapes.{change_item}
-use Rattle.db_core.specs.Cells.{FitsCell, MayUndo}
+use Rattle.vol_pool.specs.Cells.{FitsCell, MayUndo}
 use Rattle.spec_script.specs.declared.reply.Reply.{Reply}
 use Rattle.spec_script.specs.declared.reply.Reply.TheVariants.{Done, Rows}
 use Rattle.spec_plan.specs.declared.plan.Planned.{Planned}
@@ -24,19 +24,21 @@ use Rattle.law_run.specs.Laws.{IsStart}
 use Rattle.law_run.specs.Doing.{change_items, abort_items}
 use Rattle.db_core.specs.declared.session.Doing.{Doing}
 use Rattle.db_core.specs.declared.session.Doing.TheVariants.{Idle, Changing, Ending, Undoing, Checking}
+use Rattle.db_core.specs.declared.session.Check.{Check}
 use Rattle.db_core.specs.declared.session.Session.{Session}
 
--- what contracts see of the core: what the run began with, and its items, the newest first
+-- what contracts see of the core: what the run began with, and its history, the newest entry first
 pub record Db : Type 0 where
   pub run : Setting
-  pub log : List Record
+  pub entries : List Entry
 
 -- the history as its entries
 abbrev pub entries_of : List Record → List Entry
 entries_of log = map Item log
 
+-- a turn of a session, from one history to the next
 abbrev pub TurnIn : ℕ → Db → Db → Type 0
-TurnIn s old new = (new.run ≡ old.run) × Turn old.run s (entries_of old.log) (entries_of new.log)
+TurnIn s old new = (new.run ≡ old.run) × Turn old.run s old.entries new.entries
 
 -- the whole log of a history
 abbrev pub whole_log : Setting → List Record → List Record
@@ -47,13 +49,24 @@ abbrev pub reply_of : Option ℕ → Reply
 reply_of None = Done
 reply_of (Some n) = Rows n []
 
+-- the items before the one with this number, the newest first
+abbrev pub items_before : Setting → List Record → ℕ → List Record
+items_before run log number = reverse (take (number - 1) (reverse (whole_log run log)))
+
+-- one of these transactions
+abbrev pub is_among : List ℕ → ℕ → Bool
+is_among trans t = list_any (λ u. u == t) trans
+
 -- taking back what is left of the items before the check's Snap gives the image that it reports
-pub record IsSnapshot (run : Setting) (log : List Record) (point : ℕ) (snapshot : Image) (place : ℕ) (telling : Telling) : Type 0 where
-  pub above : 0 < point
-  pub inside : point ≤ length (whole_log run log)
-  pub placed : place < point
-  pub reports : telling ≡ Reports point (taken_back (is_unfinished (reverse (take (point - 1) (reverse (whole_log run log)))))
-      (reverse (take place (reverse (whole_log run log)))) snapshot)
+pub record IsSnapshot (run : Setting) (log : List Record) (check : Check) (telling : Telling) : Type 0 where
+  pub above : 0 < check.point
+  pub inside : check.point ≤ length (whole_log run log)
+  pub placed : check.place < check.point
+  pub long : length check.pages ≡ length run.image
+  pub open_is : (t : ℕ) → is_unfinished (items_before run log check.point) t ≡ is_among check.ongoing.items t
+  pub reports : telling ≡ Reports check.point (taken_back (is_unfinished (items_before run log check.point))
+      (reverse (take check.place (reverse (whole_log run log)))) check.pages)
+  pub undone : check.undone ≡ true → check.place ≡ 0
 
 -- what the session is doing: the items that it owes, and what it is told after them
 abbrev pub IsAt : Setting → List Record → ℕ → ℕ → ℕ → Progress → Doing → Type 0
@@ -61,7 +74,7 @@ IsAt run log s index t p Idle = p.due ≡ []
 IsAt run log s index t p (Changing next later own rows) = (p.due ≡ change_items t (next ∷ reverse later.items) own) × (p.telling ≡ Answers (reply_of rows))
 IsAt run log s index t p (Ending rows) = (p.due ≡ change_items t [] true) × (p.telling ≡ Answers (reply_of rows))
 IsAt run log s index t p Undoing = (p.due ≡ abort_items t (left_of t (whole_log run log))) × (p.telling ≡ Answers Done) × (0 < t)
-IsAt run log s index t p (Checking point snapshot place) = (p.due ≡ CheckEnd s index 0 ∷ []) × IsSnapshot run log point snapshot place p.telling
+IsAt run log s index t p (Checking check) = (p.due ≡ CheckEnd s index 0 ∷ []) × IsSnapshot run log check p.telling × (p.want ≡ Some (CheckEnd s index 3))
 
 -- the open transaction: its changes that are left, what it holds, and how many changes it announced
 pub record IsOpen (log : List Record) (t : ℕ) (left : List ℕ) (held : List Resource) (used : ℕ) : Type 0 where
@@ -93,7 +106,7 @@ IsChanging changes own rows Idle = ⊥
 IsChanging changes own rows (Changing next later o r) = (changes ≡ next ∷ reverse later.items) × (o ≡ own) × (r ≡ rows)
 IsChanging changes own rows (Ending r) = ⊥
 IsChanging changes own rows Undoing = ⊥
-IsChanging changes own rows (Checking point snapshot place) = ⊥
+IsChanging changes own rows (Checking check) = ⊥
 
 -- what a session does with these changes left: them, or the Commit of a transaction of its own, or nothing more
 abbrev pub GoesOnWith : List Planned → Bool → Option ℕ → Session → Session → Type 0
@@ -108,11 +121,16 @@ pub record Keeps (old new : Session) : Type 0 where
   pub held : new.held.items ≡ old.held.items
   pub used : new.used ≡ old.used
 
+-- no room for replies or numbers is given up
+pub record KeepsRoom (old new : Session) : Type 0 where
+  pub replies : vec_capacity old.replies ≤ vec_capacity new.replies
+  pub left : vec_capacity old.left ≤ vec_capacity new.left
+
 -- a step of undoing, with the numbers that are left, the last first: the next change is undone, or the transaction ends
 abbrev pub StepsBack : List ℕ → List Record → Session → Session → Image → Image → Record → Type 0
 StepsBack [] items old new pages after x =
     (x ≡ Abort (record { 0 = old.tran })) × (new.script.items ≡ old.script.items) × (new.tran ≡ 0) × (new.doing ≡ Idle)
-    × (new.replies.items ≡ old.replies.items ++ Done ∷ []) × (after ≡ pages)
+    × (new.replies.items ≡ old.replies.items ++ Done ∷ []) × (after ≡ pages) × (new.left.items ≡ []) × (new.used ≤ 8192)
 StepsBack (n ∷ rest) items old new pages after x =
     (x ≡ Undo (record { 0 = old.tran }) (record { 0 = n })) × Keeps old new × (reverse new.left.items ≡ rest) × (new.doing ≡ Undoing)
     × (new.replies.items ≡ old.replies.items) × (after ≡ put_before (slice_get items (n - 1)) pages)
@@ -123,7 +141,7 @@ IsUnderWay Idle = ⊥
 IsUnderWay (Changing next later own rows) = Unit {0}
 IsUnderWay (Ending rows) = Unit {0}
 IsUnderWay Undoing = Unit {0}
-IsUnderWay (Checking point snapshot place) = ⊥
+IsUnderWay (Checking check) = ⊥
 
 -- what the session puts next fits into the pages
 abbrev pub MayStep : Image → List Record → Session → Doing → Type 0
@@ -131,7 +149,7 @@ MayStep pages items old Idle = Unit {0}
 MayStep pages items old (Changing next later own rows) = (page_of_cell next.cell < length pages) × FitsCell next.cell next.after
 MayStep pages items old (Ending rows) = Unit {0}
 MayStep pages items old Undoing = MayUndo pages items (reverse old.left.items)
-MayStep pages items old (Checking point snapshot place) = Unit {0}
+MayStep pages items old (Checking check) = Unit {0}
 
 -- the step of a session that was doing this, with item x of this number
 abbrev pub StepsBy : ℕ → List Record → Session → Session → Image → Image → Record → Doing → Type 0
@@ -141,9 +159,9 @@ StepsBy number items old new pages after x (Changing next later own rows) =
     × GoesOnWith (reverse later.items) own rows old new
 StepsBy number items old new pages after x (Ending rows) =
     (x ≡ Commit (record { 0 = old.tran })) × (after ≡ pages) × (new.script.items ≡ old.script.items) × (new.tran ≡ 0) × (new.doing ≡ Idle)
-    × (new.replies.items ≡ old.replies.items ++ reply_of rows ∷ [])
+    × (new.replies.items ≡ old.replies.items ++ reply_of rows ∷ []) × (new.left.items ≡ []) × (new.used ≤ 8192)
 StepsBy number items old new pages after x Undoing = StepsBack (reverse old.left.items) items old new pages after x
-StepsBy number items old new pages after x (Checking point snapshot place) = ⊥
+StepsBy number items old new pages after x (Checking check) = ⊥
 
 -- an item of a statement that isn't a check
 abbrev pub is_step : Record → Bool
@@ -160,7 +178,7 @@ is_under_way Idle = false
 is_under_way (Changing next later own rows) = true
 is_under_way (Ending rows) = true
 is_under_way Undoing = true
-is_under_way (Checking point snapshot place) = false
+is_under_way (Checking check) = false
 
 -- the sessions differ in their room alone
 pub record IsSame (old new : Session) : Type 0 where

@@ -2,11 +2,21 @@
 //! items; each turn is one of the turns of `spec_run` (the session's rules are this project's own).
 #![tactic(auto)]
 
-mod frames;
-mod machine;
+mod advance;
+mod back;
+mod begin;
+mod checks;
+mod db;
+mod out;
+mod plans;
+mod replay;
 mod session;
+mod stage;
 mod starts;
+mod state;
 mod steps;
+mod turns;
+mod view;
 
-pub use frames::Frames;
-pub use machine::Machine;
+pub use db::Core;
+pub use out::TurnOut;

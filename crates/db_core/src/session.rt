@@ -1,8 +1,27 @@
 //! What the core keeps of each session.
-use crate::Frames;
+ghost use Rattle.std.specs.Prelude.{◌≡◌};
+ghost use Rattle.db_core.specs.States.{is_under_way};
+ghost use Rattle.db_core.specs.Rooms.{is_checking, owed_by};
+
 use spec_file::Resource;
 use spec_plan::Planned;
 use spec_script::{Reply, Statement};
+use vol_pool::Frames;
+
+/// A check that is under way.
+#[derive(Drop)]
+pub struct Check {
+    /// The number of its Snap.
+    pub point: u64,
+    /// The pages, from which the items of open transactions are being taken back.
+    pub pages: Frames,
+    /// The transactions that were open at the Snap.
+    pub ongoing: Vec<u64>,
+    /// How many of the log's first items may still have to be taken back.
+    pub place: usize,
+    /// Whether it was found that none has to.
+    pub undone: bool,
+}
 
 /// What a session is in the middle of.
 #[derive(Drop)]
@@ -26,14 +45,7 @@ pub enum Doing {
     /// Of undoing the changes of its transaction.
     Undoing,
     /// Of a check.
-    Checking {
-        /// The check's Snap.
-        point: u64,
-        /// The pages, from which the items of open transactions are being taken back.
-        snapshot: Frames,
-        /// How many items before the Snap have not been looked at yet.
-        place: usize,
-    },
+    Checking(Check),
 }
 
 /// A session.

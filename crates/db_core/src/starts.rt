@@ -3,9 +3,8 @@ ghost use Rattle.std.specs.Prelude.{◌≡◌, ◌+◌, ◌^◌, ◌<◌, [], �
 ghost use Rattle.spec_run.specs.Shapes.{plain_start as start_of};
 ghost use Rattle.spec_script.specs.declared.reply.Reply.TheVariants.{Done, Refused};
 ghost use Rattle.spec_plan.specs.Refusals.{plain_refusal};
-ghost use Rattle.db_core.specs.States.{Keeps};
+ghost use Rattle.db_core.specs.States.{Keeps, KeepsRoom};
 ghost use Rattle.db_core.specs.declared.session.Doing.TheVariants.{Idle, Ending, Undoing};
-ghost use Rattle.db_core.specs.Starting.{idle_word, is_word};
 ghost use Rattle.db_core.specs.Words.{StartsBy, IsNextWord, statement_of};
 
 use crate::session::{Doing, Session};
@@ -31,7 +30,7 @@ pub enum Word {
 }
 
 /// The Start of a statement without changes.
-fn plain_start(alloc: Global, place: Place, tran: u64, number: u16) -> Record
+pub fn plain_start(alloc: Global, place: Place, tran: u64, number: u16) -> Record
     ensures { result ≡ start_of place.session place.index tran number }
 {
     Record::Start {
@@ -46,7 +45,7 @@ fn plain_start(alloc: Global, place: Place, tran: u64, number: u16) -> Record
 }
 
 /// A refusal that names nothing.
-fn refusal(alloc: Global, number: u16) -> Refusal
+pub fn refusal(alloc: Global, number: u16) -> Refusal
     ensures { result ≡ plain_refusal number }
 {
     Refusal {
@@ -64,6 +63,7 @@ pub fn refuse(alloc: Global, session: &mut Session, place: Place, number: u16) -
     requires { vec_len session.old.replies < vec_capacity session.old.replies }
     ensures item { result ≡ start_of place.session place.index session.old.tran number }
     ensures kept { Keeps session.old session.new }
+    ensures kept_room { KeepsRoom session.old session.new }
     ensures left { session.new.left.items ≡ session.old.left.items }
     ensures replies { session.new.replies.items ≡ session.old.replies.items ++ Refused (plain_refusal number) ∷ [] }
     ensures doing { session.new.doing ≡ Idle }
@@ -79,6 +79,7 @@ pub fn open(alloc: Global, session: &mut Session, place: Place, tran: u64) -> Re
     ensures item { result ≡ start_of place.session place.index tran 0 }
     ensures script { session.new.script.items ≡ session.old.script.items }
     ensures tran { session.new.tran ≡ tran }
+    ensures kept_room { KeepsRoom session.old session.new }
     ensures left { session.new.left.items ≡ [] }
     ensures held { session.new.held.items ≡ [] }
     ensures used { session.new.used ≡ 0 }
@@ -97,6 +98,7 @@ pub fn open(alloc: Global, session: &mut Session, place: Place, tran: u64) -> Re
 pub fn start_commit(alloc: Global, session: &mut Session, place: Place) -> Record
     ensures item { result ≡ start_of place.session place.index session.old.tran 0 }
     ensures kept { Keeps session.old session.new }
+    ensures kept_room { KeepsRoom session.old session.new }
     ensures left { session.new.left.items ≡ session.old.left.items }
     ensures replies { session.new.replies.items ≡ session.old.replies.items }
     ensures doing { session.new.doing ≡ Ending None }
@@ -109,6 +111,7 @@ pub fn start_commit(alloc: Global, session: &mut Session, place: Place) -> Recor
 pub fn start_undo(alloc: Global, session: &mut Session, place: Place) -> Record
     ensures item { result ≡ start_of place.session place.index session.old.tran 0 }
     ensures kept { Keeps session.old session.new }
+    ensures kept_room { KeepsRoom session.old session.new }
     ensures left { session.new.left.items ≡ session.old.left.items }
     ensures replies { session.new.replies.items ≡ session.old.replies.items }
     ensures doing { session.new.doing ≡ Undoing }
@@ -121,7 +124,8 @@ pub fn start_undo(alloc: Global, session: &mut Session, place: Place) -> Record
 pub fn start(alloc: Global, session: &mut Session, place: Place, last: u64, word: Word) -> Record
     requires room { vec_len session.old.replies < vec_capacity session.old.replies }
     requires low { last + 1 < 2 ^ 64 }
-    ensures { StartsBy word last place session.old session.new result }
+    ensures starts { StartsBy word last place session.old session.new result }
+    ensures kept_room { KeepsRoom session.old session.new }
 {
     let open_now = session.tran != 0;
     match word {
@@ -143,27 +147,5 @@ pub fn start(alloc: Global, session: &mut Session, place: Place, last: u64, word
             }
             refuse(alloc, session, place, 3903)
         }
-    }
-}
-
-/// The next statement of an idle session, where it needs no plan.
-pub fn next_word(session: &Session) -> Option<Word>
-    ensures { MatchOption result (idle_word session.now.doing (slice_get session.now.script.items (length session.now.replies.items)) ≡ false) (λ word. IsNextWord word session.now) }
-{
-    if !matches!(&session.doing, Doing::Idle) {
-        return None;
-    }
-    word_at(&session.script, session.replies.len())
-}
-
-/// The statement at a place of a script, where it needs no plan.
-fn word_at(script: &[Statement], at: usize) -> Option<Word>
-    ensures { MatchOption result (is_word (slice_get script.now at) ≡ false) (λ word. slice_get script.now at ≡ Some (statement_of word)) }
-{
-    match script.get(at) {
-        Some(Statement::Begin) => Some(Word::Begin),
-        Some(Statement::Commit) => Some(Word::Commit),
-        Some(Statement::Rollback) => Some(Word::Rollback),
-        _ => None,
     }
 }

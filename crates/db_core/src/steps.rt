@@ -6,11 +6,11 @@ ghost use Rattle.spec_log.specs.Cells.{put as image_with};
 ghost use Rattle.spec_log.specs.Images.{page_of_cell, put_before};
 ghost use Rattle.spec_log.specs.declared.item.Record.{Record};
 ghost use Rattle.spec_run.specs.Shapes.{change_item};
-ghost use Rattle.db_core.specs.Cells.{FitsCell, MayPutBack, MayUndo};
-ghost use Rattle.db_core.specs.States.{reply_of, GoesOnWith, Keeps, StepsBack, IsUnderWay, MayStep, StepsBy};
+ghost use Rattle.vol_pool.specs.Cells.{FitsCell, MayPutBack, MayUndo};
+ghost use Rattle.db_core.specs.Rooms.{pending_of};
+ghost use Rattle.db_core.specs.States.{reply_of, GoesOnWith, Keeps, StepsBack, IsUnderWay, KeepsRoom, MayStep, StepsBy};
 ghost use Rattle.db_core.specs.declared.session.Doing.TheVariants.{Idle};
 
-use crate::Frames;
 use crate::session::{Doing, Session};
 use spec_file::{Lsn, Tran};
 use spec_log::{Record, Values};
@@ -18,6 +18,7 @@ use spec_plan::Planned;
 use spec_script::Reply;
 use std::alloc::Global;
 use std::mem::replace;
+use vol_pool::Frames;
 
 /// The reply to a statement that changes the file, with the rows that it writes, and to COMMIT.
 pub fn written(alloc: Global, rows: Option<u64>) -> Reply
@@ -36,6 +37,7 @@ pub fn written(alloc: Global, rows: Option<u64>) -> Reply
 pub fn end(session: &mut Session, reply: Reply)
     requires { vec_len session.old.replies < vec_capacity session.old.replies }
     ensures kept { Keeps session.old session.new }
+    ensures kept_room { KeepsRoom session.old session.new }
     ensures left { session.new.left.items ≡ session.old.left.items }
     ensures replies { session.new.replies.items ≡ session.old.replies.items ++ reply ∷ [] }
     ensures doing { session.new.doing ≡ Idle }
@@ -57,6 +59,7 @@ pub fn go_on(
 )
     requires { vec_len session.old.replies < vec_capacity session.old.replies }
     ensures kept { Keeps session.old session.new }
+    ensures kept_room { KeepsRoom session.old session.new }
     ensures left { session.new.left.items ≡ session.old.left.items }
     ensures goes { GoesOnWith (reverse later.items) own rows session.old session.new }
 {
@@ -83,6 +86,7 @@ pub fn go_on(
 fn push_left(session: &mut Session, number: u64)
     requires { vec_len session.old.left < vec_capacity session.old.left }
     ensures kept { Keeps session.old session.new }
+    ensures kept_room { KeepsRoom session.old session.new }
     ensures left { session.new.left.items ≡ session.old.left.items ++ number ∷ [] }
     ensures replies { session.new.replies.items ≡ session.old.replies.items }
     ensures room { vec_len session.new.replies ≡ vec_len session.old.replies }
@@ -102,6 +106,7 @@ pub fn make_change(session: &mut Session, frames: &mut Frames, number: u64, next
     ensures item { result ≡ change_item session.old.tran next }
     ensures pages { frames.new ≡ image_with frames.old next.cell next.after }
     ensures kept { Keeps session.old session.new }
+    ensures kept_room { KeepsRoom session.old session.new }
     ensures left { session.new.left.items ≡ session.old.left.items ++ number ∷ [] }
     ensures replies { session.new.replies.items ≡ session.old.replies.items }
     ensures room { vec_len session.new.replies ≡ vec_len session.old.replies }
@@ -127,6 +132,7 @@ pub fn make_change(session: &mut Session, frames: &mut Frames, number: u64, next
 fn close(session: &mut Session)
     ensures script { session.new.script.items ≡ session.old.script.items }
     ensures tran { session.new.tran ≡ 0 }
+    ensures kept_room { KeepsRoom session.old session.new }
     ensures replies { session.new.replies.items ≡ session.old.replies.items }
     ensures room { vec_len session.new.replies ≡ vec_len session.old.replies }
     ensures room_is { vec_capacity session.new.replies ≡ vec_capacity session.old.replies }
@@ -145,7 +151,10 @@ pub fn commit(alloc: Global, session: &mut Session, rows: Option<u64>) -> Record
     requires { vec_len session.old.replies < vec_capacity session.old.replies }
     ensures item { result ≡ Commit (record { 0 = session.old.tran }) }
     ensures script { session.new.script.items ≡ session.old.script.items }
+    ensures used { session.new.used ≤ 8192 }
     ensures tran { session.new.tran ≡ 0 }
+    ensures kept_room { KeepsRoom session.old session.new }
+    ensures left { session.new.left.items ≡ [] }
     ensures replies { session.new.replies.items ≡ session.old.replies.items ++ reply_of rows ∷ [] }
     ensures doing { session.new.doing ≡ Idle }
 {
@@ -181,7 +190,8 @@ fn put_back_at(frames: &mut Frames, items: &[Record], number: u64)
 pub fn step_back(session: &mut Session, frames: &mut Frames, items: &[Record]) -> Record
     requires room { vec_len session.old.replies < vec_capacity session.old.replies }
     requires fits { MayUndo frames.old items.now (reverse session.old.left.items) }
-    ensures { StepsBack (reverse session.old.left.items) items.now session.old session.new frames.old frames.new result }
+    ensures back { StepsBack (reverse session.old.left.items) items.now session.old session.new frames.old frames.new result }
+    ensures kept_room { KeepsRoom session.old session.new }
 {
     let tran = Tran(session.tran);
     match session.left.pop() {
@@ -211,9 +221,10 @@ pub fn step(
 ) -> Record
     requires under_way { IsUnderWay session.old.doing }
     requires replies { vec_len session.old.replies < vec_capacity session.old.replies }
-    requires left { vec_len session.old.left < vec_capacity session.old.left }
+    requires left { length session.old.left.items + pending_of session.old.doing ≤ vec_capacity session.old.left }
     requires fits { MayStep frames.old items.now session.old session.old.doing }
-    ensures { StepsBy number items.now session.old session.new frames.old frames.new result session.old.doing }
+    ensures steps { StepsBy number items.now session.old session.new frames.old frames.new result session.old.doing }
+    ensures kept_room { KeepsRoom session.old session.new }
 {
     match replace(&mut session.doing, Doing::Idle) {
         Doing::Changing {

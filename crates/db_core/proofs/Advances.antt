@@ -1,0 +1,134 @@
+-- One turn of a session, whatever it does.
+use Rattle.std.proofs.Common.{◌≡◌, ℕ, zero, suc, ◌+◌, ◌<◌, ◌≤◌, get_or, true, List, [], ◌∷◌, length, Some, None, inl, inr, refl, sym, ap, ◌∙◌, subst, arith, vec_len}
+use Rattle.std.specs.Prelude.{slice_get, Result, Ok, Err, IfOk, nat_le}
+use Rattle.std.proofs.lemmas.Bool.{and_parts, leb-true}
+use Rattle.spec_file.specs.declared.data.NoMemory.{NoMemory}
+use Rattle.spec_log.specs.declared.item.Record.{Record}
+use Rattle.spec_script.specs.declared.statement.Statement.{Statement}
+use Rattle.spec_script.specs.declared.statement.Statement.TheVariants as statement
+use Rattle.spec_plan.specs.Statements.{count_outcome, insert_outcome}
+use Rattle.spec_run.specs.Begun.{Setting, sight_of}
+use Rattle.spec_run.specs.Progress.{progress_of, at_work, with_statement, script_of, first_of, next_of}
+use Rattle.spec_run.specs.Turns.{Rests}
+use Rattle.db_heap.specs.declared.plan.Plan.{Plan}
+use Rattle.db_heap.specs.Plans.{outcome_of}
+use Rattle.db_core.specs.declared.session.Doing.TheVariants.{Idle}
+use Rattle.db_core.specs.declared.session.Session.{Session}
+use Rattle.db_core.specs.declared.state.State.{State}
+use Rattle.db_core.specs.declared.out.TurnOut.{TurnOut}
+use Rattle.db_core.specs.declared.out.TurnOut.TheVariants as out
+use Rattle.db_core.specs.Checks.{Checked, Snapped}
+use Rattle.db_core.specs.Plans.{IsPlanned}
+use Rattle.db_core.specs.Stages.{IsStage, is_table}
+use Rattle.db_core.specs.declared.stage.Stage.TheVariants as stages
+use Rattle.db_core.specs.States.{IsAt, IsSession}
+use Rattle.db_core.specs.Store.{run_is, log_of, told_count, SaysOut, IsGood, Answers, Advanced}
+use Rattle.db_core.specs.Views.{tran_of_session, sight_at}
+use Rattle.db_core.proofs.Good.{items_entries, get_same}
+use Rattle.db_core.proofs.Next.{told_count as replies_told}
+use Rattle.db_core.proofs.Planned.{insert_planned, count_planned, want_planned}
+
+-- the statement that stands at a place
+pub at_statement : (xs : List Statement) (i : ℕ) (s y : Statement) → slice_get xs i ≡ Some s → y ≡ get_or xs i y → y ≡ s
+at_statement [] i s y e at = absurd (cc)
+at_statement (x ∷ xs) zero s y e at = (let same : x ≡ s = cc in at ∙ same)
+at_statement (x ∷ xs) (suc i) s y e at = at_statement xs i s y e at
+
+-- the statement that comes next is the one that was found
+pub next_is : (x : Session) (len : ℕ) (y : Statement) → IsStage x stages.Table → len ≡ vec_len x.replies → y ≡ get_or x.script.items len y →
+    (slice_get x.script.items (length x.replies.items) ≡ Some y) × (is_table y ≡ true)
+next_is x len y stage len_is at =
+    let count : len ≡ length x.replies.items = len_is ∙ x.replies.ok.0 in
+    let same = at_statement x.script.items len stage.1.0 y (ap (slice_get x.script.items) count ∙ stage.1.1) at in
+    (stage.1.1 ∙ ap Some (sym same), ap is_table same ∙ stage.1.2)
+
+-- what a transaction sees is what its session does
+pub same_sight : (st : State) (k : ℕ) (x : Session) → slice_get st.sessions.items k ≡ Some x → sight_at st k ≡ sight_of (run_is st) (log_of st) x.tran
+same_sight st k x here = ap (λ o. sight_of (run_is st) (log_of st) (tran_of_session o)) here
+
+pub table_insert : (st : State) (k : ℕ) (x : Session) (table : List ℕ) (key : ℕ) (payload : List ℕ) → IsGood st → slice_get st.sessions.items k ≡ Some x → x.doing ≡ Idle →
+    slice_get x.script.items (length x.replies.items) ≡ Some (statement.Insert table key payload) → (result : Result Plan NoMemory) →
+    IfOk result (λ p. outcome_of p ≡ insert_outcome (sight_at st k) table key payload) → IsPlanned st k x result
+table_insert st k x table key payload good here idle next (Ok p) is =
+    insert_planned st k x table key payload p good here idle next (is ∙ ap (λ s. insert_outcome s table key payload) (same_sight st k x here))
+table_insert st k x table key payload good here idle next (Err e) is = want_planned st k x e (statement.Insert table key payload) idle next refl
+
+pub table_count : (st : State) (k : ℕ) (x : Session) (table : List ℕ) → slice_get st.sessions.items k ≡ Some x → x.doing ≡ Idle →
+    slice_get x.script.items (length x.replies.items) ≡ Some (statement.Count table) → (result : Result Plan NoMemory) →
+    IfOk result (λ p. outcome_of p ≡ count_outcome (sight_at st k) table) → IsPlanned st k x result
+table_count st k x table here idle next (Ok p) is = count_planned st k x table p idle next (is ∙ ap (λ s. count_outcome s table) (same_sight st k x here))
+table_count st k x table here idle next (Err e) is = want_planned st k x e (statement.Count table) idle next refl
+
+-- the payload of a statement of a script
+pub short_payload : (st : State) (k : ℕ) (x : Session) (table : List ℕ) (key : ℕ) (payload : List ℕ) → IsGood st → slice_get st.sessions.items k ≡ Some x →
+    slice_get x.script.items (length x.replies.items) ≡ Some (statement.Insert table key payload) → length payload ≤ 1013
+short_payload st k x table key payload good here next =
+    let mine = good.state.each k x here in
+    let proper = good.proper (k + 1) (length x.replies.items) (statement.Insert table key payload) (ap (λ script. slice_get script (length x.replies.items)) mine.script_is ∙ next) in
+    let parts = and_parts _ _ proper in
+    let payload_is = and_parts _ (nat_le (length payload) 1013) parts.1 in
+    leb-true (length payload) 1013 payload_is.1
+
+-- a session whose script is done has no next item
+pub done_next : (run : Setting) (log : List Record) (s : ℕ) (x : Session) → IsSession run log s x → x.doing ≡ Idle → slice_get x.script.items (length x.replies.items) ≡ None → next_of run s log ≡ None
+done_next run log s x mine idle none =
+    let p = progress_of run s log in
+    let due : p.due ≡ [] = subst (IsAt run log s (length x.replies.items + 1) x.tran p) idle mine.doing_is in
+    let no_statement : slice_get (script_of run.scripts s) (length p.told) ≡ None = ap (λ script. slice_get script (length p.told)) mine.script_is ∙ ap (slice_get x.script.items) (replies_told run log s x mine) ∙ none in
+    ap (λ d. first_of (at_work run log s p d).due) due ∙ ap (λ o. first_of (with_statement run log s p o).due) no_statement ∙ ap first_of due
+
+pub done_advanced : (st : State) (k : ℕ) (x : Session) → IsGood st → slice_get st.sessions.items k ≡ Some x → x.doing ≡ Idle → slice_get x.script.items (length x.replies.items) ≡ None → Advanced k st st out.Finished
+done_advanced st k x good here idle none =
+    let next = done_next (run_is st) (log_of st) (k + 1) x (good.state.each k x here) idle none in
+    record {
+      good = good;
+      turn = (refl, Rests (subst (λ l. next_of (run_is st) (k + 1) l ≡ None) (sym (items_entries (log_of st))) next) refl);
+      says = (next, refl);
+      told = omega arith;
+      rests = λ y at e. (let same = get_same st.sessions.items k x y here at in subst (λ (z : Session). (z.doing ≡ Idle) × (slice_get z.script.items (length z.replies.items) ≡ None)) same (idle, none));
+      idle = λ y at e. inl refl;
+    }
+
+-- the session at its place behind a turn
+pub told_now : (old new : State) (k : ℕ) (y : Session) → IsGood new → run_is new ≡ run_is old → slice_get new.sessions.items k ≡ Some y →
+    told_count (run_is old) (k + 1) (log_of new) ≡ length y.replies.items
+told_now old new k y good run here = replies_told (run_is old) (log_of new) (k + 1) y (subst (λ r. IsSession r (log_of new) (k + 1) y) run (good.state.each k y here))
+
+pub checked_advanced : (old new : State) (k before : ℕ) (x y : Session) (answer : TurnOut) → IsGood old → slice_get old.sessions.items k ≡ Some x → Checked k old new → before ≡ length x.replies.items →
+    slice_get new.sessions.items k ≡ Some y → Answers before y answer → Advanced k old new answer
+checked_advanced old new k before x y answer good here c count now is = record { good = c.good; turn = c.turn; says = by_answer answer is; told = c.told.0; rests = λ z at e. absurd (subst (Answers before y) e is); idle = λ z at e. inr (c.idle z at e) }
+  where
+    by_answer : (a : TurnOut) → Answers before y a → SaysOut (run_is old) (k + 1) (log_of old) (log_of new) a
+    by_answer out.Finished a = absurd a
+    by_answer (out.Answered index) a =
+        let n = told_now old new k y c.good c.turn.0 now in
+        let o = replies_told (run_is old) (log_of old) (k + 1) x (good.state.each k x here) in
+        let low = c.told.0 in
+        let high = c.told.1 in
+        let index_is = a.0 in
+        let more = a.1 in
+        (omega (arith, n, index_is), omega (arith, n, o, index_is, more, high, count))
+    by_answer out.Checking a = absurd a
+    by_answer out.Moved a =
+        let n = told_now old new k y c.good c.turn.0 now in
+        let o = replies_told (run_is old) (log_of old) (k + 1) x (good.state.each k x here) in
+        let low = c.told.0 in
+        (omega (arith, n, o, a, low, count), c.silent)
+
+pub snapped_advanced : (old new : State) (k : ℕ) → Snapped k old new → Advanced k old new out.Checking
+snapped_advanced old new k s = record {
+  good = s.good;
+  turn = s.turn;
+  says = (s.told, (s.index, s.snap));
+  told = (let same = s.told in omega (arith, same));
+  rests = λ z at e. absurd (cc);
+  idle = λ z at e. absurd (s.busy z at e);
+}
+
+-- as many sessions stand behind a turn as before it
+pub same_many : (old new : State) (k : ℕ) → IsGood old → IsGood new → run_is new ≡ run_is old → k < length old.sessions.items → k < length new.sessions.items
+same_many old new k good_old good_new run lt =
+    let a = good_old.state.few in
+    let b = good_new.state.few in
+    let c = ap (λ (r : Setting). length r.scripts) run in
+    omega (arith, a, b, c, lt)

@@ -1,0 +1,174 @@
+-- A check that takes items back keeps its snapshot.
+use Rattle.std.proofs.Common.{◌≡◌, ℕ, ◌+◌, ◌-◌, ◌<◌, ◌≤◌, Bool, true, false, List, [], ◌∷◌, length, get_or, reverse, take, Some, ◌⊎◌, inl, inr, refl, sym, ap, ◌∙◌, subst, arith}
+use Rattle.std.specs.Prelude.{if◌then◌else◌, slice_get}
+use Rattle.std.proofs.lemmas.List.{reverse-append, length-reverse, take_more}
+use Rattle.std.proofs.lemmas.Option.{slice_get-get_or, slice_get_within, slice_get_cases, get_or_from_slice_get}
+use Rattle.spec_file.specs.Image.{Image}
+use Rattle.spec_log.specs.declared.item.Record.{Record}
+use Rattle.spec_log.specs.declared.item.Record.TheVariants.{CheckEnd}
+use Rattle.spec_log.specs.Items.{tran_of}
+use Rattle.spec_log.specs.Log.{is_unfinished, item_at}
+use Rattle.spec_log.specs.Images.{take_back, taken_back}
+use Rattle.law_undo.specs.ReadLogs.{shape_take_back}
+use Rattle.spec_run.specs.Begun.{Setting, Telling, Reports}
+use Rattle.spec_run.specs.Progress.{progress_of}
+use Rattle.spec_run.specs.Turns.{AreTold, told_to}
+use Rattle.db_core.specs.declared.session.Check.{Check}
+use Rattle.db_core.specs.declared.session.Doing.TheVariants.{Checking}
+use Rattle.db_core.specs.declared.session.Session.{Session}
+use Rattle.db_core.specs.States.{whole_log, items_before, is_among, IsSnapshot, IsAt, IsOpen, IsSession}
+use Rattle.db_core.specs.Back.{first_back, without, MayGoBack, TakesLast, FindsNone, GoesBack, last_step, steps_left}
+use Rattle.db_core.proofs.CheckSteps.{checking_due}
+use Rattle.db_core.proofs.Stepped.{item_of}
+
+-- one item more, and it is the newest
+pub one_back : (items : List Record) (n : ℕ) (x : Record) → slice_get items n ≡ Some x → first_back items (n + 1) ≡ x ∷ first_back items n
+one_back items n x e =
+    ap reverse (take_more items n x (slice_get_within items n x e)) ∙ reverse-append (take n items) (get_or items n x ∷ [])
+    ∙ ap (λ y. y ∷ first_back items n) (get_or_from_slice_get items n x x e)
+
+back_more : (ongoing : List ℕ) (items : List Record) (n : ℕ) (x : Record) (image : Image) → slice_get items n ≡ Some x →
+    without ongoing items (n + 1) image ≡ without ongoing items n (if is_among ongoing (tran_of x) then take_back (first_back items n) x image else image)
+back_more ongoing items n x image e = ap (λ log. taken_back (is_among ongoing) log image) (one_back items n x e)
+
+-- one of theirs is taken back first
+pub theirs_goes : (ongoing : List ℕ) (items : List Record) (n : ℕ) (x : Record) (image : Image) → slice_get items n ≡ Some x → is_among ongoing (tran_of x) ≡ true →
+    without ongoing items (n + 1) image ≡ without ongoing items n (take_back (first_back items n) x image)
+theirs_goes ongoing items n x image e h =
+    back_more ongoing items n x image e ∙ ap (λ b. without ongoing items n (if b then take_back (first_back items n) x image else image)) h
+
+pub twice : (xs : List Record) → reverse (reverse xs) ≡ xs
+twice [] = refl
+twice (x ∷ xs) = ap reverse (reverse-append (x ∷ []) xs) ∙ reverse-append (reverse xs) (x ∷ []) ∙ ap (λ ys. x ∷ ys) (twice xs)
+
+-- the item with a number, in a list in the log's order
+pub numbered : (items : List Record) (n : ℕ) (x : Record) → 0 < n → n ≤ length items → x ≡ get_or items (n - 1) x → item_at (reverse items) n ≡ Some x
+numbered items n x above within is =
+    let place : n - 1 + 1 ≡ n = omega (arith, above) in
+    let below : n - 1 < length items = omega (arith, above, within) in
+    ap (item_at (reverse items)) (sym place) ∙ item_of (reverse items) (n - 1) (subst (λ m. n - 1 < m) (sym (length-reverse items)) below)
+    ∙ ap (λ xs. slice_get xs (n - 1)) (twice items) ∙ slice_get-get_or items (n - 1) x below ∙ ap Some (sym is)
+
+-- the last item of theirs is taken back
+pub went_back : (items : List Record) (old new : Check) (ongoing : List ℕ) (last : ℕ) → ongoing ≡ old.ongoing.items → MayGoBack items old → last ≤ old.place → 0 < last →
+    ((image : Image) → without ongoing items old.place image ≡ without ongoing items last image) →
+    (0 < last → (x : Record) → slice_get items (last - 1) ≡ Some x → is_among ongoing (tran_of x) ≡ true) →
+    new.place ≡ last - 1 → ((x : Record) → slice_get items (last - 1) ≡ Some x → new.pages ≡ take_back (first_back items (last - 1)) x old.pages) →
+    new.point ≡ old.point → new.ongoing.items ≡ old.ongoing.items → new.undone ≡ old.undone → GoesBack items old new
+went_back items old new ongoing last is may low some same found place pages point keeps undone =
+    let inside = may.inside in
+    let count : last ≡ new.place + 1 = omega (arith, place, some) in
+    elim (slice_get_cases items (last - 1)).1 [
+      | inl p ↦ record {
+        point = point;
+        ongoing = keeps;
+        step = inl (record {
+          item = p.0;
+          stands = ap (slice_get items) place ∙ p.2;
+          theirs = subst (λ o. is_among o (tran_of p.0) ≡ true) is (found some p.0 p.2);
+          below = omega (arith, low, count);
+          last = λ image. ap (λ o. without o items old.place image) (sym is) ∙ same image ∙ ap (λ o. without o items last image) is ∙ ap (λ n. without old.ongoing.items items n image) count;
+          pages = pages p.0 p.2 ∙ ap (λ n. take_back (first_back items n) p.0 old.pages) (sym place);
+          undone = undone;
+        });
+      }
+      | inr q ↦ absurd (let past = q.0 in omega (arith, past, some, low, inside))
+    ]
+
+-- transactions that are the same take back the same
+same_back : (c d : ℕ → Bool) → ((t : ℕ) → c t ≡ d t) → (log : List Record) (image : Image) → taken_back c log image ≡ taken_back d log image
+same_back c d same [] image = refl
+same_back c d same (x ∷ older) image =
+    same_back c d same older (if c (tran_of x) then take_back older x image else image)
+    ∙ ap (λ b. taken_back d older (if b then take_back older x image else image)) (same (tran_of x))
+
+-- what a check reports stays as it was
+step_same : (items : List Record) (old new : Check) → TakesLast items old new ⊎ FindsNone items old new →
+    without old.ongoing.items items old.place old.pages ≡ without old.ongoing.items items new.place new.pages
+step_same items old new (inl t) =
+    let ongoing = old.ongoing.items in
+    t.last old.pages ∙ theirs_goes ongoing items new.place t.item old.pages t.stands t.theirs ∙ ap (without ongoing items new.place) (sym t.pages)
+step_same items old new (inr f) =
+    let ongoing = old.ongoing.items in
+    f.none old.pages ∙ sym f.pages ∙ sym (ap (λ n. without ongoing items n new.pages) f.place)
+
+step_long : (items : List Record) (old new : Check) → TakesLast items old new ⊎ FindsNone items old new → length new.pages ≡ length old.pages
+step_long items old new (inl t) = ap length t.pages ∙ (shape_take_back (first_back items new.place) t.item old.pages).pages
+step_long items old new (inr f) = ap length f.pages
+
+step_low : (items : List Record) (old new : Check) → TakesLast items old new ⊎ FindsNone items old new → new.place ≤ old.place
+step_low items old new (inl t) = let below = t.below in omega (arith, below)
+step_low items old new (inr f) = let none = f.place in omega (arith, none)
+
+step_undone : (items : List Record) (old new : Check) → TakesLast items old new ⊎ FindsNone items old new → (old.undone ≡ true → old.place ≡ 0) → new.undone ≡ true → new.place ≡ 0
+step_undone items old new (inl t) before e = let none = before (sym t.undone ∙ e) in let below = t.below in omega (arith, none, below)
+step_undone items old new (inr f) before e = f.place
+
+-- each step leaves less to take back, until the check knows that none is left
+pub step_falls : (items : List Record) (old new : Check) → GoesBack items old new → (new.place < old.place) ⊎ (new.undone ≡ true)
+step_falls items old new back = by_step back.step
+  where
+    by_step : TakesLast items old new ⊎ FindsNone items old new → (new.place < old.place) ⊎ (new.undone ≡ true)
+    by_step (inl t) = inl t.below
+    by_step (inr f) = inr f.undone
+
+pub back_falls : (items : List Record) (old new : Check) → GoesBack items old new → old.undone ≡ false → steps_left new < steps_left old
+back_falls items old new back fresh = by_step back.step
+  where
+    by_step : TakesLast items old new ⊎ FindsNone items old new → steps_left new < steps_left old
+    by_step (inl t) =
+        let same : last_step new.undone ≡ last_step old.undone = ap last_step t.undone in
+        let below = t.below in
+        omega (arith, same, below)
+    by_step (inr f) =
+        let after : last_step new.undone ≡ 0 = ap last_step f.undone in
+        let before : last_step old.undone ≡ 1 = ap last_step fresh in
+        let none = f.place in
+        omega (arith, after, before, none)
+
+-- a step keeps the snapshot
+pub back_keeps : (run : Setting) (log : List Record) (check next : Check) (telling : Telling) → IsSnapshot run log check telling → GoesBack (reverse (whole_log run log)) check next →
+    IsSnapshot run log next telling
+back_keeps run log check next telling snap back =
+    let items = reverse (whole_log run log) in
+    let chosen = is_unfinished (items_before run log check.point) in
+    let point = back.point in
+    let placed = snap.placed in
+    let low = step_low items check next back.step in
+    let same : taken_back chosen (first_back items check.place) check.pages ≡ taken_back chosen (first_back items next.place) next.pages =
+    same_back chosen (is_among check.ongoing.items) snap.open_is (first_back items check.place) check.pages ∙ step_same items check next back.step
+    ∙ sym (same_back chosen (is_among check.ongoing.items) snap.open_is (first_back items next.place) next.pages) in
+    record {
+      above = subst (λ n. 0 < n) (sym point) snap.above;
+      inside = subst (λ n. n ≤ length (whole_log run log)) (sym point) snap.inside;
+      placed = omega (arith, point, placed, low);
+      long = step_long items check next back.step ∙ snap.long;
+      open_is = λ t. ap (λ n. is_unfinished (items_before run log n) t) point ∙ snap.open_is t ∙ ap (λ o. is_among o t) (sym back.ongoing);
+      reports = snap.reports ∙ ap (Reports check.point) same
+          ∙ ap (λ n. Reports n (taken_back (is_unfinished (items_before run log n)) (first_back items next.place) next.pages)) (sym point);
+      undone = step_undone items check next back.step snap.undone;
+    }
+
+-- the session behind a step
+pub back_session : (run : Setting) (log : List Record) (s : ℕ) (old new : Session) (check next : Check) → IsSession run log s old → old.doing ≡ Checking check →
+    GoesBack (reverse (whole_log run log)) check next → new.doing ≡ Checking next → new.script.items ≡ old.script.items → new.replies.items ≡ old.replies.items → new.tran ≡ old.tran →
+    new.left.items ≡ old.left.items → new.held.items ≡ old.held.items → new.used ≡ old.used → IsSession run log s new
+back_session run log s old new check next mine doing back going script replies tran left held used =
+    let p = progress_of run s log in
+    let d = checking_due run log s old check mine doing in
+    let at : IsAt run log s (length new.replies.items + 1) new.tran p (Checking next) = (
+      d.0 ∙ ap (λ rs. CheckEnd s (length rs + 1) 0 ∷ []) (sym replies),
+      back_keeps run log check next p.telling d.1 back,
+      d.2 ∙ ap (λ rs. Some (CheckEnd s (length rs + 1) 3)) (sym replies),
+    ) in
+    record {
+      script_is = mine.script_is ∙ sym script;
+      told = subst (AreTold run.geometry (told_to run s log)) (sym replies) mine.told;
+      tran_is = mine.tran_is ∙ sym tran;
+      doing_is = subst (IsAt run log s (length new.replies.items + 1) new.tran p) (sym going) at;
+      opens =
+          subst (λ t. (t ≡ 0) ⊎ IsOpen (whole_log run log) t new.left.items new.held.items new.used) (sym tran)
+          (subst (λ l. (old.tran ≡ 0) ⊎ IsOpen (whole_log run log) old.tran l new.held.items new.used) (sym left)
+          (subst (λ h. (old.tran ≡ 0) ⊎ IsOpen (whole_log run log) old.tran old.left.items h new.used) (sym held)
+          (subst (λ u. (old.tran ≡ 0) ⊎ IsOpen (whole_log run log) old.tran old.left.items old.held.items u) (sym used) mine.opens)));
+    }

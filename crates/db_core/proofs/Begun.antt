@@ -1,0 +1,327 @@
+-- Sessions that have done nothing, runs one after another, and what contracts see of the core.
+use Rattle.std.proofs.Common.{◌≡◌, ℕ, zero, suc, ◌+◌, ◌-◌, ◌*◌, ◌<◌, ◌≤◌, true, List, [], ◌∷◌, ◌++◌, length, map, reverse, Some, None, inl, refl, sym, ap, ◌∙◌, subst, arith, vec_len, vec_capacity}
+use Rattle.std.specs.Prelude.{if◌then◌else◌, slice_get, sum_by}
+use Rattle.std.proofs.lemmas.Bool.{ne_eqb}
+use Rattle.std.proofs.lemmas.List.{reverse-append}
+use Rattle.std.proofs.lemmas.List.Sums.{sum_by-cons}
+use Rattle.spec_file.specs.Image.{Image}
+use Rattle.spec_log.specs.declared.item.Record.{Record}
+use Rattle.spec_log.specs.Items.{has_form}
+use Rattle.spec_log.specs.Cells.{HasWholePages}
+use Rattle.spec_log.specs.Rules.{HaveForm}
+use Rattle.spec_log.specs.Images.{final_image}
+use Rattle.law_undo.specs.ReadLogs.{older_forms}
+use Rattle.law_undo.specs.Views.{sound_forms}
+use Rattle.spec_script.specs.Lines.{is_statement}
+use Rattle.spec_file.specs.declared.geometry.Geometry.TheVariants.{Small}
+use Rattle.ck_facts.specs.Maps.{HasShape}
+use Rattle.spec_script.specs.declared.statement.Statement.{Statement}
+use Rattle.spec_run.specs.Begun.{Setting}
+use Rattle.spec_run.specs.Entries.{Entry, items_of}
+use Rattle.spec_run.specs.Turns.{AreTold, told_to, IsLegal, IsWhole, Run}
+use Rattle.spec_run.specs.Progress.{script_of, progress_of, next_of}
+use Rattle.law_run.specs.Legal.{legal_is_sound}
+use Rattle.db_core.specs.declared.session.Session.{Session}
+use Rattle.db_core.specs.Rooms.{owed_by, pending_of, started_of, HasOwnRoom}
+use Rattle.db_core.specs.declared.state.State.{State}
+use Rattle.db_core.specs.declared.out.TurnOut.{TurnOut}
+use Rattle.db_core.specs.Runs.{AreNew, IsNew, setting_of, turns_of, rest_from}
+use Rattle.db_core.specs.Replays.{RunsSchedule, EndsSessions}
+use Rattle.db_core.specs.States.{Db, TurnIn, entries_of, run_of, IsAt, IsState}
+use Rattle.db_core.specs.Store.{run_is, log_of, db_of, AreProper, IsGood, IsTurn, SaysOut}
+use Rattle.db_core.proofs.Good.{items_entries}
+
+-- one more session, for one more script
+pub new_more : {X : Type 0} (v : X → List Statement) (xs : List X) (x : X) (sessions : List Session) (y : Session) → AreNew (map v xs) sessions → IsNew (v x) y →
+    AreNew (map v (xs ++ x ∷ [])) (sessions ++ y ∷ [])
+new_more v [] x [] y are new = (new, tt)
+new_more v [] x (z ∷ sessions) y are new = absurd are
+new_more v (w ∷ xs) x [] y are new = absurd are
+new_more v (w ∷ xs) x (z ∷ sessions) y are new = (are.0, new_more v xs x sessions y are.1 new)
+
+-- the sessions have these scripts
+pub scripts_new : (scripts : List (List Statement)) (sessions : List Session) → AreNew scripts sessions → map (λ (x : Session). x.script.items) sessions ≡ scripts
+scripts_new [] [] are = refl
+scripts_new [] (x ∷ sessions) are = absurd are
+scripts_new (script ∷ scripts) [] are = absurd are
+scripts_new (script ∷ scripts) (x ∷ sessions) are =
+    ap (λ l. l ∷ map (λ (y : Session). y.script.items) sessions) are.0.script_is ∙ ap (λ ls. script ∷ ls) (scripts_new scripts sessions are.1)
+
+pub length_new : (scripts : List (List Statement)) (sessions : List Session) → AreNew scripts sessions → length sessions ≡ length scripts
+length_new [] [] are = refl
+length_new [] (x ∷ sessions) are = absurd are
+length_new (script ∷ scripts) [] are = absurd are
+length_new (script ∷ scripts) (x ∷ sessions) are = let e = length_new scripts sessions are.1 in omega (arith, e)
+
+-- each session is new, with the script of its place
+pub record IsNewAt (scripts : List (List Statement)) (k : ℕ) (x : Session) : Type 0 where
+  pub script : List Statement
+  pub here : slice_get scripts k ≡ Some script
+  pub new : IsNew script x
+
+pub new_at : (scripts : List (List Statement)) (sessions : List Session) (k : ℕ) (x : Session) → AreNew scripts sessions → slice_get sessions k ≡ Some x → IsNewAt scripts k x
+new_at [] [] k x are e = absurd (cc)
+new_at [] (y ∷ sessions) k x are e = absurd are
+new_at (script ∷ scripts) [] k x are e = absurd are
+new_at (script ∷ scripts) (y ∷ sessions) zero x are e =
+    let same : y ≡ x = cc in
+    record { script = script; here = refl; new = subst (IsNew script) same are.0 }
+new_at (script ∷ scripts) (y ∷ sessions) (suc k) x are e =
+    let n = new_at scripts sessions k x are.1 e in
+    record { script = n.script; here = n.here; new = n.new }
+
+-- it has its room
+pub room_new : (script : List Statement) (x : Session) → IsNew script x → length script ≤ 65536 → HasOwnRoom x
+room_new script x new short =
+    let script_is : length x.script.items ≡ length script = ap length new.script_is in
+    let replies : length x.replies.items ≡ 0 = ap length new.replies in
+    let left : length x.left.items ≡ 0 = ap length new.left in
+    let started : started_of x.doing ≡ 0 = ap started_of new.doing in
+    let pending : pending_of x.doing ≡ 0 = ap pending_of new.doing in
+    let used = new.used in
+    let room = new.room in
+    record {
+      short = omega (arith, script_is, short);
+      replies = omega (arith, script_is, room);
+      busy = omega (arith, replies, started);
+      left = omega (arith, left, pending);
+      announced = omega (arith, left, pending);
+      used = omega (arith, used);
+    }
+
+-- each script is short
+abbrev pub AreShort : List (List Statement) → Type 0
+AreShort scripts = (k : ℕ) (script : List Statement) → slice_get scripts k ≡ Some script → length script ≤ 65536
+
+pub each_room_new : (scripts : List (List Statement)) (sessions : List Session) → AreNew scripts sessions → AreShort scripts →
+    (k : ℕ) (x : Session) → slice_get sessions k ≡ Some x → HasOwnRoom x
+each_room_new scripts sessions are short k x e =
+    let n = new_at scripts sessions k x are e in
+    room_new n.script x n.new (short k n.script n.here)
+
+owed_low : (x : Session) → HasOwnRoom x → owed_by x ≤ 1000000
+owed_low x room =
+    let a = room.announced in
+    let b = room.used in
+    let c = room.short in
+    omega (arith, a, b, c)
+
+sum_low : (xs : List Session) → ((k : ℕ) (x : Session) → slice_get xs k ≡ Some x → owed_by x ≤ 1000000) → sum_by owed_by xs ≤ 1000000 * length xs
+sum_low [] all = omega arith
+sum_low (x ∷ xs) all =
+    let here = all 0 x refl in
+    let rest = sum_low xs (λ k y e. all (suc k) y e) in
+    let more = sum_by-cons owed_by x xs in
+    omega (arith, here, rest, more)
+
+-- what all owe together is little
+pub low_new : (scripts : List (List Statement)) (sessions : List Session) → AreNew scripts sessions → AreShort scripts → length scripts ≤ 16 →
+    sum_by owed_by sessions < 9223372036854775808
+low_new scripts sessions are short few =
+    let sum = sum_low sessions (λ k x e. owed_low x (each_room_new scripts sessions are short k x e)) in
+    let count = length_new scripts sessions are in
+    omega (arith, sum, few, count)
+
+script_at : (sessions : List Session) (k : ℕ) (x : Session) → slice_get sessions k ≡ Some x → script_of (map (λ (y : Session). y.script.items) sessions) (k + 1) ≡ x.script.items
+script_at [] k x e = absurd (cc)
+script_at (y ∷ sessions) zero x e = let same : y ≡ x = cc in ap (λ (q : Session). q.script.items) same
+script_at (y ∷ sessions) (suc k) x e =
+    let rest = map (λ (z : Session). z.script.items) sessions in
+    let place : suc k + 1 - 1 ≡ k + 1 = omega arith in
+    ap (λ b. if b then y.script.items else script_of rest (suc k + 1 - 1)) (ne_eqb (suc k + 1) 1 (λ h. omega (arith, h)))
+    ∙ ap (script_of rest) place ∙ script_at sessions k x e
+
+length_scripts : (sessions : List Session) → length (map (λ (x : Session). x.script.items) sessions) ≡ length sessions
+length_scripts [] = refl
+length_scripts (y ∷ sessions) = let e = length_scripts sessions in omega (arith, e)
+
+-- the state before the first turn
+pub begin_state : (scripts : List (List Statement)) (image : Image) (sessions : List Session) → HasWholePages image → 16 ≤ length image → AreNew scripts sessions →
+    IsState (run_of image sessions) [] image sessions 0 0 0
+begin_state scripts image sessions whole many are = record {
+  start = record { forms = tt; rules = tt; whole = whole; many = many };
+  legal = tt;
+  pages_are = refl;
+  few = sym (length_scripts sessions);
+  each = λ k x at. let i = (new_at scripts sessions k x are at).new in record {
+    script_is = script_at sessions k x at;
+    told = subst (AreTold (run_of image sessions).geometry []) (sym i.replies) tt;
+    tran_is = sym i.tran;
+    doing_is = subst (λ d. IsAt (run_of image sessions) [] (k + 1) (length x.replies.items + 1) x.tran (progress_of (run_of image sessions) (k + 1) []) d) (sym i.doing) refl;
+    opens = inl i.tran;
+  };
+  last_is = refl;
+  all_is = refl;
+  size_is = refl;
+}
+
+-- what holds of each statement at its place holds of each session's
+pub scripts_hold : (P : Statement → Type 0) (scripts : List (List Statement)) →
+    ((k n : ℕ) (script : List Statement) (st : Statement) → slice_get scripts k ≡ Some script → slice_get script n ≡ Some st → P st) →
+    (s n : ℕ) (st : Statement) → slice_get (script_of scripts s) n ≡ Some st → P st
+scripts_hold P [] all s n st e = absurd (cc)
+scripts_hold P (script ∷ scripts) all zero n st e = scripts_hold P scripts (λ k m sc x a b. all (suc k) m sc x a b) zero n st e
+scripts_hold P (script ∷ scripts) all (suc zero) n st e = all 0 n script st refl e
+scripts_hold P (script ∷ scripts) all (suc (suc s)) n st e =
+    scripts_hold P scripts (λ k m sc x a b. all (suc k) m sc x a b) (suc s) n st (subst (λ l. slice_get l n ≡ Some st) past e)
+  where
+    past : script_of (script ∷ scripts) (suc (suc s)) ≡ script_of scripts (suc s)
+    past = ap (λ b. if b then script else script_of scripts (suc (suc s) - 1)) (ne_eqb (suc (suc s)) 1 (λ h. omega (arith, h)))
+        ∙ ap (script_of scripts) (omega arith)
+
+-- a state that has just begun
+pub record IsFresh (image : Image) (scripts : List (List Statement)) (st : State) : Type 0 where
+  pub whole : HasWholePages image
+  pub shape : HasShape Small (length image)
+  pub few : length scripts ≤ 16
+  pub short : AreShort scripts
+  pub proper : (k n : ℕ) (script : List Statement) (x : Statement) → slice_get scripts k ≡ Some script → slice_get script n ≡ Some x → is_statement x ≡ true
+  pub new : AreNew scripts st.sessions.items
+  pub base : st.base.value ≡ image
+  pub first : st.first.value.items ≡ st.sessions.items
+  pub frames : st.frames ≡ image
+  pub items : st.items.items ≡ []
+  pub room : vec_len st.items + st.owed ≤ vec_capacity st.items
+  pub owed : st.owed ≡ sum_by owed_by st.sessions.items
+  pub last : st.last ≡ 0
+  pub all : st.all ≡ 0
+  pub size : st.size ≡ 0
+
+run_fresh : (image : Image) (scripts : List (List Statement)) (st : State) → IsFresh image scripts st → run_is st ≡ run_of image st.sessions.items
+run_fresh image scripts st fresh = ap (λ b. run_of b st.first.value.items) fresh.base ∙ ap (run_of image) fresh.first
+
+setting_fresh : (image : Image) (scripts : List (List Statement)) (st : State) → IsFresh image scripts st → run_of image st.sessions.items ≡ setting_of image scripts
+setting_fresh image scripts st fresh = ap (setting_of image) (scripts_new scripts st.sessions.items fresh.new)
+
+log_fresh : (image : Image) (scripts : List (List Statement)) (st : State) → IsFresh image scripts st → log_of st ≡ []
+log_fresh image scripts st fresh = ap reverse fresh.items
+
+-- what contracts see of it
+pub seen_fresh : (image : Image) (scripts : List (List Statement)) (st : State) → IsFresh image scripts st → db_of st ≡ record { run = setting_of image scripts; entries = [] }
+seen_fresh image scripts st fresh =
+    ap (λ (r : Setting). record { run = r; entries = entries_of (log_of st) }) (run_fresh image scripts st fresh ∙ setting_fresh image scripts st fresh)
+    ∙ ap (λ l. record { run = setting_of image scripts; entries = entries_of l }) (log_fresh image scripts st fresh)
+
+pub good_fresh : (image : Image) (scripts : List (List Statement)) (st : State) → IsFresh image scripts st → IsGood st
+good_fresh image scripts st fresh =
+    let sessions = st.sessions.items in
+    let run = run_of image sessions in
+    let shape = fresh.shape in
+    let at_first = begin_state scripts image sessions fresh.whole shape.low fresh.new in
+    let count = length_new scripts sessions fresh.new in
+    let few = fresh.few in
+    let last = fresh.last in
+    let all = fresh.all in
+    let size = fresh.size in
+    let of_run : run_is st ≡ run = run_fresh image scripts st fresh in
+    record {
+      state = subst (λ r. IsState r (log_of st) st.frames sessions st.last st.all st.size) (sym of_run)
+          (subst (λ l. IsState run l st.frames sessions st.last st.all st.size) (sym (log_fresh image scripts st fresh))
+          (subst (λ f. IsState run [] f sessions st.last st.all st.size) (sym fresh.frames)
+          (subst (λ n. IsState run [] image sessions n st.all st.size) (sym last)
+          (subst (λ n. IsState run [] image sessions 0 n st.size) (sym all)
+          (subst (λ n. IsState run [] image sessions 0 0 n) (sym size) at_first)))));
+      room = fresh.room;
+      owed_is = sym fresh.owed;
+      each_room = each_room_new scripts sessions fresh.new fresh.short;
+      few = omega (arith, count, few);
+      low = omega (arith, last);
+      shape = subst (λ (b : Image). HasShape Small (length b)) (sym fresh.base) shape;
+      proper = subst AreProper (sym (of_run ∙ setting_fresh image scripts st fresh)) (scripts_hold (λ x. is_statement x ≡ true) scripts fresh.proper);
+      all_low = omega (arith, all);
+      size_low = omega (arith, size);
+    }
+
+-- a run after a run
+pub run_then : (run : Setting) (xs ys : List ℕ) (a b c : List Entry) → Run run a xs b → Run run b ys c → Run run a (xs ++ ys) c
+run_then run [] ys a b c first next = subst (λ e. Run run e ys c) first next
+run_then run (s ∷ xs) ys a b c first next = (first.0, first.1, run_then run xs ys first.0 b c first.2 next)
+
+-- the items before others have their form where all have it
+forms_front : (a b : List Record) → HaveForm (a ++ b) → HaveForm a
+forms_front [] b forms = tt
+forms_front (x ∷ a) b forms = (forms.0, forms_front a b forms.1)
+
+-- each item of a log has its form, from its items in their order
+pub form_at : (items : List Record) (k : ℕ) (x : Record) → HaveForm (reverse items) → slice_get items k ≡ Some x → has_form x ≡ true
+form_at [] k x forms e = absurd (cc)
+form_at (y ∷ items) zero x forms e =
+    let same : y ≡ x = cc in
+    subst (λ z. has_form z ≡ true) same (older_forms (reverse items) (y ∷ []) (subst HaveForm (reverse-append (y ∷ []) items) forms)).0
+form_at (y ∷ items) (suc k) x forms e = form_at items k x (forms_front (reverse items) (y ∷ []) (subst HaveForm (reverse-append (y ∷ []) items) forms)) e
+
+-- what contracts see of a turn, and of what it answers
+pub turn_seen : (old new : State) (db : Db) (at s : ℕ) → db_of old ≡ db → at + 1 ≡ s → IsTurn (at + 1) old new → TurnIn s db (db_of new)
+turn_seen old new db at s view place turn =
+    subst (λ d. TurnIn s d (db_of new)) view (subst (λ n. IsTurn n old new) place turn)
+
+-- the items of what contracts see
+pub log_seen : (st : State) (db : Db) → db_of st ≡ db → log_of st ≡ items_of db.entries
+log_seen st db view = sym (items_entries (log_of st)) ∙ ap (λ (d : Db). items_of d.entries) view
+
+pub says_seen : (old new : State) (db : Db) (at s : ℕ) (out : TurnOut) → db_of old ≡ db → at + 1 ≡ s → SaysOut (run_is old) (at + 1) (log_of old) (log_of new) out →
+    SaysOut db.run s (items_of db.entries) (items_of (entries_of (log_of new))) out
+says_seen old new db at s out view place says =
+    subst (λ l. SaysOut db.run s (items_of db.entries) l out) (sym (items_entries (log_of new)))
+    (subst (λ l. SaysOut db.run s l (log_of new) out) (log_seen old db view)
+    (subst (λ r. SaysOut r s (log_of old) (log_of new) out) (ap (λ (d : Db). d.run) view)
+    (subst (λ n. SaysOut (run_is old) n (log_of old) (log_of new) out) place says)))
+
+-- what a session was told, its items and the pages, as contracts see them
+pub told_seen : (st : State) (db : Db) (at s : ℕ) (x : Session) → db_of st ≡ db → at + 1 ≡ s → IsGood st → slice_get st.sessions.items at ≡ Some x →
+    AreTold db.run.geometry (told_to db.run s (items_of db.entries)) x.replies.items
+told_seen st db at s x view place good here =
+    subst (λ l. AreTold db.run.geometry (told_to db.run s l) x.replies.items) (log_seen st db view)
+    (subst (λ (r : Setting). AreTold r.geometry (told_to r s (log_of st)) x.replies.items) (ap (λ (d : Db). d.run) view)
+    (subst (λ n. AreTold (run_is st).geometry (told_to (run_is st) n (log_of st)) x.replies.items) place (good.state.each at x here).told))
+
+pub legal_seen : (st : State) (db : Db) → db_of st ≡ db → IsGood st → IsLegal db.run (items_of db.entries)
+legal_seen st db view good =
+    subst (IsLegal db.run) (log_seen st db view) (subst (λ r. IsLegal r (log_of st)) (ap (λ (d : Db). d.run) view) good.state.legal)
+
+pub forms_seen : (st : State) → IsGood st → (k : ℕ) (x : Record) → slice_get st.items.items k ≡ Some x → has_form x ≡ true
+forms_seen st good k x here =
+    let run = run_is st in
+    let sound = legal_is_sound run (log_of st) good.state.start good.state.legal in
+    let forms = sound_forms run.geometry (length run.image) run.opened run.image (log_of st) sound in
+    form_at st.items.items k x (forms_front (log_of st) run.opened forms) here
+
+pub frames_seen : (st : State) (db : Db) → db_of st ≡ db → IsGood st → st.frames ≡ final_image db.run.opened (items_of db.entries) db.run.image
+frames_seen st db view good =
+    good.state.pages_are ∙ ap (λ l. final_image (run_is st).opened l (run_is st).image) (sym (items_entries (log_of st)))
+    ∙ ap (λ (d : Db). final_image d.run.opened (items_of d.entries) d.run.image) view
+
+-- how many sessions contracts see
+pub count_seen : (st : State) (db : Db) → db_of st ≡ db → IsGood st → length st.sessions.items ≡ length db.run.scripts
+count_seen st db view good = good.state.few ∙ ap (λ (d : Db). length d.run.scripts) view
+
+-- what a replay makes of the history
+pub record IsReplayed (schedule : List (ℕ × ℕ)) (old new : Db) : Type 0 where
+  pub same : new.run ≡ old.run
+  pub counts : List ℕ
+  pub all : length counts ≡ length old.run.scripts
+  pub run : Run old.run old.entries (turns_of schedule ++ rest_from 1 counts) new.entries
+  pub whole : IsWhole new.run new.entries
+
+-- a schedule's turns and then each session's lead to the end of all
+pub whole_seen : (old mid new : State) (db : Db) (schedule : List (ℕ × ℕ)) → db_of old ≡ db → RunsSchedule schedule old mid → EndsSessions mid new →
+    IsReplayed schedule db (db_of new)
+whole_seen old mid new db schedule view first last =
+    subst (λ d. IsReplayed schedule d (db_of new)) view (from_states (last.follows.same ∙ first.same))
+  where
+    from_states : run_is new ≡ run_is old → IsReplayed schedule (db_of old) (db_of new)
+    from_states same =
+        let mid_run : run_is mid ≡ run_is old = first.same in
+        record {
+          same = same;
+          counts = last.counts;
+          all = last.all ∙ first.good.state.few ∙ ap (λ (r : Setting). length r.scripts) mid_run;
+          run = run_then (run_is old) (turns_of schedule) (rest_from 1 last.counts) (entries_of (log_of old)) (entries_of (log_of mid)) (entries_of (log_of new))
+              first.run (subst (λ r. Run r (entries_of (log_of mid)) (rest_from 1 last.counts) (entries_of (log_of new))) mid_run last.follows.run);
+          whole = λ s is.
+              let count : length mid.sessions.items ≡ length (run_is new).scripts =
+              first.good.state.few ∙ ap (λ (r : Setting). length r.scripts) (sym last.follows.same) in
+              let inside = is.1 in
+              subst (λ r. next_of r s (items_of (entries_of (log_of new))) ≡ None) (sym last.follows.same)
+              (subst (λ l. next_of (run_is mid) s l ≡ None) (sym (items_entries (log_of new))) (last.done s is.0 (omega (arith, count, inside))));
+        }

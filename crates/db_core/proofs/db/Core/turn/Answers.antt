@@ -1,0 +1,12 @@
+use Rattle.std.proofs.Common.{◌-◌, arith}
+use Rattle.db_core.proofs.Begun.{turn_seen, says_seen}
+use Rattle.db_core.proofs.db.Core.turn.Goals as goal
+
+pub returns-clause-turn : goal.returns-clause-turn
+returns-clause-turn c =
+    turn_seen c.self.inside.state c.advance.new.state c.args.self.now (c.args.session - 1) c.args.session c.self.view_is (omega (arith, c.requires.above)) c.advance.ensures.advanced.turn
+
+pub returns-clause-says : goal.returns-clause-says
+returns-clause-says c =
+    says_seen c.self.inside.state c.advance.new.state c.args.self.now (c.args.session - 1) c.args.session c.advance.result c.self.view_is (omega (arith, c.requires.above))
+    c.advance.ensures.advanced.says

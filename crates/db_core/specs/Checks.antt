@@ -1,0 +1,102 @@
+-- The turns of a check.
+use Rattle.std.specs.Prelude.{◌≡◌, ℕ, ◌+◌, ◌-◌, ◌≤◌, false, List, [], ◌∷◌, ◌++◌, slice_get, Some, Result, Ok, Err, ◌⊎◌}
+use Rattle.spec_file.specs.declared.geometry.Geometry.TheVariants.{Small}
+use Rattle.spec_file.specs.Image.{Image}
+use Rattle.spec_file.specs.declared.data.NoMemory.{NoMemory}
+use Rattle.spec_log.specs.declared.item.Record.{Record}
+use Rattle.spec_log.specs.declared.item.Record.TheVariants.{Snap, CheckEnd}
+use Rattle.spec_check.specs.declared.report.CheckReport.{CheckReport}
+use Rattle.spec_tables.specs.Written.{IsCheckOf}
+use Rattle.spec_script.specs.declared.reply.Reply.TheVariants.{Report, Refused}
+use Rattle.spec_plan.specs.Refusals.{out_of_memory}
+use Rattle.db_core.specs.declared.session.Check.{Check}
+use Rattle.db_core.specs.declared.session.Doing.{Doing}
+use Rattle.db_core.specs.declared.session.Doing.TheVariants.{Idle, Checking}
+use Rattle.db_core.specs.declared.session.Session.{Session}
+use Rattle.db_core.specs.declared.starts.Place.{Place}
+use Rattle.db_core.specs.declared.state.State.{State}
+use Rattle.db_core.specs.Back.{GoesBack}
+use Rattle.db_core.specs.States.{Keeps, KeepsRoom}
+use Rattle.db_core.specs.Store.{run_is, log_of, told_count, IsGood, IsTurn}
+use Rattle.db_core.specs.Views.{open_trans}
+
+-- a check is under way
+abbrev pub IsChecking : Doing → Type 0
+IsChecking doing = (check : Check) × (doing ≡ Checking check)
+
+-- a session that goes back one step in its check
+pub record BacksIn (items : List Record) (old new : Session) : Type 0 where
+  pub before : Check
+  pub after : Check
+  pub was : old.doing ≡ Checking before
+  pub is : new.doing ≡ Checking after
+  pub goes : GoesBack items before after
+  pub kept : Keeps old new
+  pub left : new.left.items ≡ old.left.items
+  pub replies : new.replies.items ≡ old.replies.items
+  pub room : KeepsRoom old new
+
+-- the check ends with the report of its pages, or for want of memory
+abbrev pub EndsWith : Place → Check → Session → Session → Record → Type 0
+EndsWith place check old new x =
+    ((report : CheckReport) × IsCheckOf Small check.pages report
+    × (new.replies.items ≡ old.replies.items ++ Report (record { 0 = check.point }) report ∷ []) × (x ≡ CheckEnd place.session place.index 0))
+    ⊎ ((new.replies.items ≡ old.replies.items ++ Refused out_of_memory ∷ []) × (x ≡ CheckEnd place.session place.index 3))
+
+pub record EndsBy (place : Place) (old new : Session) (x : Record) : Type 0 where
+  pub check : Check
+  pub was : old.doing ≡ Checking check
+  pub ends : EndsWith place check old new x
+  pub kept : Keeps old new
+  pub left : new.left.items ≡ old.left.items
+  pub doing : new.doing ≡ Idle
+  pub room : KeepsRoom old new
+
+-- a check right behind its Snap, whose number is `point`
+pub record IsFresh (point : ℕ) (pages : Image) (sessions : List Session) (check : Check) : Type 0 where
+  pub point_is : check.point ≡ point
+  pub pages_are : check.pages ≡ pages
+  pub ongoing : check.ongoing.items ≡ open_trans sessions
+  pub place : check.place ≡ point - 1
+  pub undone : check.undone ≡ false
+
+-- a session that begins this check
+pub record Begins (place : Place) (check : Check) (old new : Session) (x : Record) : Type 0 where
+  pub item : x ≡ Snap place.session place.index
+  pub kept : Keeps old new
+  pub left : new.left.items ≡ old.left.items
+  pub replies : new.replies.items ≡ old.replies.items
+  pub doing : new.doing ≡ Checking check
+  pub room : KeepsRoom old new
+
+-- a session whose check ends where it begins
+pub record EndsAtOnce (place : Place) (old new : Session) (x : Record) : Type 0 where
+  pub item : x ≡ CheckEnd place.session place.index 3
+  pub kept : Keeps old new
+  pub left : new.left.items ≡ old.left.items
+  pub replies : new.replies.items ≡ old.replies.items ++ Refused out_of_memory ∷ []
+  pub doing : new.doing ≡ Idle
+  pub room : KeepsRoom old new
+
+-- a turn of a check that is under way, or that ends where it begins
+pub record Checked (at : ℕ) (old new : State) : Type 0 where
+  pub good : IsGood new
+  pub turn : IsTurn (at + 1) old new
+  pub silent : (index : ℕ) → log_of new ≡ Snap (at + 1) index ∷ log_of old → ⊥
+  pub told : (told_count (run_is old) (at + 1) (log_of old) ≤ told_count (run_is old) (at + 1) (log_of new))
+      × (told_count (run_is old) (at + 1) (log_of new) ≤ told_count (run_is old) (at + 1) (log_of old) + 1)
+  pub idle : (y : Session) → slice_get new.sessions.items at ≡ Some y → y.doing ≡ Idle → told_count (run_is old) (at + 1) (log_of new) ≡ told_count (run_is old) (at + 1) (log_of old) + 1
+
+-- the turn that appends the Snap of a check that goes on
+pub record Snapped (at : ℕ) (old new : State) : Type 0 where
+  pub good : IsGood new
+  pub turn : IsTurn (at + 1) old new
+  pub index : ℕ
+  pub snap : log_of new ≡ Snap (at + 1) index ∷ log_of old
+  pub told : told_count (run_is old) (at + 1) (log_of new) ≡ told_count (run_is old) (at + 1) (log_of old)
+  pub busy : (y : Session) → slice_get new.sessions.items at ≡ Some y → y.doing ≡ Idle → ⊥
+
+-- the answer is that the check goes on, or that it ended for want of memory
+abbrev pub SnapsOr : ℕ → State → State → Result Unit NoMemory → Type 0
+SnapsOr at old new (Ok u) = Snapped at old new
+SnapsOr at old new (Err e) = Checked at old new

@@ -1,0 +1,94 @@
+//! One turn of a session.
+ghost use Rattle.std.specs.Prelude.{◌≡◌, ◌+◌, ◌<◌, length, slice_get, Some};
+ghost use Rattle.db_core.specs.Plans.{IsPlanned};
+ghost use Rattle.db_core.specs.Rooms.{HasOwnRoom};
+ghost use Rattle.db_core.specs.Stages.{IsStage};
+ghost use Rattle.db_core.specs.Store.{Advanced, Answers, GoesNearer, IsGood};
+ghost use Rattle.db_core.specs.declared.stage.Stage.TheVariants as stages;
+
+use crate::TurnOut;
+use crate::checks::{begin_check, go_on_check};
+use crate::plans::begin_planned;
+use crate::session::Session;
+use crate::stage::{Stage, stage_of};
+use crate::state::State;
+use crate::turns::{begin_word, go_on};
+use crate::view::TranView;
+use db_heap::{Plan, plan_count, plan_insert};
+use spec_file::NoMemory;
+use spec_script::Statement;
+
+/// The plan of the INSERT or COUNT that comes next.
+fn plan_next(state: &State, at: usize) -> Result<Plan, NoMemory>
+    requires at { at < length state.now.sessions.items }
+    requires good { IsGood state.now }
+    requires next { (x : Session) → slice_get state.now.sessions.items at ≡ Some x → IsStage x stages.Table }
+    ensures { (x : Session) → slice_get state.now.sessions.items at ≡ Some x → IsPlanned state.now at x result }
+{
+    let view = TranView::of(state, at);
+    let session = &state.sessions[at];
+    match &session.script[session.replies.len()] {
+        Statement::Insert {
+            table,
+            key,
+            payload,
+        } => plan_insert(state.alloc, &view, table, *key, payload.as_slice()),
+        Statement::Count(table) => plan_count(state.alloc, &view, table),
+        _ => unreachable!(),
+    }
+}
+
+/// What a turn did that left a session so, which had so many replies before it.
+fn out_of(before: usize, session: &Session) -> TurnOut
+    requires { HasOwnRoom session.now }
+    ensures { Answers before session.now result }
+{
+    if session.replies.len() > before {
+        TurnOut::Answered(session.replies.len() as u32)
+    } else {
+        TurnOut::Moved
+    }
+}
+
+/// What a turn of session `at` did, which had so many replies before it.
+fn told(state: &State, at: usize, before: usize) -> TurnOut
+    requires at { at < length state.now.sessions.items }
+    requires good { IsGood state.now }
+    ensures { (y : Session) → slice_get state.now.sessions.items at ≡ Some y → Answers before y result }
+{
+    out_of(before, &state.sessions[at])
+}
+
+/// A turn of session `at`, counted from 0.
+pub fn advance(state: &mut State, at: usize) -> TurnOut
+    requires at { at < length state.old.sessions.items }
+    requires good { IsGood state.old }
+    ensures advanced { Advanced at state.old state.new result }
+    ensures nearer { GoesNearer at state.old state.new }
+{
+    let before = state.sessions[at].replies.len();
+    match stage_of(&state.sessions[at]) {
+        Stage::Done => TurnOut::Finished,
+        Stage::UnderWay => {
+            go_on(state, at);
+            told(state, at, before)
+        }
+        Stage::Checking => {
+            go_on_check(state, at);
+            told(state, at, before)
+        }
+        Stage::Word(word) => {
+            begin_word(state, at, word);
+            told(state, at, before)
+        }
+        Stage::Table => {
+            let plan = plan_next(state, at);
+            begin_planned(state, at, plan);
+            told(state, at, before)
+        }
+        Stage::Check => match begin_check(state, at) {
+            Ok(()) => TurnOut::Checking,
+            Err(NoMemory) => told(state, at, before),
+        },
+    }
+}

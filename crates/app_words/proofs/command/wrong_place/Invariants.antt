@@ -1,0 +1,7 @@
+use Rattle.std.proofs.Common.{◌≡◌, ◌-◌}
+use Rattle.app_words.specs.Words.{least, is_wrong_at, places_of}
+use Rattle.app_words.proofs.command.wrong_place.Given as goal
+
+abbrev pub invariant-loop-i : goal.invariant-loop-i
+invariant-loop-i l =
+    least (is_wrong_at l.command l.words) (places_of l.command) 1 ≡ least (is_wrong_at l.command l.words) (l.end - l.i) l.i

@@ -1,0 +1,6 @@
+pub mod Form
+pub mod Stops
+pub mod Sources
+pub mod Opening
+pub mod OpeningLaws
+pub mod Log

@@ -1,0 +1,104 @@
+-- Sources that are read to their ends, and what their texts say.
+use Rattle.std.specs.Prelude.{All, ◌≡◌, ℕ, zero, suc, ◌-◌, ◌≤◌, ◌<◌, List, [], ◌∷◌, ◌++◌, length, take, drop, slice_index, slice_index_or, Option, None, IfSome, Result, Ok, Err, ⊤}
+use Rattle.std.specs.Io.KnownBytes.{prepend_known}
+use Rattle.pg_base.specs.Faults.{Rose}
+use Rattle.spec_script.specs.declared.statement.Statement.{Statement}
+use Rattle.spec_script.specs.declared.stop.ScriptWhy.{ScriptWhy}
+use Rattle.spec_script.specs.Lines.{IsStatementLine, IsTurnsLine}
+use Rattle.spec_script.specs.Texts.{IsScript, IsSchedule, IsWrongAt, most_lines}
+use Rattle.run_file.specs.declared.stop.SourceStop.{SourceStop}
+use Rattle.run_file.specs.declared.stop.SourceStop.TheVariants as source
+use Rattle.run_file.specs.declared.stop.SourcesStop.{SourcesStop}
+use Rattle.run_file.specs.declared.stop.SourcesStop.TheVariants as sources
+use Rattle.run_file.specs.declared.stop.TextStop.{TextStop}
+use Rattle.run_file.specs.declared.stop.TextStop.TheVariants as text
+
+-- bytes were moved from a source to the end of these
+pub record Moves (before now : List ℕ) (old new : Option (List ℕ)) : Type 0 where
+  pub piece : List ℕ
+  pub grown : now ≡ before ++ piece
+  pub moved : old ≡ prepend_known piece new
+
+-- a failure of the source raised its count; want of memory is free
+abbrev pub SourceFault : {T : Type 0} → ℕ → ℕ → Result T SourceStop → Type 0
+SourceFault before now (Err source.Failed) = Rose before now
+SourceFault before now (Err source.NoMemory) = ⊤
+SourceFault before now (Ok value) = ⊤
+
+-- a fault names the first wrong line of the source's text, where that is told, and why
+abbrev pub TextFault : {X T : Type 0} → (List ℕ → X → Type 0) → Option (List ℕ) → ℕ → ℕ → Result T TextStop → Type 0
+TextFault IsLine left before now (Err (text.Fault line why)) = IfSome left (λ bytes. IsWrongAt IsLine bytes line why)
+TextFault IsLine left before now (Err text.Failed) = Rose before now
+TextFault IsLine left before now (Err text.NoMemory) = ⊤
+TextFault IsLine left before now (Ok value) = ⊤
+
+-- each of these sources has the script in its place, where it is told
+abbrev pub AreScripts : List (Option (List ℕ)) → List (List Statement) → Type 0
+AreScripts [] [] = Unit {0}
+AreScripts [] (script ∷ scripts) = ⊥
+AreScripts (left ∷ lefts) [] = ⊥
+AreScripts (left ∷ lefts) (script ∷ scripts) = IfSome left (λ bytes. IsScript bytes script) × AreScripts lefts scripts
+
+-- no count fell
+abbrev pub NoneFell : List ℕ → List ℕ → Type 0
+NoneFell before now = (k : ℕ) → slice_index before k ≤ slice_index now k
+
+-- one of these counts rose
+abbrev pub OneRose : List ℕ → List ℕ → Type 0
+OneRose before now = (k : ℕ) × (k < length before) × Rose (slice_index before k) (slice_index now k)
+
+-- source k, counted from 0, is left with these bytes
+abbrev pub left_at : List (Option (List ℕ)) → ℕ → Option (List ℕ)
+left_at lefts k = slice_index_or lefts k None
+
+-- a fault names this source
+abbrev pub FaultAt : {X T : Type 0} → ℕ → (List ℕ → X → Type 0) → Option (List ℕ) → ℕ → ℕ → Result T SourcesStop → Type 0
+FaultAt at IsLine left before now (Err (sources.Fault k line why)) = (k ≡ at) × IfSome left (λ bytes. IsWrongAt IsLine bytes line why)
+FaultAt at IsLine left before now (Err sources.Failed) = Rose before now
+FaultAt at IsLine left before now (Err sources.NoMemory) = ⊤
+FaultAt at IsLine left before now (Ok value) = ⊤
+
+-- script k, counted from 1, is the first of these sources that is wrong
+pub record IsFirstWrong (lefts : List (Option (List ℕ))) (k line : ℕ) (why : ScriptWhy) : Type 0 where
+  pub above : 0 < k
+  pub within : k ≤ length lefts
+  pub scripts : List (List Statement)
+  pub before : AreScripts (take (k - 1) lefts) scripts
+  pub wrong : IfSome (left_at lefts (k - 1)) (λ bytes. IsWrongAt IsStatementLine bytes line why)
+
+-- a fault names the first script that is wrong
+abbrev pub ScriptsFault : {T : Type 0} → List (Option (List ℕ)) → List ℕ → List ℕ → Result T SourcesStop → Type 0
+ScriptsFault lefts before now (Err (sources.Fault k line why)) = IsFirstWrong lefts k line why
+ScriptsFault lefts before now (Err sources.Failed) = OneRose before now
+ScriptsFault lefts before now (Err sources.NoMemory) = ⊤
+ScriptsFault lefts before now (Ok value) = ⊤
+
+-- source 0 holds the schedule of as many sessions as there are others: it is wrong, or the first of these is
+abbrev pub IsFirstOf : List (Option (List ℕ)) → ℕ → ℕ → ScriptWhy → Type 0
+IsFirstOf lefts zero line why = IfSome (left_at lefts 0) (λ bytes. IsWrongAt (IsTurnsLine (length lefts - 1)) bytes line why)
+IsFirstOf lefts (suc k) line why =
+    (turns : List (ℕ × ℕ)) × IfSome (left_at lefts 0) (λ bytes. IsSchedule (length lefts - 1) bytes turns)
+    × IsFirstWrong (drop 1 lefts) (suc k) line why
+
+-- a fault names the first source that is wrong
+abbrev pub SourcesFault : {T : Type 0} → List (Option (List ℕ)) → List ℕ → List ℕ → Result T SourcesStop → Type 0
+SourcesFault lefts before now (Err (sources.Fault k line why)) = IsFirstOf lefts k line why
+SourcesFault lefts before now (Err sources.Failed) = OneRose before now
+SourcesFault lefts before now (Err sources.NoMemory) = ⊤
+SourcesFault lefts before now (Ok value) = ⊤
+
+-- the schedule and the scripts are those of the sources
+pub record AreTexts (lefts : List (Option (List ℕ))) (turns : List (ℕ × ℕ)) (scripts : List (List Statement)) : Type 0 where
+  pub schedule : IfSome (left_at lefts 0) (λ bytes. IsSchedule (length lefts - 1) bytes turns)
+  pub others : AreScripts (drop 1 lefts) scripts
+
+-- a turn line of a session of so many
+abbrev pub IsTurnOf : ℕ → ℕ × ℕ → Type 0
+IsTurnOf sessions turns = (0 < turns.0) × (turns.0 ≤ sessions)
+
+abbrev pub AreTurnsOf : ℕ → List (ℕ × ℕ) → Type 0
+AreTurnsOf sessions turns = All (IsTurnOf sessions) turns
+
+-- no script has more statements than a script may have
+abbrev pub AreShort : List (List Statement) → Type 0
+AreShort scripts = All (λ script. length script ≤ most_lines) scripts

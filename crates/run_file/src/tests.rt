@@ -1,0 +1,185 @@
+use super::*;
+use pg_base::PageNo;
+use spec_script::{ScriptWhy, Statement};
+use std::alloc::{AllocError, Global};
+use std::test::Fail;
+use vol_dev::{FailAt, MemLog, MemSource, MemVolume};
+
+const PAGE: usize = 8192;
+
+fn put(file: &mut Vec<u8>, at: usize, bytes: &[u8]) {
+    for (i, b) in bytes.iter().enumerate() {
+        if let Some(cell) = at.checked_add(i).and_then(|place| file.get_mut(place)) {
+            *cell = *b;
+        }
+    }
+}
+
+// An empty small file of so many pages, at most 255.
+fn base(alloc: Global, pages: u8) -> Result<Vec<u8>, AllocError> {
+    let mut file = vec![in alloc; 0u8; PAGE * usize::from(pages)]?;
+    put(&mut file, 0, &[1, 15]);
+    put(&mut file, 96, b"PGCHKDB1");
+    put(&mut file, 104, &[1, 0, 2, 0, pages, 0, 0, 0]);
+    put(&mut file, PAGE, &[1, 11, 0, 0, 1]);
+    put(&mut file, 2 * PAGE, &[1, 8, 0, 0, 2]);
+    put(&mut file, 3 * PAGE, &[1, 9, 0, 0, 3]);
+    put(&mut file, 9 * PAGE, &[1, 13, 0, 0, 9]);
+    Ok(file)
+}
+
+// The same of 16 pages with a heap `t`, object 1, IAM page 8, whose slot 0 holds page 10.
+fn with_heap(alloc: Global) -> Result<Vec<u8>, AllocError> {
+    let mut file = base(alloc, 16)?;
+    put(&mut file, 9 * PAGE + 96, &[1, 0, 0, 0, 1, 1, b't']);
+    put(&mut file, 9 * PAGE + 120, &[8]);
+    put(&mut file, 8 * PAGE, &[1, 10, 0, 0, 8, 0, 0, 0, 1]);
+    put(&mut file, 8 * PAGE + 104, &[10]);
+    Ok(file)
+}
+
+// Why a file with these bytes at a place isn't opened; none where it is.
+fn why_of(alloc: Global, file: Vec<u8>, at: usize, bytes: &[u8]) -> Option<FileStop> {
+    let mut file = file;
+    put(&mut file, at, bytes);
+    let mut volume = MemVolume::of(file, Vec::new(alloc));
+    open_file(alloc, &mut volume).err()
+}
+
+#[test]
+fn a_file_is_opened_where_it_has_the_form(rt: HostRuntime) -> Result<(), Fail> {
+    let alloc = rt.alloc();
+    let refused = |why: FileWhy| Some(FileStop::Refused(why));
+    assert_eq!(rt; why_of(alloc, base(alloc, 16)?, 0, &[]), None);
+    assert_eq!(rt; why_of(alloc, base(alloc, 88)?, 0, &[]), None);
+    assert_eq!(rt; why_of(alloc, with_heap(alloc)?, 0, &[]), None);
+    assert_eq!(rt;
+        why_of(alloc, vec![in alloc; 0; 5]?, 0, &[]),
+        refused(FileWhy::Size)
+    );
+    let rows: [(usize, &[u8], FileWhy); 10] = [
+        (1, &[14], FileWhy::Header),
+        (104, &[9], FileWhy::Version),
+        (106, &[3], FileWhy::Geometry),
+        (108, &[24], FileWhy::Count),
+        (106, &[1], FileWhy::Later),
+        (PAGE + 1, &[12], FileWhy::Later),
+        (9 * PAGE + 96 + 4, &[2], FileWhy::Later),
+        (8 * PAGE + 136, &[8], FileWhy::Later),
+        (8 * PAGE + 108, &[10], FileWhy::Later),
+        (8 * PAGE + 108, &[9], FileWhy::Later),
+    ];
+    for (at, bytes, why) in rows {
+        assert_eq!(rt;
+            why_of(alloc, with_heap(alloc)?, at, bytes),
+            refused(why),
+            "at {at}"
+        );
+    }
+    assert_eq!(rt;
+        why_of(alloc, base(alloc, 96)?, 0, &[]),
+        refused(FileWhy::Later)
+    );
+    assert_eq!(rt;
+        why_of(alloc, base(alloc, 96)?, 104, &[9]),
+        refused(FileWhy::Version)
+    );
+    Ok(())
+}
+
+#[test]
+fn a_page_that_is_not_read_fails_the_opening(rt: HostRuntime) -> Result<(), Fail> {
+    let alloc = rt.alloc();
+    let failing = vec![in alloc;
+        FailAt {
+            page: PageNo(7),
+            write: false,
+            nth: 1
+        },
+    ]?;
+    let mut volume = MemVolume::of(base(alloc, 16)?, failing);
+    assert_eq!(rt; open_file(alloc, &mut volume).err(), Some(FileStop::Failed));
+    Ok(())
+}
+
+#[test]
+fn a_log_is_taken_where_it_is_empty(rt: HostRuntime) -> Result<(), Fail> {
+    let alloc = rt.alloc();
+    let mut empty = MemLog::of(Vec::new(alloc), false, None);
+    assert_eq!(rt; open_log(alloc, &mut empty), Ok(()));
+    let mut later = MemLog::of(vec![in alloc; 9]?, false, None);
+    assert_eq!(rt; open_log(alloc, &mut later), Err(LogWhy::Later));
+    let mut failing = MemLog::of(Vec::new(alloc), true, None);
+    assert_eq!(rt; open_log(alloc, &mut failing), Err(LogWhy::Failed));
+    Ok(())
+}
+
+fn sources_of(
+    alloc: Global,
+    texts: &[&str],
+    fail_first: Option<u32>,
+) -> Result<Vec<MemSource>, Fail> {
+    let mut sources = Vec::new(alloc);
+    for (i, text) in texts.iter().enumerate() {
+        let fails = if i == 0 { fail_first } else { None };
+        let bytes = Vec::from_slice(alloc, text.as_bytes())?;
+        sources.push(MemSource::of(bytes, fails))?;
+    }
+    Ok(sources)
+}
+
+fn read(
+    alloc: Global,
+    texts: &[&str],
+    fail_first: Option<u32>,
+) -> Result<Result<Texts, SourcesStop>, Fail> {
+    let mut sources = sources_of(alloc, texts, fail_first)?;
+    if sources.is_empty() || sources.len() > 17 {
+        return Ok(Err(SourcesStop::NoMemory));
+    }
+    Ok(read_sources(alloc, &mut sources))
+}
+
+#[test]
+fn a_schedule_and_its_scripts_are_read(rt: HostRuntime) -> Result<(), Fail> {
+    let alloc = rt.alloc();
+    let texts = [
+        "1 2\n-- turns\n2 1\n",
+        "BEGIN\nCOMMIT\n",
+        "",
+        "DBCC CHECKDB",
+    ];
+    let Ok(found) = read(alloc, &texts, None)? else {
+        panic!(rt; "the texts are right");
+    };
+    assert_eq!(rt; found.schedule.as_slice(), [(1, 2), (2, 1)].as_slice());
+    assert_eq!(rt; found.scripts.len(), 3);
+    let lengths = |i: usize| found.scripts.get(i).map(|script| script.len());
+    assert_eq!(rt; lengths(0), Some(2));
+    assert_eq!(rt; lengths(1), Some(0));
+    assert_eq!(rt; lengths(2), Some(1));
+    let last = found.scripts.get(2).and_then(|script| script.get(0));
+    assert!(rt; matches!(last, Some(Statement::Check { workers: 4 })));
+    Ok(())
+}
+
+#[test]
+fn the_first_wrong_source_is_named(rt: HostRuntime) -> Result<(), Fail> {
+    let alloc = rt.alloc();
+    let fault = |script: u32, line: u32| SourcesStop::Fault {
+        script,
+        line,
+        why: ScriptWhy::Statement,
+    };
+    let wrong = ["1 1\n", "BEGIN\n\nSELEC t 1\n", "ROLLBAC"];
+    assert_eq!(rt; read(alloc, &wrong, None)?.err(), Some(fault(1, 3)));
+    let missing = ["1 1\n3 1\n", "BEGIN\n", "ROLLBAC"];
+    assert_eq!(rt; read(alloc, &missing, None)?.err(), Some(fault(0, 2)));
+    let last = ["", "BEGIN\n", "ROLLBAC"];
+    assert_eq!(rt; read(alloc, &last, None)?.err(), Some(fault(2, 1)));
+    assert_eq!(rt;
+        read(alloc, &last, Some(1))?.err(),
+        Some(SourcesStop::Failed)
+    );
+    Ok(())
+}

@@ -1,7 +1,7 @@
 //! `checkdb check DATA` writes the report of a data file to standard output.
 #![tactic(auto)]
 
-use checkdb_top::{Device, FileWhy, NoGate, Outcome, Status, plain_top};
+use checkdb_top::{Device, FileWhy, NoGate, Outcome, ScriptWhy, Status, plain_top};
 use pg_base::{NoMemory, Words};
 use std::alloc::Global;
 use std::env;
@@ -53,11 +53,27 @@ fn why_name(why: FileWhy) -> &'static str {
     }
 }
 
+fn script_why_name(why: ScriptWhy) -> &'static str {
+    match why {
+        ScriptWhy::Statement => "statement",
+        ScriptWhy::Many => "many",
+        ScriptWhy::Size => "size",
+    }
+}
+
 // What standard error says of a status. Where it can't be written, the exit status alone tells.
 fn tell<R: Eprint>(rt: &R, status: Status) {
     let _ = match status {
-        Status::Clean | Status::Errors => Ok(()),
+        Status::Clean | Status::Errors | Status::NoReport => Ok(()),
         Status::Words { at } => eprintln!(rt; "checkdb: word {at}"),
+        Status::Script { script, line, why } => {
+            eprintln!(rt;
+                "checkdb: script {script} line {line}: {}",
+                script_why_name(why)
+            )
+        }
+        Status::LogSize => eprintln!(rt; "checkdb: log: size"),
+        Status::LogLater => eprintln!(rt; "checkdb: log: later"),
         Status::File(why) => eprintln!(rt; "checkdb: file: {}", why_name(why)),
         Status::Device { which } => eprintln!(rt; "checkdb: device {}", device_name(which)),
         Status::Memory => eprintln!(rt; "checkdb: out of memory"),

@@ -1,28 +1,18 @@
 -- From what a status says of an image to what it says of the file.
-use Rattle.std.proofs.Common.{◌≡◌, ℕ, ◌/◌, Bool, true, false, IsTrue, List, Option, Some, None, IfSome, option_map, length, sym, ap, ◌∙◌, refl, inl, inr, ⊎_elim, not, if◌then◌else◌}
+use Rattle.std.proofs.Common.{◌≡◌, ℕ, Bool, false, IsTrue, List, Option, Some, None, IfSome, option_map, length, sym, ◌∙◌, refl, inl, inr, ⊎_elim, not, if◌then◌else◌}
 use Rattle.spec_file.specs.declared.geometry.Geometry.{Geometry}
-use Rattle.spec_file.specs.Image.{page_size, pages_of, page}
-use Rattle.spec_file.specs.ImageLaws.{length-pages_of}
+use Rattle.spec_file.specs.Image.{pages_of}
 use Rattle.spec_file.specs.FileForm.{size_passes}
 use Rattle.spec_check.specs.declared.report.CheckReport.{CheckReport}
 use Rattle.spec_tables.specs.Written.{IsCheckOf}
 use Rattle.checkdb_top.specs.declared.status.Device.TheVariants as device
-use Rattle.checkdb_top.specs.declared.status.FileWhy.{FileWhy}
-use Rattle.checkdb_top.specs.declared.status.FileWhy.TheVariants as why
+use Rattle.run_file.specs.declared.why.FileWhy.{FileWhy}
+use Rattle.run_file.specs.declared.why.FileWhy.TheVariants as why
 use Rattle.checkdb_top.specs.declared.status.Status.{Status}
 use Rattle.checkdb_top.specs.declared.status.Status.TheVariants as status
-use Rattle.checkdb_top.specs.Form.{opening_fault, file_fault, IsRefusedFor, IsChecked, IsLeftFor, IsTaken}
+use Rattle.checkdb_top.specs.Form.{IsRefusedFor, IsChecked, IsLeftFor, IsTaken}
+use Rattle.run_file.specs.OpeningLaws.{after_size}
 use Rattle.checkdb_top.specs.Answers.{Answers, AnswersImage, IsReportOf}
-
-first_of : (size : Bool) (fault : Option FileWhy) → size ≡ true → (if not size then Some why.Size else fault) ≡ fault
-first_of size fault passes = rw passes refl
-
--- once the size has passed, page 0 decides
-after_size : (bytes : List ℕ) → IsTrue (size_passes (length bytes))
-    → opening_fault (length (pages_of bytes)) (page (pages_of bytes) 0) ≡ file_fault bytes
-after_size bytes passes =
-    ap (λ n. opening_fault n (page (pages_of bytes) 0)) (length-pages_of bytes)
-    ∙ sym (first_of (size_passes (length bytes)) (opening_fault (length bytes / page_size) (page (pages_of bytes) 0)) passes)
 
 refused : (bytes : List ℕ) (w : FileWhy) → IsTrue (size_passes (length bytes)) → IsLeftFor w (pages_of bytes) → IsRefusedFor w bytes
 refused bytes w passes left =
@@ -55,14 +45,12 @@ answers_file told before after (status.File w) passes h = (left told w passes h.
 answers_file told before after (status.Device device.Volume) passes h = h
 answers_file told before after (status.Device device.Log) passes h = h
 answers_file told before after (status.Device device.Source) passes h = h
+answers_file told before after (status.Script script line why) passes h = h
+answers_file told before after status.LogSize passes h = h
+answers_file told before after status.LogLater passes h = h
+answers_file told before after status.NoReport passes h = h
 answers_file told before after (status.Device device.Sink) passes (report, is, reports) = (report, reported told report passes is, reports)
 answers_file told before after status.Memory passes h = (passes, h)
-
--- the size that a file told is the one that was tested
-pub told_passes : (told : Option (List ℕ)) (size : ℕ) (passed : Bool) → IfSome told (λ bytes. size ≡ length bytes)
-    → passed ≡ size_passes size → passed ≡ true → IfSome told (λ bytes. IsTrue (size_passes (length bytes)))
-told_passes None size passed is tested yes_ = tt
-told_passes (Some bytes) size passed is tested yes_ = rw (← is) (sym tested ∙ yes_)
 
 -- a file of a wrong size fails that test first
 fails_first : (size : Bool) (fault : Option FileWhy) → size ≡ false → (if not size then Some why.Size else fault) ≡ Some why.Size

@@ -3,11 +3,12 @@ use Rattle.std.proofs.Common.{◌≡◌, ◌⊎◌, ℕ, IsTrue, Bool, false, no
 use Rattle.spec_file.specs.declared.geometry.Geometry.{Geometry}
 use Rattle.spec_file.specs.FileForm.{size_passes}
 use Rattle.checkdb_top.specs.declared.status.Device.TheVariants as device
-use Rattle.checkdb_top.specs.declared.status.FileWhy.{FileWhy}
-use Rattle.checkdb_top.specs.declared.status.FileWhy.TheVariants as why
+use Rattle.run_file.specs.declared.why.FileWhy.{FileWhy}
+use Rattle.run_file.specs.declared.why.FileWhy.TheVariants as why
 use Rattle.checkdb_top.specs.declared.status.Status.{Status}
 use Rattle.checkdb_top.specs.declared.status.Status.TheVariants as status
-use Rattle.checkdb_top.specs.Form.{file_fault, IsRefusedFor, IsChecked}
+use Rattle.checkdb_top.specs.Form.{IsRefusedFor, IsChecked}
+use Rattle.run_file.specs.Opening.{file_fault}
 use Rattle.checkdb_top.specs.Answers.{Answers, IsDevice}
 use Rattle.checkdb_top.specs.Completeness.{Completes}
 
@@ -66,6 +67,10 @@ completes (Some bytes) before after (status.Device device.Volume) RoseVolume Ros
 completes (Some bytes) before after (status.Device device.Sink) RoseVolume RoseSink a volume sink = λ _ none. absurd (none (sink refl))
 completes (Some bytes) before after (status.Device device.Log) RoseVolume RoseSink a volume sink = absurd a
 completes (Some bytes) before after (status.Device device.Source) RoseVolume RoseSink a volume sink = absurd a
+completes (Some bytes) before after (status.Script script line why) RoseVolume RoseSink a volume sink = absurd a
+completes (Some bytes) before after status.LogSize RoseVolume RoseSink a volume sink = absurd a
+completes (Some bytes) before after status.LogLater RoseVolume RoseSink a volume sink = absurd a
+completes (Some bytes) before after status.NoReport RoseVolume RoseSink a volume sink = absurd a
 completes (Some bytes) before after status.Memory RoseVolume RoseSink a volume sink =
     λ _ _. record {
       size = λ wrong. absurd (right_size bytes a.0 wrong);

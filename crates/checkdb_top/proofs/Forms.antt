@@ -10,8 +10,9 @@ use Rattle.spec_file.specs.CatalogRows.{rows_of}
 use Rattle.spec_file.specs.FileForm.{geometry_of}
 use Rattle.db_cat.specs.declared.rows.CatRow.{CatRow}
 use Rattle.db_cat.specs.Rows.{row_of}
-use Rattle.checkdb_top.specs.declared.status.FileWhy.{FileWhy}
-use Rattle.checkdb_top.specs.Form.{opening_fault, is_clustered, HasClustered, IsOpenedAs}
+use Rattle.run_file.specs.declared.why.FileWhy.{FileWhy}
+use Rattle.checkdb_top.specs.Form.{is_clustered, HasClustered, IsOpenedAs}
+use Rattle.run_file.specs.Opening.{opening_fault}
 
 pub told_opened : (told : Option Image) (pages : ℕ) (first : List ℕ) (g : Geometry) → ForSome told (λ image. length image ≡ pages)
     → IfSome told (λ image. first ≡ page image 0) → (opening_fault pages first ≡ None) × (geometry_of first ≡ Some g)

@@ -46,6 +46,10 @@ Answers told before after status.Memory = IfSome told (λ bytes. IsTrue (size_pa
 Answers told before after (status.Device device.Log) = ⊥
 Answers told before after (status.Device device.Source) = ⊥
 Answers told before after (status.Words at) = ⊥
+Answers told before after (status.Script script line why) = ⊥
+Answers told before after status.LogSize = ⊥
+Answers told before after status.LogLater = ⊥
+Answers told before after status.NoReport = ⊥
 
 -- what writing a report says of the output
 abbrev pub Reports : CheckReport → Option (List ℕ) → Option (List ℕ) → Status → Type 0
@@ -62,6 +66,10 @@ AnswersImage told before after status.Memory = after ≡ before
 AnswersImage told before after (status.Words at) = ⊥
 AnswersImage told before after (status.Device device.Log) = ⊥
 AnswersImage told before after (status.Device device.Source) = ⊥
+AnswersImage told before after (status.Script script line why) = ⊥
+AnswersImage told before after status.LogSize = ⊥
+AnswersImage told before after status.LogLater = ⊥
+AnswersImage told before after status.NoReport = ⊥
 AnswersImage told before after s =
     (report : CheckReport) × IfSome told (λ image. (g : Geometry) × IsTaken g image × IsCheckOf g image report) × Reports report before after s
 

@@ -2,8 +2,8 @@
 use Rattle.std.specs.Prelude.{◌≡◌, ◌⊎◌, ℕ, false, List, length}
 use Rattle.spec_file.specs.declared.geometry.Geometry.{Geometry}
 use Rattle.spec_file.specs.FileForm.{size_passes}
-use Rattle.checkdb_top.specs.declared.status.FileWhy.{FileWhy}
-use Rattle.checkdb_top.specs.declared.status.FileWhy.TheVariants.{Size}
+use Rattle.run_file.specs.declared.why.FileWhy.{FileWhy}
+use Rattle.run_file.specs.declared.why.FileWhy.TheVariants.{Size}
 use Rattle.checkdb_top.specs.declared.status.Status.{Status}
 use Rattle.checkdb_top.specs.declared.status.Status.TheVariants as status
 use Rattle.checkdb_top.specs.Form.{IsRefusedFor, IsChecked}

@@ -1,33 +1,17 @@
--- Which test a file fails first, and which files that pass are checked later.
-use Rattle.std.specs.Prelude.{◌≡◌, ◌⊎◌, ℕ, ◌/◌, Bool, true, false, not, IsTrue, List, length, Option, Some, None, if◌then◌else◌}
+-- Which files that pass their tests are checked later.
+use Rattle.std.specs.Prelude.{◌≡◌, ◌⊎◌, ℕ, Bool, true, false, IsTrue, List, length, Some, None}
 use Rattle.std.specs.List.{list_any}
 use Rattle.spec_file.specs.declared.geometry.Geometry.{Geometry}
 use Rattle.spec_file.specs.declared.data.Kind.{Kind}
 use Rattle.spec_file.specs.declared.data.Kind.TheVariants.{Heap, Clustered}
-use Rattle.spec_file.specs.Image.{Image, page_size, pages_of, page}
+use Rattle.spec_file.specs.Image.{Image, pages_of, page}
 use Rattle.spec_file.specs.Header.{says}
 use Rattle.spec_file.specs.Catalog.{PassesCatalog}
 use Rattle.spec_file.specs.CatalogRows.{CatalogRow, rows_of}
-use Rattle.spec_file.specs.FileForm.{size_passes, header_passes, version_passes, geometry_of, count_passes}
-use Rattle.checkdb_top.specs.declared.status.FileWhy.{FileWhy}
-use Rattle.checkdb_top.specs.declared.status.FileWhy.TheVariants as why
-
--- page 0 names a geometry, and gives the number of pages
-abbrev pub count_fault : Option Geometry → ℕ → List ℕ → Option FileWhy
-count_fault None pages first = Some why.Geometry
-count_fault (Some g) pages first = if count_passes g pages first then None else Some why.Count
-
--- the first test of page 0 that fails
-abbrev pub opening_fault : ℕ → List ℕ → Option FileWhy
-opening_fault pages first =
-    if not (header_passes first) then Some why.Header
-    else (if not (version_passes first) then Some why.Version else count_fault (geometry_of first) pages first)
-
--- the first of the file's tests that fails
-abbrev pub file_fault : List ℕ → Option FileWhy
-file_fault bytes =
-    if not (size_passes (length bytes)) then Some why.Size
-    else opening_fault (length bytes / page_size) (page (pages_of bytes) 0)
+use Rattle.spec_file.specs.FileForm.{geometry_of}
+use Rattle.run_file.specs.declared.why.FileWhy.{FileWhy}
+use Rattle.run_file.specs.declared.why.FileWhy.TheVariants as why
+use Rattle.run_file.specs.Opening.{opening_fault, file_fault}
 
 abbrev pub is_clustered_kind : Kind → Bool
 is_clustered_kind Heap = false

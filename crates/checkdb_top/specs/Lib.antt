@@ -5,3 +5,4 @@ pub mod Form
 pub mod Opening
 pub mod Answers
 pub mod Completeness
+pub mod Start

@@ -4,7 +4,8 @@ use Rattle.spec_file.specs.Image.{Image, page}
 use Rattle.spec_file.specs.Places.{page_limit}
 use Rattle.checkdb_top.specs.declared.check.Opened.{Opened}
 use Rattle.checkdb_top.specs.declared.check.Opened.TheVariants.{As, Refused}
-use Rattle.checkdb_top.specs.Form.{opening_fault, IsOpenedAs}
+use Rattle.checkdb_top.specs.Form.{IsOpenedAs}
+use Rattle.run_file.specs.Opening.{opening_fault}
 
 -- page 0 passes its tests in this geometry, or this is the first that fails
 abbrev pub SaysOpened : Opened → Image → Type 0

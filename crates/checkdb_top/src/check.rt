@@ -11,13 +11,14 @@ ghost use Rattle.checkdb_top.specs.Opening.{SaysOpened, FitsLimit};
 ghost use Rattle.checkdb_top.specs.Answers.{Answers, AnswersImage, IsDevice, Reports, stopped};
 ghost use Rattle.checkdb_top.specs.declared.status.Device.TheVariants.{Volume, Sink};
 
-use crate::form::{has_clustered, passes_size, tested_geometry};
+use crate::form::has_clustered;
 use crate::reader::VolumeReader;
-use crate::{Device, FileWhy, Status};
+use crate::{Device, Status};
 use ck_alloc::read_maps;
 use ck_scan::scan_one;
 use ck_text::write_report;
 use pg_base::{Geometry, PageNo, ReadStop, SnapReader, read_page};
+use run_file::{FileWhy, passes_size, tested_geometry};
 use spec_check::CheckReport;
 use std::alloc::Global;
 

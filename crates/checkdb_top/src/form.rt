@@ -1,77 +1,13 @@
-// The tests of a file.
-ghost use Rattle.std.specs.Prelude.{◌≡◌, ◌==◌, ◌≤◌, Some, None, bytes_eq, codes, slice_range, IfOk, MatchBool, MatchResult};
+// Which files are to be checked later.
+ghost use Rattle.std.specs.Prelude.{◌≡◌, IfOk, MatchBool};
 ghost use Rattle.std.specs.List.{list_any};
-ghost use Rattle.spec_file.specs.Places.{page_limit as limit_of};
-ghost use Rattle.spec_file.specs.FileForm as form;
 ghost use Rattle.db_cat.specs.Rows.{row_of};
 ghost use Rattle.checkdb_top.specs.Form as spec;
 
-use crate::FileWhy;
 use ck_alloc::is_page_of;
 use db_cat::{CatRow, CatStop, read_catalog};
-use pg_base::{Geometry, Kind, NoMemory, Page, u16_at, u32_at};
-use pg_geom::page_limit;
+use pg_base::{Kind, NoMemory, Page};
 use std::alloc::Global;
-
-const MAGIC: [u8; 8] = *b"PGCHKDB1";
-
-pub fn passes_size(bytes: u64) -> bool
-    ensures { result ≡ form.size_passes bytes }
-{
-    bytes % 65_536 == 0 && bytes >= 131_072 && bytes <= 4_294_967_296
-}
-
-fn has_magic(first: &Page) -> bool
-    ensures { result ≡ bytes_eq (slice_range first.now.bytes 96 104) (codes "PGCHKDB1") }
-{
-    &first.bytes[96..104] == MAGIC.as_slice()
-}
-
-fn passes_header(first: &Page) -> bool
-    ensures { result ≡ form.header_passes first.now.bytes }
-{
-    first.bytes[0] == 1 && is_page_of(first, 15, 0) && has_magic(first)
-}
-
-fn passes_version(first: &Page) -> bool
-    ensures { result ≡ form.version_passes first.now.bytes }
-{
-    u16_at(&first.bytes, 104) == 1
-}
-
-fn geometry_of(first: &Page) -> Option<Geometry>
-    ensures { result ≡ form.geometry_of first.now.bytes }
-{
-    Geometry::of_byte(first.bytes[106])
-}
-
-fn passes_count(g: Geometry, pages: u32, first: &Page) -> bool
-    ensures { result ≡ form.count_passes g pages first.now.bytes }
-{
-    u32_at(&first.bytes, 108) == pages && pages <= page_limit(g)
-}
-
-/// The geometry of a file whose page 0 passes its tests, or the first test that fails.
-pub fn tested_geometry(first: &Page, pages: u32) -> Result<Geometry, FileWhy>
-    ensures fault { MatchResult result
-        (λ g. (spec.opening_fault pages first.now.bytes ≡ None) × (form.geometry_of first.now.bytes ≡ Some g))
-        (λ why. spec.opening_fault pages first.now.bytes ≡ Some why) }
-    ensures limit { IfOk result (λ g. pages ≤ limit_of g) }
-{
-    if !passes_header(first) {
-        return Err(FileWhy::Header);
-    }
-    if !passes_version(first) {
-        return Err(FileWhy::Version);
-    }
-    let Some(g) = geometry_of(first) else {
-        return Err(FileWhy::Geometry);
-    };
-    if !passes_count(g, pages, first) {
-        return Err(FileWhy::Count);
-    }
-    Ok(g)
-}
 
 fn any_clustered(rows: &[CatRow]) -> bool
     ensures { result ≡ list_any (λ row. spec.is_clustered (row_of row)) rows.now }

@@ -5,10 +5,13 @@ mod check;
 mod form;
 mod gate;
 mod reader;
+mod start;
 mod status;
 mod top;
 mod words;
 
 pub use gate::{Gate, NoGate, Point};
-pub use status::{Device, FileWhy, Status};
+pub use run_file::FileWhy;
+pub use spec_script::ScriptWhy;
+pub use status::{Device, Status};
 pub use top::{Outcome, plain_top};

@@ -2,6 +2,9 @@
 ghost use Rattle.std.specs.Prelude.{◌≡◌};
 ghost use Rattle.checkdb_top.specs.Status.{code_of};
 
+use run_file::FileWhy;
+use spec_script::ScriptWhy;
+
 /// The device that failed.
 #[derive(Clone, Copy, Debug, PartialEq, Eq)]
 pub enum Device {
@@ -9,23 +12,6 @@ pub enum Device {
     Log,
     Source,
     Sink,
-}
-
-/// Why a file is refused: the first of its tests that fails.
-#[derive(Clone, Copy, Debug, PartialEq, Eq)]
-pub enum FileWhy {
-    /// Its bytes are no whole number of extents from 128 KiB to 4 GiB.
-    Size,
-    /// Page 0 isn't a file header.
-    Header,
-    /// Its version isn't 1.
-    Version,
-    /// It names no geometry.
-    Geometry,
-    /// It gives another number of pages than the file has, or the geometry doesn't allow so many.
-    Count,
-    /// All tests pass, but the file is to be checked later: its catalog has a clustered table.
-    Later,
 }
 
 /// How a command ended. All numbers and meanings are this project's own.
@@ -36,13 +22,30 @@ pub enum Status {
     /// The report was written and has an error.
     Errors,
     /// The words of the command line are wrong; the first wrong or missing one, from 1.
-    Words { at: u32 },
+    Words {
+        at: u32,
+    },
+    /// A script, counted from 1, or the schedule, 0, is none of the language: the first of them, its
+    /// first line that is wrong, and why; line 0 where the text is too long.
+    Script {
+        script: u32,
+        line: u32,
+        why: ScriptWhy,
+    },
     /// The data file fails a test.
     File(FileWhy),
+    /// The log has more bytes than a log may have when it is opened.
+    LogSize,
+    /// The log isn't empty, and is to be taken later.
+    LogLater,
     /// A device failed.
-    Device { which: Device },
+    Device {
+        which: Device,
+    },
     /// Memory ran out.
     Memory,
+    /// A check of a run ended without its report.
+    NoReport,
 }
 
 impl Status {
@@ -54,9 +57,11 @@ impl Status {
             Status::Clean => 0,
             Status::Errors => 1,
             Status::Words { .. } => 2,
-            Status::File(_) => 4,
+            Status::Script { .. } => 3,
+            Status::File(_) | Status::LogSize | Status::LogLater => 4,
             Status::Device { .. } => 5,
             Status::Memory => 6,
+            Status::NoReport => 7,
         }
     }
 }

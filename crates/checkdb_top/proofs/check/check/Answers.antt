@@ -1,6 +1,7 @@
 use Rattle.std.proofs.Common.{ap, ◌∙◌}
 use Rattle.checkdb_top.specs.WholeFiles.{same_contents}
-use Rattle.checkdb_top.proofs.Answering.{answers_file, told_passes}
+use Rattle.run_file.specs.OpeningLaws.{told_passes}
+use Rattle.checkdb_top.proofs.Answering.{answers_file}
 use Rattle.checkdb_top.proofs.check.check.Goals as goal
 
 pub returns-clause-answers : goal.returns-clause-answers

@@ -1,0 +1,72 @@
+-- What a run begins with, and why it doesn't begin.
+use Rattle.std.specs.Prelude.{◌≡◌, ◌≢◌, ℕ, ◌<◌, ◌≤◌, List, [], length, Option, IfSome, ⊤}
+use Rattle.pg_base.specs.Faults.{Rose}
+use Rattle.spec_file.specs.declared.geometry.Geometry.TheVariants.{Small}
+use Rattle.spec_file.specs.Image.{pages_of}
+use Rattle.spec_plan.specs.ReplayForm.{IsReplayForm}
+use Rattle.spec_script.specs.declared.statement.Statement.{Statement}
+use Rattle.run_file.specs.declared.stop.SourcesStop.{SourcesStop}
+use Rattle.run_file.specs.declared.stop.SourcesStop.TheVariants as sources
+use Rattle.run_file.specs.declared.why.FileStop.{FileStop}
+use Rattle.run_file.specs.declared.why.FileStop.TheVariants as file
+use Rattle.run_file.specs.declared.log.LogWhy.{LogWhy}
+use Rattle.run_file.specs.declared.log.LogWhy.TheVariants as log
+use Rattle.checkdb_top.specs.declared.status.Device.TheVariants as device
+use Rattle.checkdb_top.specs.declared.status.Status.{Status}
+use Rattle.checkdb_top.specs.declared.status.Status.TheVariants as status
+use Rattle.run_file.specs.Sources.{AreTexts, IsFirstOf, OneRose}
+use Rattle.run_file.specs.Opening.{IsRefusedForRun}
+use Rattle.run_file.specs.Log.{longest_log}
+
+abbrev pub sources_start : SourcesStop → Status
+sources_start (sources.Fault k line why) = status.Script k line why
+sources_start sources.Failed = status.Device device.Source
+sources_start sources.NoMemory = status.Memory
+
+abbrev pub file_start : FileStop → Status
+file_start (file.Refused why) = status.File why
+file_start file.Failed = status.Device device.Volume
+file_start file.NoMemory = status.Memory
+
+abbrev pub log_start : LogWhy → Status
+log_start log.Size = status.LogSize
+log_start log.Later = status.LogLater
+log_start log.Failed = status.Device device.Log
+log_start log.NoMemory = status.Memory
+
+abbrev pub IsEmptyLog : List ℕ → Type 0
+IsEmptyLog bytes = bytes ≡ []
+
+-- all sources are texts, where they are told
+abbrev pub HaveTexts : List (Option (List ℕ)) → Type 0
+HaveTexts lefts = (turns : List (ℕ × ℕ)) × (scripts : List (List Statement)) × AreTexts lefts turns scripts
+
+-- a told file has the form that sessions need
+abbrev pub HasForm : Option (List ℕ) → Type 0
+HasForm told = IfSome told (λ bytes. IsReplayForm Small (pages_of bytes))
+
+-- what the status of a run that doesn't begin says of the sources, the file and the log: the first source that is
+-- wrong; else why the file is refused; else why the log isn't taken
+abbrev pub StopsStart : List (Option (List ℕ)) → Option (List ℕ) → Option (List ℕ) → Status → Type 0
+StopsStart lefts told log_told (status.Script k line why) = IsFirstOf lefts k line why
+StopsStart lefts told log_told (status.File why) = HaveTexts lefts × IfSome told (IsRefusedForRun why)
+StopsStart lefts told log_told status.LogSize =
+    HaveTexts lefts × HasForm told × IfSome log_told (λ bytes. longest_log < length bytes)
+StopsStart lefts told log_told status.LogLater =
+    HaveTexts lefts × HasForm told × IfSome log_told (λ bytes. (bytes ≢ []) × (length bytes ≤ longest_log))
+StopsStart lefts told log_told (status.Device device.Source) = ⊤
+StopsStart lefts told log_told (status.Device device.Volume) = HaveTexts lefts
+StopsStart lefts told log_told (status.Device device.Log) = HaveTexts lefts × HasForm told
+StopsStart lefts told log_told (status.Device device.Sink) = ⊥
+StopsStart lefts told log_told status.Memory = ⊤
+StopsStart lefts told log_told status.Clean = ⊥
+StopsStart lefts told log_told status.Errors = ⊥
+StopsStart lefts told log_told (status.Words at) = ⊥
+StopsStart lefts told log_told status.NoReport = ⊥
+
+-- a device is named only where its count rose
+abbrev pub StartFault : List ℕ → List ℕ → ℕ → ℕ → ℕ → ℕ → Status → Type 0
+StartFault before now volume volume_now log_before log_now (status.Device device.Source) = OneRose before now
+StartFault before now volume volume_now log_before log_now (status.Device device.Volume) = Rose volume volume_now
+StartFault before now volume volume_now log_before log_now (status.Device device.Log) = Rose log_before log_now
+StartFault before now volume volume_now log_before log_now _ = ⊤

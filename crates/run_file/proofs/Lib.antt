@@ -4,3 +4,4 @@ pub mod Slots
 pub mod ScriptsRead
 pub mod Refusals
 pub mod Turns
+pub mod Statements

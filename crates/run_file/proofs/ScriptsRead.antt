@@ -1,5 +1,7 @@
 -- The scripts that were read so far.
 use Rattle.std.proofs.Common.{◌≡◌, ℕ, zero, suc, ◌+◌, ◌-◌, ◌≤◌, ◌<◌, List, [], ◌∷◌, ◌++◌, length, take, drop, set, get_or, map, All, Option, None, IfSome, Result, Ok, Err, inl, inr, refl, sym, ap, ◌∙◌, subst, arith, length-set}
+use Rattle.std.specs.Prelude.{IsTrue}
+use Rattle.std.specs.List.{list_all}
 use Rattle.std.proofs.lemmas.Bool.{cases_eq}
 use Rattle.std.proofs.lemmas.List.{map-set, get_or-map, length-map, get_or-drop, get_or-set_same, get_or-set_other, take_more, take_more_set, drop-set-lt}
 use Rattle.std.proofs.lemmas.List.Elements.{All-push}
@@ -7,11 +9,11 @@ use Rattle.std.proofs.lemmas.Grind.{drop_more_same}
 use Rattle.pg_base.specs.Faults.{Rose}
 use Rattle.std.specs.Io.KnownBytes.{IsAtEnd}
 use Rattle.spec_script.specs.declared.statement.Statement.{Statement}
-use Rattle.spec_script.specs.Lines.{IsStatementLine}
+use Rattle.spec_script.specs.Lines.{is_statement, IsStatementLine}
 use Rattle.spec_script.specs.Texts.{IsScript, IsSchedule, IsWrongAt, most_lines}
 use Rattle.run_file.specs.declared.stop.SourcesStop.{SourcesStop}
 use Rattle.run_file.specs.declared.stop.SourcesStop.TheVariants as stop
-use Rattle.run_file.specs.Sources.{AreScripts, AreShort, NoneFell, OneRose, FaultAt, ScriptsFault, SourcesFault, IsFirstWrong}
+use Rattle.run_file.specs.Sources.{AreProper, AreScripts, AreShort, NoneFell, OneRose, FaultAt, ScriptsFault, SourcesFault, IsFirstWrong}
 
 -- the first k of the sources are read to their ends, and the others are as they were
 pub record AreReadTo {S : Type 0} (left : S → Option (List ℕ)) (faults : S → ℕ) (old now : List S) (scripts : List (List Statement)) (k : ℕ) : Type 0 where
@@ -21,6 +23,7 @@ pub record AreReadTo {S : Type 0} (left : S → Option (List ℕ)) (faults : S �
   pub ends : All IsAtEnd (take k (map left now))
   pub fell : NoneFell (map faults old) (map faults now)
   pub short : AreShort scripts
+  pub proper : AreProper scripts
 
 scripts_push : (lefts : List (Option (List ℕ))) (scripts : List (List Statement)) (left : Option (List ℕ)) (script : List Statement)
     → AreScripts lefts scripts → IfSome left (λ bytes. IsScript bytes script) → AreScripts (lefts ++ left ∷ []) (scripts ++ script ∷ [])
@@ -70,9 +73,9 @@ module _ {S : Type 0} (left : S → Option (List ℕ)) (faults : S → ℕ) (old
 
   -- one script more
   pub read_next : (scripts : List (List Statement)) (script : List Statement) → AreReadTo left faults old now scripts k
-      → IfSome (left x) (λ bytes. IsScript bytes script) → IsAtEnd (left y) → faults x ≤ faults y → length script ≤ most_lines
+      → IfSome (left x) (λ bytes. IsScript bytes script) → IsAtEnd (left y) → faults x ≤ faults y → length script ≤ most_lines → IsTrue (list_all is_statement script)
       → AreReadTo left faults old (set now k y) (scripts ++ script ∷ []) (k + 1)
-  read_next scripts script read said end rises few =
+  read_next scripts script read said end rises few allowed =
       let first : k < length old = omega (arith, below, read.size) in
       let within : k < length (map left old) = subst (λ n. k < n) (sym (length-map old left)) first in
       let inside : k < length (map left now) = subst (λ n. k < n) (sym (length-map now left)) below in
@@ -88,6 +91,7 @@ module _ {S : Type 0} (left : S → Option (List ℕ)) (faults : S → ℕ) (old
         ends = subst (All IsAtEnd) (sym shut) (All-push IsAtEnd (take k (map left now)) (left y) read.ends end);
         fell = fell_next rises read.fell;
         short = All-push (λ s. length s ≤ most_lines) scripts script read.short few;
+        proper = All-push (λ s. IsTrue (list_all is_statement s)) scripts script read.proper allowed;
       }
 
   -- a script that is wrong

@@ -1,10 +1,11 @@
 -- Sources that are read to their ends, and what their texts say.
-use Rattle.std.specs.Prelude.{All, ◌≡◌, ℕ, zero, suc, ◌-◌, ◌≤◌, ◌<◌, List, [], ◌∷◌, ◌++◌, length, take, drop, slice_index, slice_index_or, Option, None, IfSome, Result, Ok, Err, ⊤}
+use Rattle.std.specs.List.{list_all}
+use Rattle.std.specs.Prelude.{All, IsTrue, ◌≡◌, ℕ, zero, suc, ◌-◌, ◌≤◌, ◌<◌, List, [], ◌∷◌, ◌++◌, length, take, drop, slice_index, slice_index_or, Option, None, IfSome, Result, Ok, Err, ⊤}
 use Rattle.std.specs.Io.KnownBytes.{prepend_known}
 use Rattle.pg_base.specs.Faults.{Rose}
 use Rattle.spec_script.specs.declared.statement.Statement.{Statement}
 use Rattle.spec_script.specs.declared.stop.ScriptWhy.{ScriptWhy}
-use Rattle.spec_script.specs.Lines.{IsStatementLine, IsTurnsLine}
+use Rattle.spec_script.specs.Lines.{is_statement, IsStatementLine, IsTurnsLine}
 use Rattle.spec_script.specs.Texts.{IsScript, IsSchedule, IsWrongAt, most_lines}
 use Rattle.run_file.specs.declared.stop.SourceStop.{SourceStop}
 use Rattle.run_file.specs.declared.stop.SourceStop.TheVariants as source
@@ -98,6 +99,10 @@ IsTurnOf sessions turns = (0 < turns.0) × (turns.0 ≤ sessions)
 
 abbrev pub AreTurnsOf : ℕ → List (ℕ × ℕ) → Type 0
 AreTurnsOf sessions turns = All (IsTurnOf sessions) turns
+
+-- all statements are of the language
+abbrev pub AreProper : List (List Statement) → Type 0
+AreProper scripts = All (λ script. IsTrue (list_all is_statement script)) scripts
 
 -- no script has more statements than a script may have
 abbrev pub AreShort : List (List Statement) → Type 0

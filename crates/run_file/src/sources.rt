@@ -1,9 +1,10 @@
 // All sources of a run: its schedule, and then its scripts.
-ghost use Rattle.std.specs.Prelude.{◌≡◌, ◌-◌, ◌<◌, ◌≤◌, All, length, map, IfOk, OnOk, IfSome};
+ghost use Rattle.std.specs.List.{list_all};
+ghost use Rattle.std.specs.Prelude.{◌≡◌, ◌-◌, ◌<◌, ◌≤◌, All, IsTrue, length, map, IfOk, OnOk, IfSome};
 ghost use Rattle.std.specs.Io.KnownBytes.{IsAtEnd};
-ghost use Rattle.spec_script.specs.Lines.{IsStatementLine};
+ghost use Rattle.spec_script.specs.Lines.{is_statement, IsStatementLine};
 ghost use Rattle.spec_script.specs.Texts.{IsScript, most_lines};
-ghost use Rattle.run_file.specs.Sources.{AreScripts, AreShort, AreTexts, AreTurnsOf, FaultAt, NoneFell, ScriptsFault, SourcesFault};
+ghost use Rattle.run_file.specs.Sources.{AreProper, AreScripts, AreShort, AreTexts, AreTurnsOf, FaultAt, NoneFell, ScriptsFault, SourcesFault};
 
 use crate::stop::{SourcesStop, of_source};
 use crate::text::{schedule_of, script_of};
@@ -27,6 +28,7 @@ fn script_at<S: Source>(
 ) -> Result<Vec<Statement>, SourcesStop>
     ensures script { IfOk result (λ statements. IfSome (S.left source.old) (λ text. IsScript text statements.items)) }
     ensures short { IfOk result (λ statements. length statements.items ≤ most_lines) }
+    ensures proper { IfOk result (λ statements. IsTrue (list_all is_statement statements.items)) }
     ensures end { OnOk result (IsAtEnd (S.left source.new)) }
     ensures fault { FaultAt k IsStatementLine (S.left source.old) (S.faults source.old) (S.faults source.new) result }
     ensures faults { S.faults source.old ≤ S.faults source.new }
@@ -45,6 +47,7 @@ fn read_scripts<S: Source>(
     requires { length sources.old ≤ 16 }
     ensures scripts { IfOk result (λ scripts. AreScripts (map S.left sources.old) (map (λ script. script.items) scripts.items)) }
     ensures short { IfOk result (λ scripts. AreShort (map (λ script. script.items) scripts.items)) }
+    ensures proper { IfOk result (λ scripts. AreProper (map (λ script. script.items) scripts.items)) }
     ensures ends { OnOk result (All IsAtEnd (map S.left sources.new)) }
     ensures fault { ScriptsFault (map S.left sources.old) (map S.faults sources.old) (map S.faults sources.new) result }
     ensures faults { NoneFell (map S.faults sources.old) (map S.faults sources.new) }
@@ -66,6 +69,7 @@ pub fn read_sources<S: Source>(alloc: Global, sources: &mut [S]) -> Result<Texts
     ensures texts { IfOk result (λ texts. AreTexts (map S.left sources.old) texts.schedule.items (map (λ script. script.items) texts.scripts.items)) }
     ensures count { IfOk result (λ texts. length texts.scripts.items ≡ length sources.old - 1) }
     ensures short { IfOk result (λ texts. AreShort (map (λ script. script.items) texts.scripts.items)) }
+    ensures proper { IfOk result (λ texts. AreProper (map (λ script. script.items) texts.scripts.items)) }
     ensures inside { IfOk result (λ texts. AreTurnsOf (length sources.old - 1) texts.schedule.items) }
     ensures ends { OnOk result (All IsAtEnd (map S.left sources.new)) }
     ensures fault { SourcesFault (map S.left sources.old) (map S.faults sources.old) (map S.faults sources.new) result }

@@ -1,7 +1,8 @@
 // The texts of sources.
-ghost use Rattle.std.specs.Prelude.{◌≡◌, ◌≤◌, length, IfOk, OnOk, IfSome};
+ghost use Rattle.std.specs.List.{list_all};
+ghost use Rattle.std.specs.Prelude.{◌≡◌, ◌≤◌, IsTrue, length, IfOk, OnOk, IfSome};
 ghost use Rattle.std.specs.Io.KnownBytes.{IsAtEnd};
-ghost use Rattle.spec_script.specs.Lines.{IsStatementLine, IsTurnsLine};
+ghost use Rattle.spec_script.specs.Lines.{is_statement, IsStatementLine, IsTurnsLine};
 ghost use Rattle.spec_script.specs.Texts.{IsScript, IsSchedule, most_lines};
 ghost use Rattle.run_file.specs.Sources.{AreTurnsOf, TextFault};
 
@@ -16,6 +17,7 @@ use vol_dev::Source;
 pub fn script_of<S: Source>(alloc: Global, source: &mut S) -> Result<Vec<Statement>, TextStop>
     ensures script { IfOk result (λ statements. IfSome (S.left source.old) (λ text. IsScript text statements.items)) }
     ensures short { IfOk result (λ statements. length statements.items ≤ most_lines) }
+    ensures proper { IfOk result (λ statements. IsTrue (list_all is_statement statements.items)) }
     ensures end { OnOk result (IsAtEnd (S.left source.new)) }
     ensures fault { TextFault IsStatementLine (S.left source.old) (S.faults source.old) (S.faults source.new) result }
     ensures faults { S.faults source.old ≤ S.faults source.new }

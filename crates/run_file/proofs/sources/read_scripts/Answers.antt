@@ -31,7 +31,7 @@ loop-k-preserved g c =
     subst (λ l. AreReadTo g.S.Source.left g.S.Source.faults c.args.sources.now (slice_set c.loop-k.sources c.loop-k.k c.script_at.new.source) l (c.loop-k.k + 1)) (sym grown)
     (read_next g.S.Source.left g.S.Source.faults c.args.sources.now c.loop-k.sources c.loop-k.k (get_or c.loop-k.sources c.loop-k.k c.index-sources-k.result) c.script_at.new.source
     below (ap (λ d. get_or c.loop-k.sources c.loop-k.k d) (sym c.index-sources-k.is)) (map (λ script. script.items) c.loop-k.scripts.items) c.in-Ok.script.items c.loop-k.invariant
-    c.in-Ok.ensures.script c.in-Ok.ensures.end c.in-Ok.ensures.faults c.in-Ok.ensures.short)
+    c.in-Ok.ensures.script c.in-Ok.ensures.end c.in-Ok.ensures.faults c.in-Ok.ensures.short c.in-Ok.ensures.proper)
 
 pub returns-clause-ends : goal.returns-clause-ends
 returns-clause-ends g c =

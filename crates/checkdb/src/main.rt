@@ -1,14 +1,18 @@
-//! `checkdb check DATA` writes the report of a data file to standard output.
+//! `checkdb check DATA` writes the report of a data file to standard output. `checkdb replay DATA LOG SCHEDULE
+//! SCRIPT..` runs scripts as sessions over a data file and its log, in turns on one thread.
 #![tactic(auto)]
 
+ghost use Rattle.std.specs.Prelude.{◌<◌, ◌≤◌, length, IfOk};
+
+use app_words::{Names, names_of};
 use checkdb_top::{Device, FileWhy, NoGate, Outcome, ScriptWhy, Status, plain_top};
 use pg_base::{NoMemory, Words};
 use std::alloc::Global;
 use std::env;
 use std::io::ErrorKind;
 use std::process::ExitCode;
-use std::rt::Env;
-use vol_dev::{FileVolume, MemLog, MemSource, StdoutSink};
+use std::rt::{Env, Files};
+use vol_dev::{FileLog, FileSource, FileVolume, StdoutSink};
 
 // The words of the command line, without the program's name. Words that are no text are none.
 fn words_of<R: Env + AllocGlobal>(rt: &R) -> Result<Words, NoMemory> {
@@ -28,9 +32,25 @@ fn words_of<R: Env + AllocGlobal>(rt: &R) -> Result<Words, NoMemory> {
     Ok(words)
 }
 
-// The word that names the data file, or nothing.
-fn data_of(words: &Words) -> &str {
-    if words.count() > 1 { words.word(1) } else { "" }
+// The sources of these names. Where there is none it is one that fails, on which no call is made.
+fn sources_of<R: Files>(
+    rt: &R,
+    alloc: Global,
+    names: &[String],
+) -> Result<Vec<FileSource<R::File>>, NoMemory>
+    ensures some { IfOk result (λ sources. 0 < length sources.items) }
+    ensures few { IfOk result (λ sources. length sources.items ≤ 17) }
+{
+    let mut sources = Vec::new(alloc);
+    'names: for name in names {
+        if sources.len() < 17 {
+            sources.push(FileSource::at(rt, name.as_str()))?;
+        }
+    }
+    if sources.is_empty() {
+        sources.push(FileSource::at(rt, ""))?;
+    }
+    Ok(sources)
 }
 
 fn device_name(which: Device) -> &'static str {
@@ -80,22 +100,32 @@ fn tell<R: Eprint>(rt: &R, status: Status) {
     };
 }
 
-fn run(rt: &HostRuntime, alloc: Global, words: &Words) -> Status {
-    let volume = FileVolume::at(rt, data_of(words));
-    let log = MemLog::of(Vec::new(alloc), false, None);
-    let mut sources: Vec<MemSource> = Vec::new(alloc);
+fn run(rt: &HostRuntime, alloc: Global, words: &Words) -> Result<Status, NoMemory> {
+    let Names {
+        volume,
+        log,
+        sources,
+    } = names_of(alloc, words)?;
+    let mut sources = sources_of(rt, alloc, &sources)?;
+    let volume = FileVolume::at(rt, volume.as_str());
+    let log = FileLog::at(rt, log.as_str());
     let mut out = StdoutSink::new(rt.stdout());
     let Outcome {
         status,
         volume: _volume,
         log: _log,
     } = plain_top(alloc, words, volume, log, &mut sources, &mut out, &NoGate);
-    status
+    Ok(status)
+}
+
+fn done(rt: &HostRuntime) -> Result<Status, NoMemory> {
+    let words = words_of(rt)?;
+    run(rt, rt.alloc(), &words)
 }
 
 fn main(rt: HostRuntime) -> ExitCode {
-    let status = match words_of(&rt) {
-        Ok(words) => run(&rt, rt.alloc(), &words),
+    let status = match done(&rt) {
+        Ok(status) => status,
         Err(NoMemory) => Status::Memory,
     };
     tell(&rt, status);

@@ -1,3 +1,7 @@
 pub mod Answering
 pub mod Completeness
 pub mod Forms
+pub mod Running
+pub mod Closings
+pub mod Starting
+pub mod Begun

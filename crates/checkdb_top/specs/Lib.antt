@@ -1,8 +1,9 @@
 pub mod Status
-pub mod Words
 pub mod WholeFiles
 pub mod Form
 pub mod Opening
 pub mod Answers
 pub mod Completeness
 pub mod Start
+pub mod Runs
+pub mod Readiness

@@ -5,10 +5,10 @@ mod check;
 mod form;
 mod gate;
 mod reader;
+mod run;
 mod start;
 mod status;
 mod top;
-mod words;
 
 pub use gate::{Gate, NoGate, Point};
 pub use run_file::FileWhy;

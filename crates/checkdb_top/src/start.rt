@@ -5,7 +5,7 @@ ghost use Rattle.spec_file.specs.declared.geometry.Geometry.TheVariants.{Small};
 ghost use Rattle.spec_plan.specs.ReplayForm.{IsReplayForm};
 ghost use Rattle.ck_facts.specs.Maps.{HasShape};
 ghost use Rattle.run_file.specs.Opening.{AreAllPages};
-ghost use Rattle.run_file.specs.Sources.{AreShort, AreTexts, AreTurnsOf, NoneFell};
+ghost use Rattle.run_file.specs.Sources.{AreProper, AreShort, AreTexts, AreTurnsOf, NoneFell};
 ghost use Rattle.checkdb_top.specs.Start.{IsEmptyLog, StopsStart, StartFault, sources_start, file_start, log_start};
 
 use crate::{Device, Status};
@@ -69,6 +69,7 @@ pub fn start_run<V: Volume, L: LogFile, S: Source>(
     ensures texts { IfOk result (λ start. AreTexts (map S.left sources.old) start.texts.schedule.items (map (λ script. script.items) start.texts.scripts.items)) }
     ensures count { IfOk result (λ start. length start.texts.scripts.items ≡ length sources.old - 1) }
     ensures short { IfOk result (λ start. AreShort (map (λ script. script.items) start.texts.scripts.items)) }
+    ensures proper { IfOk result (λ start. AreProper (map (λ script. script.items) start.texts.scripts.items)) }
     ensures inside { IfOk result (λ start. AreTurnsOf (length sources.old - 1) start.texts.schedule.items) }
     ensures ends { OnOk result (All IsAtEnd (map S.left sources.new)) }
     ensures form { IfOk result (λ start. IsReplayForm Small start.frames) }

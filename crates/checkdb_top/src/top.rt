@@ -1,14 +1,18 @@
-ghost use Rattle.std.specs.Prelude.{◌≡◌, ◌≤◌, ◌↔◌, IfSome, Some, None};
+ghost use Rattle.std.specs.Prelude.{◌≡◌, ◌<◌, ◌≤◌, ◌↔◌, length, map, IfSome, Some};
 ghost use Rattle.pg_base.specs.Faults.{Rose};
-ghost use Rattle.checkdb_top.specs.Words.{first_wrong};
+ghost use Rattle.app_words.specs.Words.{first_wrong, Asks};
+ghost use Rattle.app_words.specs.declared.command.Command.TheVariants.{Check, Replay};
+ghost use Rattle.run_file.specs.Sources.{NoneFell, OneRose};
+ghost use Rattle.checkdb_top.specs.Runs.{Ends};
 ghost use Rattle.checkdb_top.specs.Answers.{Answers, IsDevice, IsWordsAt};
 ghost use Rattle.checkdb_top.specs.Completeness.{Completes};
 ghost use Rattle.checkdb_top.specs.declared.status.Device.TheVariants.{Volume, Sink};
 
 use crate::check::{Checked, check};
 use crate::gate::Gate;
-use crate::words::{Command, read_words};
+use crate::run::run;
 use crate::{Device, Status};
+use app_words::{Command, read_words};
 use pg_base::Words;
 use std::alloc::Global;
 use vol_dev::{LogFile, Source};
@@ -22,7 +26,8 @@ pub struct Outcome<V, L> {
 
 /// Does a command on one thread, and returns for every input.
 ///
-/// `check DATA` writes the report of a still file. Nothing but the output is written.
+/// `check DATA` writes the report of a still file; nothing but the output is written. `replay DATA LOG
+/// SCHEDULE SCRIPT ..` runs scripts as sessions, in turns, over the file.
 pub fn plain_top<V: vol_dev::Volume, L: LogFile, S: Source, K: vol_dev::Sink, G: Gate>(
     alloc: Global,
     words: &Words,
@@ -32,32 +37,40 @@ pub fn plain_top<V: vol_dev::Volume, L: LogFile, S: Source, K: vol_dev::Sink, G:
     out: &mut K,
     gate: &G,
 ) -> Outcome<V, L>
+    // For a run there is a source for the schedule, and one for each of at most sixteen scripts.
+    requires some { Asks Replay words.now → 0 < length sources.old.items }
+    requires few { Asks Replay words.now → length sources.old.items ≤ 17 }
+
     // The status names a wrong word exactly where it is the first that is wrong or missing, and then
     // no device was called.
     ensures words { (at : _) → IsWordsAt at result.status ↔ (first_wrong words.now ≡ Some at) }
-    ensures no_call { (at : _) → first_wrong words.now ≡ Some at → (result.volume ≡ volume) × (out.new ≡ out.old) }
+    ensures no_call { (at : _) → first_wrong words.now ≡ Some at →
+        (result.volume ≡ volume) × (result.log ≡ log) × (sources.new ≡ sources.old) × (out.new ≡ out.old) }
 
-    // What each status says of the file and of the output.
-    ensures answers { first_wrong words.now ≡ None →
-        Answers (V.contents volume) (K.contents out.old) (K.contents out.new) result.status }
+    // What each status of a check says of the file and of the output; nothing but the output changes.
+    ensures answers { Asks Check words.now → Answers (V.contents volume) (K.contents out.old) (K.contents out.new) result.status }
+    ensures volume { Asks Check words.now → V.contents result.volume ≡ V.contents volume }
+    ensures log { Asks Check words.now → result.log ≡ log }
+    ensures sources { Asks Check words.now → sources.new ≡ sources.old }
 
-    // Nothing but the output changes.
-    ensures volume { V.contents result.volume ≡ V.contents volume }
-    ensures log { result.log ≡ log }
-    ensures sources { sources.new ≡ sources.old }
+    // How a run ends.
+    ensures ends { Asks Replay words.now → Ends (map S.left sources.old.items) (V.contents volume) (V.contents result.volume)
+        (L.contents log) (L.contents result.log) (K.contents out.old) (K.contents out.new) result.status }
 
-    // A device is named only where its count of faults rose, also where it tells nothing; log and
-    // sources are never named.
+    // A device is named only where its count of faults rose, also where it tells nothing; a check
+    // never names log and sources.
     ensures volume_fault { IsDevice Device.Volume result.status → Rose (V.faults volume) (V.faults result.volume) }
     ensures sink_fault { IsDevice Device.Sink result.status → Rose (K.faults out.old) (K.faults out.new) }
-    ensures log_fault { ¬ IsDevice Device.Log result.status }
-    ensures source_fault { ¬ IsDevice Device.Source result.status }
+    ensures log_fault { IsDevice Device.Log result.status → Rose (L.faults log) (L.faults result.log) }
+    ensures source_fault { IsDevice Device.Source result.status → OneRose (map S.faults sources.old.items) (map S.faults sources.new.items) }
     ensures volume_faults { V.faults volume ≤ V.faults result.volume }
+    ensures log_faults { L.faults log ≤ L.faults result.log }
+    ensures source_faults { NoneFell (map S.faults sources.old.items) (map S.faults sources.new.items) }
     ensures sink_faults { K.faults out.old ≤ K.faults out.new }
 
-    // Where the words are right and no device fails, the file's form fixes the status, but for want of
+    // Where a check is asked for and no device fails, the file's form fixes the status, but for want of
     // memory.
-    ensures complete { first_wrong words.now ≡ None → IfSome (V.contents volume) (λ bytes.
+    ensures complete { Asks Check words.now → IfSome (V.contents volume) (λ bytes.
         ¬ Rose (V.faults volume) (V.faults result.volume) → ¬ Rose (K.faults out.old) (K.faults out.new) →
         Completes bytes result.status) }
 {
@@ -69,6 +82,16 @@ pub fn plain_top<V: vol_dev::Volume, L: LogFile, S: Source, K: vol_dev::Sink, G:
         },
         Ok(Command::Check) => {
             let Checked { status, volume } = check(alloc, volume, out);
+            Outcome {
+                status,
+                volume,
+                log,
+            }
+        }
+        Ok(Command::Replay) => {
+            let mut volume = volume;
+            let mut log = log;
+            let status = run(alloc, &mut volume, &mut log, sources.as_mut_slice(), out);
             Outcome {
                 status,
                 volume,

@@ -61,7 +61,8 @@ pub fn run(
     sink_fails: Option<u32>,
 ) -> Result<(Status, Vec<u8>), Fail> {
     let words = words_of(alloc, texts)?;
-    let mut sources: Vec<MemSource> = Vec::new(alloc);
+    let mut sources = Vec::new(alloc);
+    sources.push(MemSource::of(Vec::new(alloc), None))?;
     let mut out = MemSink::of(alloc, sink_fails);
     let volume = MemVolume::of(file, failing);
     let log = MemLog::of(Vec::new(alloc), false, None);

@@ -1,4 +1,4 @@
-//! The worked rows of the check of a still file, run through `plain_top` over devices in memory.
+//! The worked rows of the check of a still file and of runs of sessions, run through `plain_top` over devices in memory.
 #![tactic(auto)]
 
 #[cfg(test)]
@@ -7,5 +7,7 @@ mod chain_tests;
 mod files;
 #[cfg(test)]
 mod objects;
+#[cfg(test)]
+mod replay_tests;
 #[cfg(test)]
 mod tests;

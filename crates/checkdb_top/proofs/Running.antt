@@ -1,0 +1,97 @@
+-- Lists of scripts and replies, one after another.
+use Rattle.std.proofs.Common.{◌≡◌, ℕ, zero, suc, ◌+◌, ◌<◌, ◌≤◌, ◌⊎◌, subst, Bool, true, false, ◌||◌, ◌&&◌, List, [], ◌∷◌, ◌++◌, length, take, drop, map, get_or, Option, Some, None, All, refl, sym, ap, ◌∙◌, inl, inr, ⊎_elim, append_assoc, append-nil, reverse, arith}
+use Rattle.std.specs.Prelude.{slice_get}
+use Rattle.std.specs.List.{list_any, list_all}
+use Rattle.std.specs.Io.KnownBytes.{append_known}
+use Rattle.std.proofs.lemmas.Bool.{and_parts}
+use Rattle.std.proofs.lemmas.Option.{same_Some, slice_get_within, unwrap_or-slice_get}
+use Rattle.std.proofs.lemmas.List.Elements.{All-append}
+use Rattle.std.specs.Prelude.{unwrap_or}
+use Rattle.std.proofs.lemmas.List.{take_more, take-append-drop, length-take-le, length-map, get_or-map}
+use Rattle.spec_script.specs.declared.reply.Reply.{Reply}
+use Rattle.spec_script.specs.Replies.{session_text, texts_from, text_of}
+use Rattle.vol_dev.specs.Devices.{WroteFront}
+use Rattle.vol_dev.specs.DeviceLaws.{append_known-then, WroteFront-after}
+
+pub any_mapped : {A B : Type 0} (f : A → B) (p : B → Bool) (xs : List A) → list_any (λ x. p (f x)) xs ≡ list_any p (map f xs)
+any_mapped f p [] = refl
+any_mapped f p (x ∷ xs) = ap (λ b. p (f x) || b) (any_mapped f p xs)
+
+-- an element of a list of which all are so
+pub at_place : {A : Type 0} (P : A → Type 0) (xs : List A) (k : ℕ) (x : A) → All P xs → slice_get xs k ≡ Some x → P x
+at_place P xs k x all is =
+    let same : get_or xs k x ≡ x = sym (unwrap_or-slice_get xs k x) ∙ ap (λ o. unwrap_or o x) is in
+    subst P same (all k x (slice_get_within xs k x is))
+
+pub passes_at : {A : Type 0} (p : A → Bool) (xs : List A) (k : ℕ) (x : A) → list_all p xs ≡ true → slice_get xs k ≡ Some x → p x ≡ true
+passes_at p [] k x all is = cc
+passes_at p (y ∷ ys) zero x all is = ap p (sym (same_Some y x is)) ∙ (and_parts (p y) (list_all p ys) all).0
+passes_at p (y ∷ ys) (suc k) x all is = passes_at p ys k x (and_parts (p y) (list_all p ys) all).1 is
+
+-- an element of a list with one more behind
+pub in_longer : {A : Type 0} (xs : List A) (x y : A) (k : ℕ) → slice_get (xs ++ x ∷ []) k ≡ Some y
+    → (slice_get xs k ≡ Some y) ⊎ ((k ≡ length xs) × (x ≡ y))
+in_longer [] x y zero is = inr (refl, same_Some x y is)
+in_longer [] x y (suc k) is = cc
+in_longer (z ∷ zs) x y zero is = inl is
+in_longer (z ∷ zs) x y (suc k) is = ⊎_elim (λ a. inl a) (λ b. inr (ap suc b.0, b.1)) (in_longer zs x y k is)
+
+texts_append : (s : ℕ) (xs ys : List (List Reply)) → texts_from s (xs ++ ys) ≡ texts_from s xs ++ texts_from (s + length xs) ys
+texts_append s [] ys = ap (λ k. texts_from k ys) (omega arith)
+texts_append s (x ∷ xs) ys =
+    let same : s + 1 + length xs ≡ s + length (x ∷ xs) = omega arith in
+    ap (λ l. session_text s 1 x ++ l) (texts_append (s + 1) xs ys ∙ ap (λ k. texts_from (s + 1) xs ++ texts_from k ys) same)
+    ∙ sym (append_assoc (session_text s 1 x) (texts_from (s + 1) xs) (texts_from (s + length (x ∷ xs)) ys))
+
+texts_more : (n : ℕ) (xs : List (List Reply)) (d : List Reply) → n < length xs
+    → text_of (take n xs) ++ session_text (n + 1) 1 (get_or xs n d) ≡ text_of (take (n + 1) xs)
+texts_more n xs d below =
+    let long : length (take n xs) ≡ n = length-take-le n xs (omega (arith, below)) in
+    let place : 1 + length (take n xs) ≡ n + 1 = omega (arith, long) in
+    sym (ap text_of (take_more xs n d below) ∙ texts_append 1 (take n xs) (get_or xs n d ∷ [])
+    ∙ ap (λ k. text_of (take n xs) ++ (session_text k 1 (get_or xs n d) ++ [])) place
+    ∙ ap (λ l. text_of (take n xs) ++ l) (append-nil (session_text (n + 1) 1 (get_or xs n d))))
+
+-- the replies of one session more are written
+pub more_written : (n : ℕ) (xs : List (List Reply)) (x : List Reply) (old now new : Option (List ℕ)) → n < length xs → x ≡ get_or xs n x
+    → now ≡ append_known old (text_of (take n xs)) → new ≡ append_known now (session_text (n + 1) 1 x)
+    → new ≡ append_known old (text_of (take (n + 1) xs))
+more_written n xs x old now new below is so_far more =
+    append_known-then old now new (text_of (take n xs)) (session_text (n + 1) 1 x) so_far more
+    ∙ ap (λ r. append_known old (text_of (take n xs) ++ session_text (n + 1) 1 r)) is
+    ∙ ap (append_known old) (texts_more n xs x below)
+
+-- the replies of a session were written in part
+pub front_written : (n : ℕ) (xs : List (List Reply)) (x : List Reply) (old now new : Option (List ℕ)) → n < length xs → x ≡ get_or xs n x
+    → now ≡ append_known old (text_of (take n xs)) → WroteFront now new (session_text (n + 1) 1 x) → WroteFront old new (text_of xs)
+front_written n xs x old now new below is so_far front =
+    let rest = texts_from (1 + length (take (n + 1) xs)) (drop (n + 1) xs) in
+    let whole : text_of xs ≡ text_of (take n xs) ++ (session_text (n + 1) 1 x ++ rest) =
+    sym (ap text_of (take-append-drop (n + 1) xs)) ∙ texts_append 1 (take (n + 1) xs) (drop (n + 1) xs)
+    ∙ ap (λ l. l ++ rest) (sym (texts_more n xs x below))
+    ∙ append_assoc (text_of (take n xs)) (session_text (n + 1) 1 (get_or xs n x)) rest
+    ∙ ap (λ r. text_of (take n xs) ++ (session_text (n + 1) 1 r ++ rest)) (sym is) in
+    WroteFront-after old now new (text_of (take n xs)) (session_text (n + 1) 1 x) rest (text_of xs) so_far front whole
+
+pub mapped_here : {A B : Type 0} (f : A → B) (xs : List A) (n : ℕ) (x : A) → x ≡ get_or xs n x → f x ≡ get_or (map f xs) n (f x)
+mapped_here f [] n x is = refl
+mapped_here f (y ∷ ys) zero x is = ap f is
+mapped_here f (y ∷ ys) (suc n) x is = mapped_here f ys n x is
+
+pub at_index : {A : Type 0} (P : A → Type 0) (xs : List A) (n : ℕ) (x : A) → All P xs → n < length xs → x ≡ get_or xs n x → P x
+at_index P xs n x all below is = subst P (sym is) (all n x below)
+
+-- one session more was told its replies
+pub told_more : (P : ℕ → List Reply → Type 0) (xs : List (List Reply)) (x : List Reply) (n : ℕ) → length xs ≡ n
+    → ((k : ℕ) (r : List Reply) → slice_get xs k ≡ Some r → P k r) → P n x
+    → (k : ℕ) (r : List Reply) → slice_get (xs ++ x ∷ []) k ≡ Some r → P k r
+told_more P xs x n many before last k r is =
+    ⊎_elim (λ at. before k r at) (λ here. subst (λ m. P m r) (sym (here.0 ∙ many)) (subst (P n) here.1 last)) (in_longer xs x r k is)
+
+-- one that is alone
+pub all_one : {A : Type 0} (P : A → Type 0) (x : A) → P x → All P (x ∷ [])
+all_one P x is zero d below = is
+all_one P x is (suc k) d below = absurd (omega (arith, below))
+
+pub all_more : {A : Type 0} (P : A → Type 0) (xs : List A) (x : A) → All P xs → P x → All P (xs ++ x ∷ [])
+all_more P xs x all is = All-append P xs (x ∷ []) all (all_one P x is)

@@ -1,0 +1,21 @@
+use Rattle.std.proofs.Common.{length, map, sym, ap, ◌∙◌}
+use Rattle.spec_run.specs.Entries.{items_of}
+use Rattle.checkdb_top.proofs.Closings.{closed, close_of, items_order, may_write, no_device}
+use Rattle.checkdb_top.proofs.run.close_run.Goals as goal
+
+pub write_run-requires-clause-may : goal.write_run-requires-clause-may
+write_run-requires-clause-may g c =
+    let core = c.args.core.now in
+    let order = items_order c.items-items.result.now (items_of core.entries) c.items-items.ensures.items in
+    may_write core.run core.entries c.items-items.result.now c.in_ok-close.close c.frames-2.result.now _ c.requires.opened c.frames-2.ensures order
+    (close_of core.run core.entries c.items-items.result.now c.in_ok-close.close c.count.result c.frames.result.now c.requires.opened c.frames.ensures c.count.ensures c.in_ok-close.ensures)
+    c.requires.few c.requires.file
+
+pub returns-clause-closes : goal.returns-clause-closes
+returns-clause-closes g c =
+    let core = c.args.core.now in
+    let order = items_order c.items-items.result.now (items_of core.entries) c.items-items.ensures.items in
+    let of = close_of core.run core.entries c.items-items.result.now c.in_ok-close.close c.count.result c.frames.result.now c.requires.opened c.frames.ensures c.count.ensures c.in_ok-close.ensures in
+    closed core.run core.entries c.items-items.result.now c.in_ok-close.close (map (λ r. r.now) c.in_ok-replies.replies.items) c.ended-known.result _ _ _ _ _ _ c.write_run.result
+    c.requires.opened order of c.requires.file c.in_ok-replies.ensures.told (rw (c.deref.ensures.value) at c.ended-known.ensures)
+    (rw (c.frames-2.ensures, c.deref-2.ensures.value) at c.write_run.ensures.written)

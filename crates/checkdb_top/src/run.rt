@@ -1,0 +1,265 @@
+// A run of sessions on one thread, from its sources to the text of its replies.
+ghost use Rattle.std.specs.Prelude.{◌≡◌, ◌+◌, ◌-◌, ◌<◌, ◌≤◌, ◌^◌, [], All, length, map, reverse, IfOk, IfErr, IfSome, OnOk, OnErr, IsTrue, List, ℕ, ◌++◌};
+ghost use Rattle.std.specs.List.{list_any};
+ghost use Rattle.std.specs.Io.KnownBytes.{append_known};
+ghost use Rattle.pg_base.specs.Faults.{Rose};
+ghost use Rattle.vol_dev.specs.Devices.{WroteFront};
+ghost use Rattle.spec_script.specs.Replies.{text_of};
+ghost use Rattle.spec_run.specs.Entries.{items_of};
+ghost use Rattle.spec_run.specs.Turns.{IsLegal};
+ghost use Rattle.run_file.specs.Sources.{NoneFell, OneRose};
+ghost use Rattle.run_file.specs.Opening.{AreAllPages};
+ghost use Rattle.spec_plan.specs.ReplayForm.{IsReplayForm};
+ghost use Rattle.spec_file.specs.declared.geometry.Geometry.TheVariants.{Small};
+ghost use Rattle.checkdb_top.specs.Answers.{IsDevice};
+ghost use Rattle.checkdb_top.specs.Runs.{ends_short, is_terminated, has_errors, ended_as, AreAllTold, Closes, Ends};
+ghost use Rattle.checkdb_top.specs.Readiness.{IsOver, MayBegin, AreFew, Written};
+ghost use Rattle.run_close.specs.Close.{MayClose};
+ghost use Rattle.checkdb_top.specs.declared.status.Device.{Device as AnyDevice};
+ghost use Rattle.checkdb_top.specs.declared.status.Device.TheVariants.{Volume, Log, Source, Sink};
+
+use crate::start::{Start, start_run};
+use crate::{Device, Status};
+use db_core::Core;
+use pg_base::NoMemory;
+use run_close::{Close, CloseStop, write_session};
+use run_file::Texts;
+use spec_log::Record;
+use spec_script::Reply;
+use std::alloc::Global;
+use vol_dev::{DeviceFailed, LogFile};
+use vol_pool::Frames;
+
+const MANY: usize = 4_294_967_296;
+
+// The sessions after the turns of the schedule and all others.
+fn replayed(alloc: Global, start: Start) -> Result<Core, NoMemory>
+    requires { MayBegin start }
+    ensures { IfOk result (IsOver start.frames start.texts.schedule.items (map (λ script. script.items) start.texts.scripts.items)) }
+{
+    let Start { texts, frames } = start;
+    let Texts { schedule, scripts } = texts;
+    let mut core = Core::begin(alloc, frames, scripts)?;
+    core.replay(&schedule);
+    Ok(core)
+}
+
+// What all sessions answered. No session has so many replies that they can't be numbered: its script is too short.
+fn replies_of(alloc: Global, core: &Core) -> Result<Vec<&[Reply]>, NoMemory>
+    ensures told { IfOk result (λ all. AreAllTold core.now.run (items_of core.now.entries) (map (λ r. r.now) all.items)) }
+    ensures few { IfOk result (λ all. AreFew (map (λ r. r.now) all.items)) }
+{
+    let mut all = Vec::new(alloc);
+    for k in 0..core.sessions() {
+        let replies = core.replies(k + 1);
+        if replies.len() >= MANY {
+            return Err(NoMemory);
+        }
+        all.push(replies)?;
+    }
+    Ok(all)
+}
+
+fn is_short(item: &Record) -> bool
+    ensures { result ≡ ends_short item.now }
+{
+    matches!(item, Record::CheckEnd { outcome: 3, .. })
+}
+
+fn is_without_report(reply: &Reply) -> bool
+    ensures { result ≡ is_terminated reply.now }
+{
+    matches!(reply, Reply::Terminated(_))
+}
+
+fn is_with_errors(reply: &Reply) -> bool
+    ensures { result ≡ has_errors reply.now }
+{
+    match reply {
+        Reply::Report { report, .. } => !report.errors.is_empty(),
+        _ => false,
+    }
+}
+
+fn any_short(items: &[Record]) -> bool
+    ensures { result ≡ list_any ends_short items.now }
+{
+    items.iter().any(|item| is_short(item))
+}
+
+fn any_without_report(replies: &[Reply]) -> bool
+    ensures { result ≡ list_any is_terminated replies.now }
+{
+    replies.iter().any(|reply| is_without_report(reply))
+}
+
+fn any_with_errors(replies: &[Reply]) -> bool
+    ensures { result ≡ list_any has_errors replies.now }
+{
+    replies.iter().any(|reply| is_with_errors(reply))
+}
+
+fn one_without_report(replies: &[&[Reply]]) -> bool
+    ensures { result ≡ list_any (λ r. list_any is_terminated r.now) replies.now }
+{
+    replies.iter().any(|session| any_without_report(session))
+}
+
+fn some_without_report(replies: &[&[Reply]]) -> bool
+    ensures { result ≡ list_any (list_any is_terminated) (map (λ r. r.now) replies.now) }
+{
+    one_without_report(replies)
+}
+
+fn one_with_errors(replies: &[&[Reply]]) -> bool
+    ensures { result ≡ list_any (λ r. list_any has_errors r.now) replies.now }
+{
+    replies.iter().any(|session| any_with_errors(session))
+}
+
+fn some_with_errors(replies: &[&[Reply]]) -> bool
+    ensures { result ≡ list_any (list_any has_errors) (map (λ r. r.now) replies.now) }
+{
+    one_with_errors(replies)
+}
+
+// The status of a run that is closed.
+fn ended(items: &[Record], replies: &[&[Reply]]) -> Status
+    ensures { result ≡ ended_as items.now (map (λ r. r.now) replies.now) }
+{
+    if some_without_report(replies) {
+        return Status::NoReport;
+    }
+    if any_short(items) {
+        return Status::Memory;
+    }
+    if some_with_errors(replies) {
+        return Status::Errors;
+    }
+    Status::Clean
+}
+
+// Writes the replies of all sessions, in their order.
+fn write_replies<K: vol_dev::Sink>(replies: &[&[Reply]], out: &mut K) -> Result<(), DeviceFailed>
+    requires few { AreFew (map (λ r. r.now) replies.now) }
+    requires sessions { length replies.now < 2 ^ 32 }
+    ensures ok { OnOk result (K.contents out.new ≡ append_known (K.contents out.old) (text_of (map (λ r. r.now) replies.now))) }
+    ensures err { OnErr result (WroteFront (K.contents out.old) (K.contents out.new) (text_of (map (λ r. r.now) replies.now))) }
+    ensures fault { OnErr result (Rose (K.faults out.old) (K.faults out.new)) }
+    ensures faults { K.faults out.old ≤ K.faults out.new }
+{
+    for (k, session) in replies.iter().enumerate() {
+        write_session(k as u32 + 1, session, out)?;
+    }
+    Ok(())
+}
+
+// The status of a run whose items, pages and replies are written, or of the device that fails first.
+fn write_run<V: vol_dev::Volume, L: LogFile, K: vol_dev::Sink>(
+    close: &Close,
+    frames: &Frames,
+    replies: &[&[Reply]],
+    known: Status,
+    volume: &mut V,
+    log: &mut L,
+    out: &mut K,
+) -> Status
+    requires may { MayClose close.now frames.now (V.contents volume.old) }
+    requires few { AreFew (map (λ r. r.now) replies.now) }
+    requires sessions { length replies.now < 2 ^ 32 }
+    requires known { (d : AnyDevice) → ¬ IsDevice d known }
+    ensures written { Written close.now frames.now (map (λ r. r.now) replies.now) known (V.contents volume.old) (V.contents volume.new)
+        (L.contents log.old) (L.contents log.new) (K.contents out.old) (K.contents out.new) result }
+    ensures volume_fault { IsDevice Volume result → Rose (V.faults volume.old) (V.faults volume.new) }
+    ensures log_fault { IsDevice Log result → Rose (L.faults log.old) (L.faults log.new) }
+    ensures sink_fault { IsDevice Sink result → Rose (K.faults out.old) (K.faults out.new) }
+    ensures source_fault { ¬ IsDevice Source result }
+    ensures volume_faults { V.faults volume.old ≤ V.faults volume.new }
+    ensures log_faults { L.faults log.old ≤ L.faults log.new }
+    ensures sink_faults { K.faults out.old ≤ K.faults out.new }
+{
+    match close.write(frames, volume, log) {
+        Err(CloseStop::Log) => return Status::Device { which: Device::Log },
+        Err(CloseStop::Volume) => {
+            return Status::Device {
+                which: Device::Volume,
+            };
+        }
+        Ok(()) => {}
+    }
+    match write_replies(replies, out) {
+        Err(_) => Status::Device {
+            which: Device::Sink,
+        },
+        Ok(()) => known,
+    }
+}
+
+// Closes a run whose sessions are done. Where memory runs out, nothing was written.
+fn close_run<V: vol_dev::Volume, L: LogFile, K: vol_dev::Sink>(
+    alloc: Global,
+    core: &Core,
+    volume: &mut V,
+    log: &mut L,
+    out: &mut K,
+) -> Result<Status, NoMemory>
+    requires opened { core.now.run.opened ≡ [] }
+    requires few { length core.now.run.image ≤ 88 }
+    requires sessions { length core.now.run.scripts ≤ 16 }
+    requires file { IfSome (V.contents volume.old) (AreAllPages core.now.run.image) }
+    ensures closes { IfOk result (Closes core.now.run core.now.entries (V.contents volume.old) (V.contents volume.new)
+        (L.contents log.old) (L.contents log.new) (K.contents out.old) (K.contents out.new)) }
+    ensures legal { IfOk result (λ _. IsLegal core.now.run (items_of core.now.entries)) }
+    ensures volume { OnErr result (V.contents volume.new ≡ V.contents volume.old) }
+    ensures log { OnErr result (L.contents log.new ≡ L.contents log.old) }
+    ensures out { OnErr result (K.contents out.new ≡ K.contents out.old) }
+    ensures volume_fault { IfOk result (λ s. IsDevice Volume s → Rose (V.faults volume.old) (V.faults volume.new)) }
+    ensures log_fault { IfOk result (λ s. IsDevice Log s → Rose (L.faults log.old) (L.faults log.new)) }
+    ensures sink_fault { IfOk result (λ s. IsDevice Sink s → Rose (K.faults out.old) (K.faults out.new)) }
+    ensures source_fault { IfOk result (λ s. ¬ IsDevice Source s) }
+    ensures volume_faults { V.faults volume.old ≤ V.faults volume.new }
+    ensures log_faults { L.faults log.old ≤ L.faults log.new }
+    ensures sink_faults { K.faults out.old ≤ K.faults out.new }
+{
+    let replies = replies_of(alloc, core)?;
+    let items = core.items();
+    let close = Close::of(alloc, items, core.frames().count())?;
+    let known = ended(items, &replies);
+    Ok(write_run(&close, core.frames(), &replies, known, volume, log, out))
+}
+
+/// Runs scripts as sessions on one thread, in the turns of the schedule and then each session to its end,
+/// and closes the file and the log. The first source is the schedule.
+pub fn run<V: vol_dev::Volume, L: LogFile, S: vol_dev::Source, K: vol_dev::Sink>(
+    alloc: Global,
+    volume: &mut V,
+    log: &mut L,
+    sources: &mut [S],
+    out: &mut K,
+) -> Status
+    requires some { 0 < length sources.old }
+    requires few { length sources.old ≤ 17 }
+    ensures ends { Ends (map S.left sources.old) (V.contents volume.old) (V.contents volume.new)
+        (L.contents log.old) (L.contents log.new) (K.contents out.old) (K.contents out.new) result }
+    ensures volume_fault { IsDevice Volume result → Rose (V.faults volume.old) (V.faults volume.new) }
+    ensures log_fault { IsDevice Log result → Rose (L.faults log.old) (L.faults log.new) }
+    ensures sink_fault { IsDevice Sink result → Rose (K.faults out.old) (K.faults out.new) }
+    ensures source_fault { IsDevice Source result → OneRose (map S.faults sources.old) (map S.faults sources.new) }
+    ensures volume_faults { V.faults volume.old ≤ V.faults volume.new }
+    ensures log_faults { L.faults log.old ≤ L.faults log.new }
+    ensures sink_faults { K.faults out.old ≤ K.faults out.new }
+    ensures source_faults { NoneFell (map S.faults sources.old) (map S.faults sources.new) }
+{
+    let start = match start_run(alloc, volume, log, sources) {
+        Ok(start) => start,
+        Err(status) => return status,
+    };
+    let core = match replayed(alloc, start) {
+        Ok(core) => core,
+        Err(NoMemory) => return Status::Memory,
+    };
+    match close_run(alloc, &core, volume, log, out) {
+        Ok(status) => status,
+        Err(NoMemory) => Status::Memory,
+    }
+}

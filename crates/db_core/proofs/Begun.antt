@@ -1,6 +1,7 @@
 -- Sessions that have done nothing, runs one after another, and what contracts see of the core.
-use Rattle.std.proofs.Common.{◌≡◌, ℕ, zero, suc, ◌+◌, ◌-◌, ◌*◌, ◌<◌, ◌≤◌, true, List, [], ◌∷◌, ◌++◌, length, map, reverse, Some, None, inl, refl, sym, ap, ◌∙◌, subst, arith, vec_len, vec_capacity}
+use Rattle.std.proofs.Common.{◌≡◌, ℕ, zero, suc, ◌+◌, ◌-◌, ◌*◌, ◌<◌, ◌≤◌, true, false, List, [], ◌∷◌, ◌++◌, length, map, reverse, get_or, Some, None, inl, refl, sym, ap, ◌∙◌, subst, arith, vec_len, vec_capacity}
 use Rattle.std.specs.Prelude.{if◌then◌else◌, slice_get, sum_by}
+use Rattle.std.specs.List.{list_any}
 use Rattle.std.proofs.lemmas.Bool.{ne_eqb}
 use Rattle.std.proofs.lemmas.List.{reverse-append}
 use Rattle.std.proofs.lemmas.List.Sums.{sum_by-cons}
@@ -25,11 +26,12 @@ use Rattle.db_core.specs.declared.session.Session.{Session}
 use Rattle.db_core.specs.Rooms.{owed_by, pending_of, started_of, HasOwnRoom}
 use Rattle.db_core.specs.declared.state.State.{State}
 use Rattle.db_core.specs.declared.out.TurnOut.{TurnOut}
+use Rattle.db_core.specs.Reports.{is_terminated, none_terminated}
 use Rattle.db_core.specs.Runs.{AreNew, IsNew, setting_of, turns_of, rest_from}
 use Rattle.db_core.specs.Replays.{RunsSchedule, EndsSessions}
 use Rattle.db_core.specs.States.{Db, TurnIn, entries_of, run_of, IsAt, IsState}
 use Rattle.db_core.specs.Store.{run_is, log_of, db_of, AreProper, IsGood, IsTurn, SaysOut}
-use Rattle.db_core.proofs.Good.{items_entries}
+use Rattle.db_core.proofs.Good.{get_at, items_entries}
 
 -- one more session, for one more script
 pub new_more : {X : Type 0} (v : X → List Statement) (xs : List X) (x : X) (sessions : List Session) (y : Session) → AreNew (map v xs) sessions → IsNew (v x) y →
@@ -275,6 +277,19 @@ told_seen st db at s x view place good here =
     (subst (λ (r : Setting). AreTold r.geometry (told_to r s (log_of st)) x.replies.items) (ap (λ (d : Db). d.run) view)
     (subst (λ n. AreTold (run_is st).geometry (told_to (run_is st) n (log_of st)) x.replies.items) place (good.state.each at x here).told))
 
+-- and of no check without its report
+pub reported_seen : (st : State) (db : Db) (at s : ℕ) (x : Session) → db_of st ≡ db → at + 1 ≡ s → IsGood st → slice_get st.sessions.items at ≡ Some x →
+    list_any is_terminated x.replies.items ≡ false
+reported_seen st db at s x view place good here =
+    none_terminated db.run s (items_of db.entries) x.replies.items (ap (λ (d : Db). d.run.opened) (sym view)) (told_seen st db at s x view place good here)
+
+-- a session was told no more than its script has statements
+pub few_seen : (st : State) (at : ℕ) (x : Session) → IsGood st → slice_get st.sessions.items at ≡ Some x → length x.replies.items ≤ 65536
+few_seen st at x good here =
+    let room = good.each_room at x here in
+    let short = room.short in let busy = room.busy in
+    omega (arith, short, busy)
+
 pub legal_seen : (st : State) (db : Db) → db_of st ≡ db → IsGood st → IsLegal db.run (items_of db.entries)
 legal_seen st db view good =
     subst (IsLegal db.run) (log_seen st db view) (subst (λ r. IsLegal r (log_of st)) (ap (λ (d : Db). d.run) view) good.state.legal)
@@ -294,6 +309,13 @@ frames_seen st db view good =
 -- how many sessions contracts see
 pub count_seen : (st : State) (db : Db) → db_of st ≡ db → IsGood st → length st.sessions.items ≡ length db.run.scripts
 count_seen st db view good = good.state.few ∙ ap (λ (d : Db). length d.run.scripts) view
+
+-- session s of those that contracts see
+pub stands_seen : (st : State) (db : Db) (s : ℕ) (x : Session) → db_of st ≡ db → IsGood st → 0 < s → s ≤ length db.run.scripts →
+    x ≡ get_or st.sessions.items (s - 1) x → slice_get st.sessions.items (s - 1) ≡ Some x
+stands_seen st db s x view good above within is =
+    let count = count_seen st db view good in
+    get_at st.sessions.items (s - 1) x (omega (arith, count, above, within)) is
 
 -- what a replay makes of the history
 pub record IsReplayed (schedule : List (ℕ × ℕ)) (old new : Db) : Type 0 where

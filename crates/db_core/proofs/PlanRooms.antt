@@ -13,7 +13,8 @@ use Rattle.db_core.specs.declared.starts.Place.{Place}
 use Rattle.db_core.specs.Rooms.{pending_of, started_of, owed_by, HasOwnRoom}
 use Rattle.db_core.specs.States.{GoesOnWith, KeepsRoom}
 use Rattle.db_core.specs.Store.{is_snap}
-use Rattle.db_core.specs.Plans.{used_now, exceeds, HasRoomFor, IsEnded, Writes, announced_by, bytes_by}
+use Rattle.db_core.specs.Plans.{used_now, exceeds, HasRoomFor, Writes, announced_by, bytes_by}
+use Rattle.db_core.specs.Words.{IsEnded}
 use Rattle.db_core.proofs.RoomSteps.{changing_counts}
 
 length-more : {A : Type 0} (xs : List A) (y : A) → length (xs ++ y ∷ []) ≡ length xs + 1

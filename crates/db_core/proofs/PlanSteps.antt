@@ -28,7 +28,8 @@ use Rattle.law_run.specs.Legal.{legal_right, doing_opens}
 use Rattle.db_core.specs.declared.session.Session.{Session}
 use Rattle.db_core.specs.declared.starts.Place.{Place}
 use Rattle.db_core.specs.States.{whole_log, IsAt, IsOpen, IsSession, GoesOnWith}
-use Rattle.db_core.specs.Plans.{used_now, exceeds, IsEnded, IsWriting, Writes, announced_by, bytes_by}
+use Rattle.db_core.specs.Plans.{used_now, exceeds, IsWriting, Writes, announced_by, bytes_by}
+use Rattle.db_core.specs.Words.{IsEnded}
 use Rattle.db_core.proofs.Opens.{none_used, open_start, open_fresh}
 use Rattle.db_core.proofs.Records.{IsBegun, begun_comes, want_comes, begun_ends, begun_goes, begun_short}
 use Rattle.db_core.proofs.Stepped.{at_changing, some_changes, some_commit}

@@ -19,7 +19,8 @@ use Rattle.db_core.specs.declared.state.State.{State}
 use Rattle.db_core.specs.Rooms.{owed_by}
 use Rattle.db_core.specs.States.{whole_log, KeepsRoom}
 use Rattle.db_core.specs.Store.{run_is, log_of, is_snap, IsGood, IsSettled, Went}
-use Rattle.db_core.specs.Plans.{IsProper, IsEnded, IsPlanned, IsReady, BeginsAs, used_now, changes_in, takes_in, announced_by, bytes_by}
+use Rattle.db_core.specs.Plans.{IsProper, IsPlanned, IsReady, BeginsAs, used_now, changes_in, takes_in, announced_by, bytes_by}
+use Rattle.db_core.specs.Words.{IsEnded}
 use Rattle.db_core.proofs.Good.{part_of_sum, log_more, IsMid, IsStep, stepped_good, stepped_turn}
 use Rattle.db_core.proofs.Records.{IsBegun}
 use Rattle.db_core.proofs.PlanSteps.{HasBegun, ended_step, short_step, want_of, writing_of, writing_step, used_is, passes_is, all_more, bytes_more}

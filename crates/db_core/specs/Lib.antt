@@ -10,3 +10,4 @@ pub mod ViewLaws
 pub mod Checks
 pub mod Runs
 pub mod Replays
+pub mod Reports

@@ -1,11 +1,10 @@
 -- INSERT and COUNT begin, as they were planned.
-use Rattle.std.specs.Prelude.{◌≡◌, ◌≢◌, ℕ, ◌+◌, ◌*◌, ◌≤◌, ◌==◌, ◌&&◌, ◌||◌, not, nat_lt, Bool, true, false, if◌then◌else◌, List, [], ◌∷◌, ◌++◌, length, slice_get, slice_set, vec_len, vec_capacity, Some, Ok, Err, ◌⊎◌}
+use Rattle.std.specs.Prelude.{◌≡◌, ◌≢◌, ℕ, ◌+◌, ◌*◌, ◌≤◌, ◌==◌, ◌&&◌, ◌||◌, not, nat_lt, Bool, true, false, if◌then◌else◌, List, [], ◌++◌, length, slice_get, slice_set, vec_len, vec_capacity, Some, Ok, Err, ◌⊎◌}
 use Rattle.std.specs.declared.result.Result.{Result}
 use Rattle.spec_file.specs.declared.data.NoMemory.{NoMemory}
 use Rattle.spec_file.specs.declared.data.Resource.{Resource}
 use Rattle.spec_log.specs.declared.item.Record.{Record}
 use Rattle.spec_log.specs.declared.item.Record.TheVariants.{Start}
-use Rattle.spec_script.specs.declared.reply.Reply.{Reply}
 use Rattle.spec_script.specs.declared.reply.Reply.TheVariants.{Rows, Refused}
 use Rattle.spec_script.specs.declared.statement.Statement.{Statement}
 use Rattle.spec_plan.specs.declared.plan.Planned.{Planned}
@@ -13,7 +12,6 @@ use Rattle.spec_plan.specs.Planned.{planned_size}
 use Rattle.spec_plan.specs.Refusals.{plain_refusal}
 use Rattle.spec_plan.specs.Sight.{Outcome}
 use Rattle.law_plan.specs.Good.{HaveCells}
-use Rattle.spec_run.specs.Shapes.{plain_start}
 use Rattle.spec_run.specs.Begun.{Begun, begun, by_outcome}
 use Rattle.db_heap.specs.declared.plan.Plan.{Plan}
 use Rattle.db_heap.specs.declared.plan.Plan.TheVariants as plan
@@ -22,8 +20,9 @@ use Rattle.db_core.specs.declared.session.Doing.TheVariants.{Idle}
 use Rattle.db_core.specs.declared.session.Session.{Session}
 use Rattle.db_core.specs.declared.starts.Place.{Place}
 use Rattle.db_core.specs.declared.state.State.{State}
-use Rattle.db_core.specs.States.{whole_log, GoesOnWith, Keeps, KeepsRoom, IsSame}
+use Rattle.db_core.specs.States.{whole_log, GoesOnWith, KeepsRoom, IsSame}
 use Rattle.db_core.specs.Store.{run_is, log_of}
+use Rattle.db_core.specs.Words.{IsEnded}
 
 -- a plan's refusal isn't that of want of memory; it takes and changes little, and its cells have their form
 abbrev pub IsProper : Plan → Type 0
@@ -96,14 +95,6 @@ IsFreeIfPlanned st x (Err e) = Unit {0}
 pub record IsReady (st : State) (at : ℕ) (x : Session) (result : Result Plan NoMemory) : Type 0 where
   pub planned : IsPlanned st at x result
   pub free : IsFreeIfPlanned st x result
-
--- the statement ends with its Start, and its transaction stands as before
-pub record IsEnded (place : Place) (number : ℕ) (reply : Reply) (old new : Session) (x : Record) : Type 0 where
-  pub item : x ≡ plain_start place.session place.index old.tran number
-  pub kept : Keeps old new
-  pub left : new.left.items ≡ old.left.items
-  pub replies : new.replies.items ≡ old.replies.items ++ reply ∷ []
-  pub doing : new.doing ≡ Idle
 
 -- it writes, in transaction `tran`, of which this was left and held and announced before
 pub record IsWriting (place : Place) (tran : ℕ) (takes : List Resource) (changes : List Planned) (left : List ℕ) (held : List Resource) (used : ℕ) (own : Bool)

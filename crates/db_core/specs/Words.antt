@@ -1,6 +1,7 @@
 -- The records of statements that need no plan.
 use Rattle.std.specs.Prelude.{◌≡◌, ◌≢◌, ℕ, ◌+◌, [], ◌∷◌, ◌++◌, length, slice_get, None, Some, ◌⊎◌}
 use Rattle.spec_log.specs.declared.item.Record.{Record}
+use Rattle.spec_script.specs.declared.reply.Reply.{Reply}
 use Rattle.spec_script.specs.declared.reply.Reply.TheVariants.{Done, Refused}
 use Rattle.spec_script.specs.declared.statement.Statement.{Statement}
 use Rattle.spec_script.specs.declared.statement.Statement.TheVariants as statement
@@ -20,13 +21,17 @@ statement_of Begin = statement.Begin
 statement_of Commit = statement.Commit
 statement_of Rollback = statement.Rollback
 
--- the statement is refused
-pub record IsRefusal (place : Place) (number : ℕ) (old new : Session) (x : Record) : Type 0 where
+-- the statement ends with its Start, and its transaction stands as before
+pub record IsEnded (place : Place) (number : ℕ) (reply : Reply) (old new : Session) (x : Record) : Type 0 where
   pub item : x ≡ plain_start place.session place.index old.tran number
   pub kept : Keeps old new
   pub left : new.left.items ≡ old.left.items
-  pub replies : new.replies.items ≡ old.replies.items ++ Refused (plain_refusal number) ∷ []
+  pub replies : new.replies.items ≡ old.replies.items ++ reply ∷ []
   pub doing : new.doing ≡ Idle
+
+-- the statement is refused, by nothing that has a name
+abbrev pub IsRefusal : Place → ℕ → Session → Session → Record → Type 0
+IsRefusal place number old new x = IsEnded place number (Refused (plain_refusal number)) old new x
 
 -- it opens a transaction
 pub record IsOpening (place : Place) (tran : ℕ) (old new : Session) (x : Record) : Type 0 where

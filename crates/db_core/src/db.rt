@@ -1,5 +1,6 @@
 //! The core, as the crates above see it.
-ghost use Rattle.std.specs.Prelude.{◌≡◌, ◌+◌, ◌-◌, ◌<◌, ◌≤◌, ◌++◌, [], length, map, reverse, slice_get, Some, IfOk, List, ℕ, true};
+ghost use Rattle.std.specs.Prelude.{◌≡◌, ◌+◌, ◌-◌, ◌<◌, ◌≤◌, ◌++◌, [], length, map, reverse, slice_get, Some, IfOk, List, ℕ, true, false};
+ghost use Rattle.std.specs.List.{list_any};
 ghost use Rattle.spec_file.specs.declared.geometry.Geometry.TheVariants.{Small};
 ghost use Rattle.spec_log.specs.Cells.{HasWholePages};
 ghost use Rattle.spec_log.specs.Images.{final_image};
@@ -9,6 +10,7 @@ ghost use Rattle.spec_script.specs.declared.statement.Statement.{Statement as An
 ghost use Rattle.spec_run.specs.Entries.{items_of};
 ghost use Rattle.spec_run.specs.Turns.{AreTold, told_to, IsLegal, IsWhole, Run};
 ghost use Rattle.ck_facts.specs.Maps.{HasShape};
+ghost use Rattle.db_core.specs.Reports.{is_terminated};
 ghost use Rattle.db_core.specs.Runs.{rest_from, setting_of, turns_of};
 ghost use Rattle.db_core.specs.States.{TurnIn};
 ghost use Rattle.db_core.specs.Store.{SaysOut};
@@ -106,11 +108,14 @@ impl Core {
         self.state.sessions.len() as u32
     }
 
-    /// What the finished statements of a session answered, in order.
+    /// What the finished statements of a session answered, in order. No check is terminated, since the log
+    /// was empty when the sessions began, and all pages are in memory.
     pub fn replies(&self, session: u32) -> &[Reply]
         requires above { 0 < session }
         requires within { session ≤ length self.now.run.scripts }
-        ensures { AreTold self.now.run.geometry (told_to self.now.run session (items_of self.now.entries)) result.now }
+        ensures told { AreTold self.now.run.geometry (told_to self.now.run session (items_of self.now.entries)) result.now }
+        ensures few { length result.now ≤ 65536 }
+        ensures reported { list_any is_terminated result.now ≡ false }
     {
         &self.state.sessions[session as usize - 1].replies
     }

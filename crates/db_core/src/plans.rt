@@ -9,10 +9,11 @@ ghost use Rattle.db_core.specs.Rooms.{HasOwnRoom};
 ghost use Rattle.db_core.specs.States.{KeepsRoom, IsSame};
 ghost use Rattle.db_core.specs.Store.{IsGood, Went, run_is, log_of};
 ghost use Rattle.db_core.specs.Plans as spec;
-ghost use Rattle.db_core.specs.Plans.{BeginsAs, BeginsBy, HasRoomFor, IsEnded, IsPlanned, IsProper, IsReady, IsRoomier, IsWriting, Writes};
+ghost use Rattle.db_core.specs.Plans.{BeginsAs, BeginsBy, HasRoomFor, IsPlanned, IsProper, IsReady, IsRoomier, IsWriting, Writes};
+ghost use Rattle.db_core.specs.Words.{IsEnded};
 
 use crate::session::Session;
-use crate::starts::{Place, plain_start, refusal, refuse};
+use crate::starts::{Place, plain_start, refusal, refuse, refuse_by};
 use crate::state::{State, owed_by, settle};
 use crate::steps::{end, go_on};
 use crate::turns::place_of;
@@ -20,7 +21,7 @@ use db_heap::Plan;
 use spec_file::{NoMemory, Resource, Tran};
 use spec_log::{Record, Values};
 use spec_plan::Planned;
-use spec_script::{Refusal, Reply};
+use spec_script::Reply;
 use std::alloc::Global;
 
 /// The bytes that planned changes have in the log.
@@ -108,18 +109,6 @@ fn make_room(session: &mut Session, changes: usize, takes: usize) -> Result<(), 
     session.left.reserve(changes)?;
     session.held.reserve(takes)?;
     Ok(())
-}
-
-/// The statement is refused, with what refuses it.
-fn refuse_by(alloc: Global, session: &mut Session, place: Place, refusal: Refusal) -> Record
-    requires { vec_len session.old.replies < vec_capacity session.old.replies }
-    ensures ended { IsEnded place refusal.number (reply.Refused refusal) session.old session.new result }
-    ensures kept_room { KeepsRoom session.old session.new }
-{
-    let number = refusal.number;
-    let tran = session.tran;
-    end(session, Reply::Refused(refusal));
-    plain_start(alloc, place, tran, number)
 }
 
 /// COUNT answers so many rows.

@@ -5,7 +5,7 @@ ghost use Rattle.spec_script.specs.declared.reply.Reply.TheVariants.{Done, Refus
 ghost use Rattle.spec_plan.specs.Refusals.{plain_refusal};
 ghost use Rattle.db_core.specs.States.{Keeps, KeepsRoom};
 ghost use Rattle.db_core.specs.declared.session.Doing.TheVariants.{Idle, Ending, Undoing};
-ghost use Rattle.db_core.specs.Words.{StartsBy, IsNextWord, statement_of};
+ghost use Rattle.db_core.specs.Words.{StartsBy, IsEnded, IsRefusal, IsNextWord, statement_of};
 
 use crate::session::{Doing, Session};
 use crate::steps::end;
@@ -58,19 +58,25 @@ pub fn refusal(alloc: Global, number: u16) -> Refusal
     }
 }
 
-/// The statement is refused, and its transaction stands as before.
+/// The statement is refused, with what refuses it, and its transaction stands as before.
+pub fn refuse_by(alloc: Global, session: &mut Session, place: Place, refusal: Refusal) -> Record
+    requires { vec_len session.old.replies < vec_capacity session.old.replies }
+    ensures ended { IsEnded place refusal.number (Refused refusal) session.old session.new result }
+    ensures kept_room { KeepsRoom session.old session.new }
+{
+    let number = refusal.number;
+    let tran = session.tran;
+    end(session, Reply::Refused(refusal));
+    plain_start(alloc, place, tran, number)
+}
+
+/// The same by a refusal that names nothing.
 pub fn refuse(alloc: Global, session: &mut Session, place: Place, number: u16) -> Record
     requires { vec_len session.old.replies < vec_capacity session.old.replies }
-    ensures item { result ≡ start_of place.session place.index session.old.tran number }
-    ensures kept { Keeps session.old session.new }
+    ensures ended { IsRefusal place number session.old session.new result }
     ensures kept_room { KeepsRoom session.old session.new }
-    ensures left { session.new.left.items ≡ session.old.left.items }
-    ensures replies { session.new.replies.items ≡ session.old.replies.items ++ Refused (plain_refusal number) ∷ [] }
-    ensures doing { session.new.doing ≡ Idle }
 {
-    let tran = session.tran;
-    end(session, Reply::Refused(refusal(alloc, number)));
-    plain_start(alloc, place, tran, number)
+    refuse_by(alloc, session, place, refusal(alloc, number))
 }
 
 /// BEGIN: the session has this transaction open from here on.

@@ -3,7 +3,6 @@ mod FirstLines
 mod Fronts
 mod Names
 mod Numbers
-mod OneReading
 mod Printed
 mod Sentences
 mod Spelling

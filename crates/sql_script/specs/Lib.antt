@@ -1,3 +1,4 @@
 pub mod Reading
 pub mod Stops
 pub mod Laws
+pub mod OneReading

@@ -1,5 +1,6 @@
 -- What the close of a run writes.
-use Rattle.std.specs.Prelude.{◌≡◌, ℕ, ◌*◌, ◌^◌, ◌≤◌, List, [], length, reverse, Option, IfSome, Result, Ok, Err, ⊤}
+use Rattle.std.specs.Prelude.{◌≡◌, ℕ, ◌*◌, ◌^◌, ◌<◌, ◌≤◌, List, [], length, reverse, Option, IfSome, Result, Ok, Err, ⊤}
+use Rattle.std.specs.List.{list_any}
 use Rattle.std.specs.Option.{ForSome}
 use Rattle.std.specs.Io.KnownBytes.{append_known}
 use Rattle.pg_base.specs.Faults.{Rose}
@@ -8,16 +9,18 @@ use Rattle.spec_log.specs.declared.item.Record.{Record}
 use Rattle.spec_log.specs.Bytes.{log_bytes}
 use Rattle.spec_log.specs.Images.{final_image}
 use Rattle.vol_dev.specs.Devices.{WroteFront}
-use Rattle.vol_pool.specs.Writing.{Leaves, SameUnmarked, StopsWriting}
+use Rattle.vol_pool.specs.Changed.{changes_page}
+use Rattle.vol_pool.specs.Writing.{Leaves, SameUnmarked, StopsWriting, is_marked}
 use Rattle.run_close.specs.declared.close.Close.{Close}
 use Rattle.run_close.specs.declared.close.CloseStop.{CloseStop}
 use Rattle.run_close.specs.declared.close.CloseStop.TheVariants.{Log, Volume}
 
--- the close of a run with these items, the oldest first: the bytes of its log, and a mark for each page, without
--- which a page is as the run found it
+-- the close of a run with these items, the oldest first: the bytes of its log, and a mark for each page, where an
+-- item changes it; without one a page is as the run found it
 pub record IsCloseOf (items : List Record) (pages : ℕ) (close : Close) : Type 0 where
   pub bytes : (log : List Record) → reverse log ≡ items → close.bytes.items ≡ log_bytes log
   pub count : length close.changed.items ≡ pages
+  pub marks : (p : ℕ) → p < pages → is_marked close.changed.items p ≡ list_any (changes_page p) items
   pub stay : (image : Image) (log : List Record) → reverse log ≡ items → length (final_image [] log image) ≡ pages
       → SameUnmarked close.changed.items (final_image [] log image) image
 

@@ -7,5 +7,6 @@ pub returns : goal.returns
 returns c = record {
   bytes = λ log is. c.in_ok-bytes.ensures ∙ ap (flat_map item_bytes) (sym is) ∙ bytes_in_order log;
   count = c.in_ok-changed.ensures.count;
+  marks = c.in_ok-changed.ensures.marks;
   stay = c.in_ok-changed.ensures.stay;
 }

@@ -35,6 +35,10 @@ IsRefusedForRun w bytes =
     (file_fault bytes ≡ Some w)
     ⊎ ((w ≡ why.Later) × (file_fault bytes ≡ None) × ((g : Geometry) → IsReplayForm g (pages_of bytes) → ⊥))
 
+-- a file of whole pages that has the form which sessions over it need
+abbrev pub IsRunFile : List ℕ → Type 0
+IsRunFile bytes = IsTrue (size_passes (length bytes)) × IsReplayForm Small (pages_of bytes)
+
 -- what a stop says of the file, where that is told: no memory is wanted before the size has passed
 abbrev pub StopSays : Option (List ℕ) → ℕ → ℕ → FileStop → Type 0
 StopSays told before now (Refused w) = IfSome told (IsRefusedForRun w)

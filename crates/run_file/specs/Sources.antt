@@ -1,6 +1,6 @@
 -- Sources that are read to their ends, and what their texts say.
 use Rattle.std.specs.List.{list_all}
-use Rattle.std.specs.Prelude.{All, IsTrue, ◌≡◌, ℕ, zero, suc, ◌-◌, ◌≤◌, ◌<◌, List, [], ◌∷◌, ◌++◌, length, take, drop, slice_index, slice_index_or, Option, None, IfSome, Result, Ok, Err, ⊤}
+use Rattle.std.specs.Prelude.{All, IsTrue, ◌≡◌, ℕ, zero, suc, ◌-◌, ◌≤◌, ◌<◌, List, [], ◌∷◌, ◌++◌, length, take, drop, slice_index, slice_index_or, Option, Some, None, IfSome, Result, Ok, Err, ⊤}
 use Rattle.std.specs.Io.KnownBytes.{prepend_known}
 use Rattle.pg_base.specs.Faults.{Rose}
 use Rattle.spec_script.specs.declared.statement.Statement.{Statement}
@@ -51,6 +51,12 @@ OneRose before now = (k : ℕ) × (k < length before) × Rose (slice_index befor
 -- source k, counted from 0, is left with these bytes
 abbrev pub left_at : List (Option (List ℕ)) → ℕ → Option (List ℕ)
 left_at lefts k = slice_index_or lefts k None
+
+-- each of these sources tells what it is left with
+abbrev pub AreKnown : List (Option (List ℕ)) → Type 0
+AreKnown [] = Unit {0}
+AreKnown (None ∷ lefts) = ⊥
+AreKnown (Some bytes ∷ lefts) = AreKnown lefts
 
 -- a fault names this source
 abbrev pub FaultAt : {X T : Type 0} → ℕ → (List ℕ → X → Type 0) → Option (List ℕ) → ℕ → ℕ → Result T SourcesStop → Type 0

@@ -1,18 +1,17 @@
 -- What the close of a run wrote, said of its history.
-use Rattle.std.proofs.Common.{◌≡◌, ℕ, ◌+◌, ◌*◌, ◌≤◌, Bool, true, false, ◌||◌, List, [], ◌∷◌, ◌++◌, length, reverse, Option, Some, None, IfSome, option_map, refl, sym, ap, ◌∙◌, subst, arith, if◌then◌else◌}
+use Rattle.std.proofs.Common.{◌≡◌, ℕ, ◌*◌, ◌≤◌, Bool, true, false, List, [], length, reverse, Option, Some, None, IfSome, option_map, refl, sym, ap, ◌∙◌, subst, arith, if◌then◌else◌}
 use Rattle.std.specs.Io.KnownBytes.{append_known}
 use Rattle.vol_dev.specs.Devices.{WroteFront}
 use Rattle.std.specs.List.{list_any}
 use Rattle.std.proofs.lemmas.List.{reverse-reverse}
-use Rattle.std.proofs.lemmas.List.Folds.{list_any-append}
-use Rattle.std.proofs.lemmas.Grind.{reverse_onto}
-use Rattle.spec_file.specs.Image.{Image, page_size, pages_of}
+use Rattle.spec_file.specs.Image.{Image, page_size}
 use Rattle.spec_file.specs.ImageLaws.{bytes_of}
 use Rattle.spec_log.specs.declared.item.Record.{Record}
 use Rattle.spec_log.specs.Images.{final_image}
 use Rattle.spec_script.specs.declared.reply.Reply.{Reply}
 use Rattle.spec_run.specs.Begun.{Setting}
 use Rattle.spec_run.specs.Entries.{Entry, items_of}
+use Rattle.vol_pool.specs.Changed.{changes_page}
 use Rattle.vol_pool.specs.Writing.{Leaves, SameUnmarked, written_bytes}
 use Rattle.run_file.specs.Opening.{AreAllPages}
 use Rattle.run_close.specs.declared.close.Close.{Close}
@@ -22,20 +21,9 @@ use Rattle.checkdb_top.specs.declared.status.Device.{Device}
 use Rattle.checkdb_top.specs.declared.status.Status.{Status}
 use Rattle.checkdb_top.specs.declared.status.Status.TheVariants as status
 use Rattle.checkdb_top.specs.Answers.{IsDevice}
-use Rattle.checkdb_top.specs.Runs.{ends_short, is_terminated, has_errors, ended_as, AreAllTold, last_of, Closes, Whole, AtSink, AtVolume, AtLog}
+use Rattle.db_core.specs.Reports.{is_terminated, any_reverse}
+use Rattle.checkdb_top.specs.Runs.{ends_short, has_errors, ended_as, AreAllTold, last_of, MarkChanged, Closes, Whole, AtSink, AtVolume, AtLog}
 use Rattle.checkdb_top.specs.Readiness.{Written, IsAll, NoOutput, NoFile, NoLog}
-
-or_swap : (a b : Bool) → (a || (b || false)) ≡ (b || a)
-or_swap true true = refl
-or_swap true false = refl
-or_swap false true = refl
-or_swap false false = refl
-
-any_reverse : (p : Record → Bool) (xs : List Record) → list_any p (reverse xs) ≡ list_any p xs
-any_reverse p [] = refl
-any_reverse p (x ∷ xs) =
-    ap (list_any p) (reverse_onto xs x []) ∙ list_any-append p (reverse xs) (x ∷ [])
-    ∙ ap (λ b. b || (p x || false)) (any_reverse p xs) ∙ or_swap (list_any p xs) (p x)
 
 -- the order of the items doesn't matter
 same_end : (items log : List Record) (replies : List (List Reply)) → reverse log ≡ items → ended_as items replies ≡ ended_as log replies
@@ -65,6 +53,11 @@ stays run entries items close opened is of =
     subst (λ o. SameUnmarked close.changed.items (final_image o (items_of entries) run.image) run.image) (sym opened)
     (of.stay run.image (items_of entries) is (length_final (items_of entries) run.image))
 
+marked : (items log : List Record) (pages : ℕ) (close : Close) → reverse log ≡ items → IsCloseOf items pages close
+    → MarkChanged close.changed.items pages log
+marked items log pages close is of p inside =
+    of.marks p inside ∙ ap (list_any (changes_page p)) (sym is) ∙ any_reverse (changes_page p) log
+
 pub closed : (run : Setting) (entries : List Entry) (items : List Record) (close : Close) (replies : List (List Reply)) (known : Status)
     (file file_now log log_now out out_now : Option (List ℕ)) (s : Status) → run.opened ≡ [] → reverse (items_of entries) ≡ items
     → IsCloseOf items (length run.image) close → IfSome file (AreAllPages run.image) → AreAllTold run (items_of entries) replies
@@ -77,7 +70,7 @@ closed run entries items close replies known file file_now log log_now out out_n
     AtSink replies told a (b ∙ ap (append_known log) (of.bytes (items_of entries) is))
     (whole_file (last_of run entries) file file_now (told_size run entries file opened pages) c) d
 closed run entries items close replies known file file_now log log_now out out_now s opened is of pages told knows (NoFile a b c d) =
-    AtVolume close.changed.items (stays run entries items close opened is of) a (b ∙ ap (append_known log) (of.bytes (items_of entries) is)) c d
+    AtVolume close.changed.items (marked items (items_of entries) (length run.image) close is of) (stays run entries items close opened is of) a (b ∙ ap (append_known log) (of.bytes (items_of entries) is)) c d
 closed run entries items close replies known file file_now log log_now out out_now s opened is of pages told knows (NoLog a b c d) =
     AtLog a (subst (WroteFront log log_now) (of.bytes (items_of entries) is) b) c d
 

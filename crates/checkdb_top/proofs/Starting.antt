@@ -1,5 +1,5 @@
 -- A device that a run names, as it begins.
-use Rattle.std.proofs.Common.{◌≡◌, ℕ, List, Option}
+use Rattle.std.proofs.Common.{ℕ, List, Option}
 use Rattle.pg_base.specs.Faults.{Rose}
 use Rattle.run_file.specs.Sources.{OneRose}
 use Rattle.checkdb_top.specs.declared.status.Device.TheVariants as device

@@ -1,7 +1,7 @@
 -- How a run of sessions ends (this project's own).
-use Rattle.std.specs.Prelude.{◌≡◌, ◌≢◌, ℕ, ◌+◌, ◌==◌, Bool, true, false, not, if◌then◌else◌, IsTrue, List, [], ◌∷◌, ◌++◌, length, slice_get, Option, Some, IfSome, option_map}
+use Rattle.std.specs.Prelude.{◌≡◌, ℕ, ◌+◌, ◌<◌, ◌==◌, Bool, true, false, if◌then◌else◌, IsTrue, All, List, [], ◌∷◌, ◌++◌, length, slice_get, Option, Some, IfSome, option_map}
 use Rattle.std.specs.List.{list_any, list_all}
-use Rattle.std.specs.Io.KnownBytes.{append_known}
+use Rattle.std.specs.Io.KnownBytes.{append_known, IsAtEnd}
 use Rattle.spec_file.specs.declared.geometry.Geometry.TheVariants.{Small}
 use Rattle.spec_file.specs.Image.{Image}
 use Rattle.spec_file.specs.ImageLaws.{bytes_of}
@@ -12,16 +12,18 @@ use Rattle.spec_log.specs.Images.{final_image}
 use Rattle.spec_check.specs.declared.report.CheckError.{CheckError}
 use Rattle.spec_script.specs.declared.statement.Statement.{Statement}
 use Rattle.spec_script.specs.declared.reply.Reply.{Reply}
-use Rattle.spec_script.specs.declared.reply.Reply.TheVariants.{Report, Terminated}
+use Rattle.spec_script.specs.declared.reply.Reply.TheVariants.{Report}
 use Rattle.spec_script.specs.Lines.{is_statement}
 use Rattle.spec_script.specs.Replies.{text_of}
 use Rattle.spec_plan.specs.ReplayForm.{IsReplayForm}
 use Rattle.spec_run.specs.Begun.{Setting}
 use Rattle.spec_run.specs.Entries.{Entry, items_of}
 use Rattle.spec_run.specs.Turns.{AreTold, told_to, IsLegal, IsWhole, Run}
+use Rattle.db_core.specs.Reports.{is_terminated}
 use Rattle.db_core.specs.Runs.{rest_from, setting_of, turns_of}
 use Rattle.vol_dev.specs.Devices.{WroteFront}
-use Rattle.vol_pool.specs.Writing.{StopsWriting, SameUnmarked}
+use Rattle.vol_pool.specs.Changed.{changes_page}
+use Rattle.vol_pool.specs.Writing.{StopsWriting, SameUnmarked, is_marked}
 use Rattle.run_file.specs.Sources.{AreTexts}
 use Rattle.run_file.specs.Opening.{AreAllPages}
 use Rattle.checkdb_top.specs.Start.{IsEmptyLog, StopsStart}
@@ -33,11 +35,6 @@ use Rattle.checkdb_top.specs.declared.status.Status.TheVariants as status
 abbrev pub ends_short : Record → Bool
 ends_short (CheckEnd session index outcome) = outcome == 3
 ends_short other = false
-
--- a check ended without its report
-abbrev pub is_terminated : Reply → Bool
-is_terminated (Terminated cause) = true
-is_terminated other = false
 
 abbrev pub is_some_error : List CheckError → Bool
 is_some_error [] = false
@@ -84,6 +81,10 @@ pub record IsRunOf (lefts : List (Option (List ℕ))) (file log : Option (List �
 abbrev pub last_of : Setting → List Entry → Image
 last_of run entries = final_image run.opened (items_of entries) run.image
 
+-- of so many pages those are marked that an item changes, and no other
+abbrev pub MarkChanged : List Bool → ℕ → List Record → Type 0
+MarkChanged changed pages log = (p : ℕ) → p < pages → is_marked changed p ≡ list_any (changes_page p) log
+
 -- the close writes the items behind the log, then the pages, and then the text of the replies
 pub data Closes (run : Setting) (entries : List Entry) (file file_now log log_now out out_now : Option (List ℕ)) (s : Status) : Type 0 where
   -- all is written
@@ -95,16 +96,17 @@ pub data Closes (run : Setting) (entries : List Entry) (file file_now log log_no
       → log_now ≡ append_known log (log_bytes (items_of entries)) → file_now ≡ option_map (λ _. bytes_of (last_of run entries)) file
       → WroteFront out out_now (text_of replies) → Closes run entries file file_now log log_now out out_now s
   -- the file failed at one of its changed pages, before which all are written
-  AtVolume : (changed : List Bool) → SameUnmarked changed (last_of run entries) run.image → s ≡ status.Device device.Volume
+  AtVolume : (changed : List Bool) → MarkChanged changed (length run.image) (items_of entries)
+      → SameUnmarked changed (last_of run entries) run.image → s ≡ status.Device device.Volume
       → log_now ≡ append_known log (log_bytes (items_of entries)) → StopsWriting changed (last_of run entries) file file_now
       → out_now ≡ out → Closes run entries file file_now log log_now out out_now s
   -- the log failed: it has a front of the items' bytes
   AtLog : s ≡ status.Device device.Log → WroteFront log log_now (log_bytes (items_of entries)) → file_now ≡ file
       → out_now ≡ out → Closes run entries file file_now log log_now out out_now s
 
--- a run ends: it doesn't begin, or want of memory ends it before its close, and then nothing is written; or it is
--- closed
-pub data Ends (lefts : List (Option (List ℕ))) (file file_now log log_now out out_now : Option (List ℕ)) (s : Status) : Type 0 where
-  Stops : StopsStart lefts file log s → file_now ≡ file → log_now ≡ log → out_now ≡ out → Ends lefts file file_now log log_now out out_now s
-  Runs : (run : Setting) (entries : List Entry) → IsRunOf lefts file log run entries
-      → Closes run entries file file_now log log_now out out_now s → Ends lefts file file_now log log_now out out_now s
+-- a run ends: it doesn't begin, or want of memory ends it before its close, and then nothing is written; or its
+-- sources are read to their ends, and it is closed
+pub data Ends (lefts lefts_now : List (Option (List ℕ))) (file file_now log log_now out out_now : Option (List ℕ)) (s : Status) : Type 0 where
+  Stops : StopsStart lefts file log s → file_now ≡ file → log_now ≡ log → out_now ≡ out → Ends lefts lefts_now file file_now log log_now out out_now s
+  Runs : (run : Setting) (entries : List Entry) → IsRunOf lefts file log run entries → All IsAtEnd lefts_now
+      → Closes run entries file file_now log log_now out out_now s → Ends lefts lefts_now file file_now log log_now out out_now s

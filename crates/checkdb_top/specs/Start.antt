@@ -1,9 +1,6 @@
 -- What a run begins with, and why it doesn't begin.
 use Rattle.std.specs.Prelude.{◌≡◌, ◌≢◌, ℕ, ◌<◌, ◌≤◌, List, [], length, Option, IfSome, ⊤}
 use Rattle.pg_base.specs.Faults.{Rose}
-use Rattle.spec_file.specs.declared.geometry.Geometry.TheVariants.{Small}
-use Rattle.spec_file.specs.Image.{pages_of}
-use Rattle.spec_plan.specs.ReplayForm.{IsReplayForm}
 use Rattle.spec_script.specs.declared.statement.Statement.{Statement}
 use Rattle.run_file.specs.declared.stop.SourcesStop.{SourcesStop}
 use Rattle.run_file.specs.declared.stop.SourcesStop.TheVariants as sources
@@ -15,7 +12,7 @@ use Rattle.checkdb_top.specs.declared.status.Device.TheVariants as device
 use Rattle.checkdb_top.specs.declared.status.Status.{Status}
 use Rattle.checkdb_top.specs.declared.status.Status.TheVariants as status
 use Rattle.run_file.specs.Sources.{AreTexts, IsFirstOf, OneRose}
-use Rattle.run_file.specs.Opening.{IsRefusedForRun}
+use Rattle.run_file.specs.Opening.{IsRefusedForRun, IsRunFile}
 use Rattle.run_file.specs.Log.{longest_log}
 
 abbrev pub sources_start : SourcesStop → Status
@@ -43,7 +40,7 @@ HaveTexts lefts = (turns : List (ℕ × ℕ)) × (scripts : List (List Statement
 
 -- a told file has the form that sessions need
 abbrev pub HasForm : Option (List ℕ) → Type 0
-HasForm told = IfSome told (λ bytes. IsReplayForm Small (pages_of bytes))
+HasForm told = IfSome told IsRunFile
 
 -- what the status of a run that doesn't begin says of the sources, the file and the log: the first source that is
 -- wrong; else why the file is refused; else why the log isn't taken

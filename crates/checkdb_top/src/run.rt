@@ -1,5 +1,5 @@
 // A run of sessions on one thread, from its sources to the text of its replies.
-ghost use Rattle.std.specs.Prelude.{◌≡◌, ◌+◌, ◌-◌, ◌<◌, ◌≤◌, ◌^◌, [], All, length, map, reverse, IfOk, IfErr, IfSome, OnOk, OnErr, IsTrue, List, ℕ, ◌++◌};
+ghost use Rattle.std.specs.Prelude.{◌≡◌, ◌+◌, ◌-◌, ◌<◌, ◌≤◌, ◌^◌, [], All, length, map, reverse, IfOk, IfErr, IfSome, OnOk, OnErr, IsTrue, List, ℕ, ◌++◌, false};
 ghost use Rattle.std.specs.List.{list_any};
 ghost use Rattle.std.specs.Io.KnownBytes.{append_known};
 ghost use Rattle.pg_base.specs.Faults.{Rose};
@@ -12,7 +12,8 @@ ghost use Rattle.run_file.specs.Opening.{AreAllPages};
 ghost use Rattle.spec_plan.specs.ReplayForm.{IsReplayForm};
 ghost use Rattle.spec_file.specs.declared.geometry.Geometry.TheVariants.{Small};
 ghost use Rattle.checkdb_top.specs.Answers.{IsDevice};
-ghost use Rattle.checkdb_top.specs.Runs.{ends_short, is_terminated, has_errors, ended_as, AreAllTold, Closes, Ends};
+ghost use Rattle.checkdb_top.specs.Runs.{ends_short, has_errors, ended_as, AreAllTold, Closes, Ends};
+ghost use Rattle.db_core.specs.Reports.{is_terminated};
 ghost use Rattle.checkdb_top.specs.Readiness.{IsOver, MayBegin, AreFew, Written};
 ghost use Rattle.run_close.specs.Close.{MayClose};
 ghost use Rattle.checkdb_top.specs.declared.status.Device.{Device as AnyDevice};
@@ -30,8 +31,6 @@ use std::alloc::Global;
 use vol_dev::{DeviceFailed, LogFile};
 use vol_pool::Frames;
 
-const MANY: usize = 4_294_967_296;
-
 // The sessions after the turns of the schedule and all others.
 fn replayed(alloc: Global, start: Start) -> Result<Core, NoMemory>
     requires { MayBegin start }
@@ -44,18 +43,14 @@ fn replayed(alloc: Global, start: Start) -> Result<Core, NoMemory>
     Ok(core)
 }
 
-// What all sessions answered. No session has so many replies that they can't be numbered: its script is too short.
+// What all sessions answered.
 fn replies_of(alloc: Global, core: &Core) -> Result<Vec<&[Reply]>, NoMemory>
     ensures told { IfOk result (λ all. AreAllTold core.now.run (items_of core.now.entries) (map (λ r. r.now) all.items)) }
     ensures few { IfOk result (λ all. AreFew (map (λ r. r.now) all.items)) }
 {
     let mut all = Vec::new(alloc);
     for k in 0..core.sessions() {
-        let replies = core.replies(k + 1);
-        if replies.len() >= MANY {
-            return Err(NoMemory);
-        }
-        all.push(replies)?;
+        all.push(core.replies(k + 1))?;
     }
     Ok(all)
 }
@@ -64,12 +59,6 @@ fn is_short(item: &Record) -> bool
     ensures { result ≡ ends_short item.now }
 {
     matches!(item, Record::CheckEnd { outcome: 3, .. })
-}
-
-fn is_without_report(reply: &Reply) -> bool
-    ensures { result ≡ is_terminated reply.now }
-{
-    matches!(reply, Reply::Terminated(_))
 }
 
 fn is_with_errors(reply: &Reply) -> bool
@@ -87,28 +76,10 @@ fn any_short(items: &[Record]) -> bool
     items.iter().any(|item| is_short(item))
 }
 
-fn any_without_report(replies: &[Reply]) -> bool
-    ensures { result ≡ list_any is_terminated replies.now }
-{
-    replies.iter().any(|reply| is_without_report(reply))
-}
-
 fn any_with_errors(replies: &[Reply]) -> bool
     ensures { result ≡ list_any has_errors replies.now }
 {
     replies.iter().any(|reply| is_with_errors(reply))
-}
-
-fn one_without_report(replies: &[&[Reply]]) -> bool
-    ensures { result ≡ list_any (λ r. list_any is_terminated r.now) replies.now }
-{
-    replies.iter().any(|session| any_without_report(session))
-}
-
-fn some_without_report(replies: &[&[Reply]]) -> bool
-    ensures { result ≡ list_any (list_any is_terminated) (map (λ r. r.now) replies.now) }
-{
-    one_without_report(replies)
 }
 
 fn one_with_errors(replies: &[&[Reply]]) -> bool
@@ -125,11 +96,9 @@ fn some_with_errors(replies: &[&[Reply]]) -> bool
 
 // The status of a run that is closed.
 fn ended(items: &[Record], replies: &[&[Reply]]) -> Status
+    requires { list_any (list_any is_terminated) (map (λ r. r.now) replies.now) ≡ false }
     ensures { result ≡ ended_as items.now (map (λ r. r.now) replies.now) }
 {
-    if some_without_report(replies) {
-        return Status::NoReport;
-    }
     if any_short(items) {
         return Status::Memory;
     }
@@ -239,7 +208,7 @@ pub fn run<V: vol_dev::Volume, L: LogFile, S: vol_dev::Source, K: vol_dev::Sink>
 ) -> Status
     requires some { 0 < length sources.old }
     requires few { length sources.old ≤ 17 }
-    ensures ends { Ends (map S.left sources.old) (V.contents volume.old) (V.contents volume.new)
+    ensures ends { Ends (map S.left sources.old) (map S.left sources.new) (V.contents volume.old) (V.contents volume.new)
         (L.contents log.old) (L.contents log.new) (K.contents out.old) (K.contents out.new) result }
     ensures volume_fault { IsDevice Volume result → Rose (V.faults volume.old) (V.faults volume.new) }
     ensures log_fault { IsDevice Log result → Rose (L.faults log.old) (L.faults log.new) }

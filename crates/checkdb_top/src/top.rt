@@ -2,11 +2,12 @@ ghost use Rattle.std.specs.Prelude.{◌≡◌, ◌<◌, ◌≤◌, ◌↔◌, le
 ghost use Rattle.pg_base.specs.Faults.{Rose};
 ghost use Rattle.app_words.specs.Words.{first_wrong, Asks};
 ghost use Rattle.app_words.specs.declared.command.Command.TheVariants.{Check, Replay};
-ghost use Rattle.run_file.specs.Sources.{NoneFell, OneRose};
+ghost use Rattle.run_file.specs.Sources.{AreKnown, NoneFell, OneRose};
 ghost use Rattle.checkdb_top.specs.Runs.{Ends};
 ghost use Rattle.checkdb_top.specs.Answers.{Answers, IsDevice, IsWordsAt};
-ghost use Rattle.checkdb_top.specs.Completeness.{Completes};
+ghost use Rattle.checkdb_top.specs.Completeness.{Completes, CompletesRun};
 ghost use Rattle.checkdb_top.specs.declared.status.Device.TheVariants.{Volume, Sink};
+ghost use Rattle.checkdb_top.specs.declared.status.Status.TheVariants.{NoReport};
 
 use crate::check::{Checked, check};
 use crate::gate::Gate;
@@ -54,8 +55,8 @@ pub fn plain_top<V: vol_dev::Volume, L: LogFile, S: Source, K: vol_dev::Sink, G:
     ensures sources { Asks Check words.now → sources.new ≡ sources.old }
 
     // How a run ends.
-    ensures ends { Asks Replay words.now → Ends (map S.left sources.old.items) (V.contents volume) (V.contents result.volume)
-        (L.contents log) (L.contents result.log) (K.contents out.old) (K.contents out.new) result.status }
+    ensures ends { Asks Replay words.now → Ends (map S.left sources.old.items) (map S.left sources.new.items)
+        (V.contents volume) (V.contents result.volume) (L.contents log) (L.contents result.log) (K.contents out.old) (K.contents out.new) result.status }
 
     // A device is named only where its count of faults rose, also where it tells nothing; a check
     // never names log and sources.
@@ -73,6 +74,18 @@ pub fn plain_top<V: vol_dev::Volume, L: LogFile, S: Source, K: vol_dev::Sink, G:
     ensures complete { Asks Check words.now → IfSome (V.contents volume) (λ bytes.
         ¬ Rose (V.faults volume) (V.faults result.volume) → ¬ Rose (K.faults out.old) (K.faults out.new) →
         Completes bytes result.status) }
+
+    // Where a run is asked for, all that it reads is told and no device fails, the sources, the file and
+    // the log fix the status, but for want of memory.
+    ensures complete_run { Asks Replay words.now → AreKnown (map S.left sources.old.items) →
+        IfSome (V.contents volume) (λ bytes. IfSome (L.contents log) (λ items.
+        ¬ Rose (V.faults volume) (V.faults result.volume) → ¬ Rose (L.faults log) (L.faults result.log) →
+        ¬ Rose (K.faults out.old) (K.faults out.new) →
+        ¬ OneRose (map S.faults sources.old.items) (map S.faults sources.new.items) →
+        CompletesRun (map S.left sources.old.items) bytes items result.status)) }
+
+    // No check of a run ends without its report but for want of memory: the log is empty when it begins.
+    ensures no_terminated { Asks Replay words.now → ¬ (result.status ≡ NoReport) }
 {
     match read_words(words) {
         Err(stop) => Outcome {

@@ -1,6 +1,7 @@
-use Rattle.std.proofs.Common.{length, map, sym, ap, ◌∙◌}
+use Rattle.std.proofs.Common.{map}
 use Rattle.spec_run.specs.Entries.{items_of}
-use Rattle.checkdb_top.proofs.Closings.{closed, close_of, items_order, may_write, no_device}
+use Rattle.checkdb_top.proofs.RunCompleteness.{none_without}
+use Rattle.checkdb_top.proofs.Closings.{closed, close_of, items_order, may_write}
 use Rattle.checkdb_top.proofs.run.close_run.Goals as goal
 
 pub write_run-requires-clause-may : goal.write_run-requires-clause-may
@@ -19,3 +20,8 @@ returns-clause-closes g c =
     closed core.run core.entries c.items-items.result.now c.in_ok-close.close (map (λ r. r.now) c.in_ok-replies.replies.items) c.ended-known.result _ _ _ _ _ _ c.write_run.result
     c.requires.opened order of c.requires.file c.in_ok-replies.ensures.told (rw (c.deref.ensures.value) at c.ended-known.ensures)
     (rw (c.frames-2.ensures, c.deref-2.ensures.value) at c.write_run.ensures.written)
+
+pub ended-known-requires : goal.ended-known-requires
+ended-known-requires g c =
+    let core = c.args.core.now in
+    rw (c.deref.ensures.value) (none_without core.run (items_of core.entries) (map (λ r. r.now) c.in_ok-replies.replies.items) c.requires.opened c.in_ok-replies.ensures.told)

@@ -1,4 +1,4 @@
-use Rattle.std.proofs.Common.{length, subst, sym, ap, ◌∙◌, map, ◌≤◌}
+use Rattle.std.proofs.Common.{length, subst, sym, ap, ◌∙◌, ◌≤◌}
 use Rattle.std.specs.List.{list_all}
 use Rattle.std.proofs.lemmas.List.{length-map}
 use Rattle.spec_script.specs.Lines.{is_statement}

@@ -1,5 +1,5 @@
 use Rattle.checkdb_top.proofs.Starting.{volume_rose, log_rose, source_rose, no_sink}
-use Rattle.std.proofs.Common.{length, map, sym, ◌∙◌}
+use Rattle.std.proofs.Common.{length, map}
 use Rattle.checkdb_top.specs.Runs.{Runs}
 use Rattle.checkdb_top.proofs.Begun.{may_begin, is_run}
 use Rattle.checkdb_top.proofs.run.run.Goals as goal
@@ -28,5 +28,5 @@ returns-in-Ok-close_run-clause-ends g c =
     let ready = c.in-Ok.ensures in
     Runs core.run core.entries
     (is_run (map g.S.Source.left c.args.sources.now) (g.V.Volume.contents c.args.volume.now) (g.L.LogFile.contents c.args.log.now) start core
-    c.in-Ok-replayed.ensures ready.texts ready.form ready.pages ready.empty c.in-Ok-close_run.ensures.legal)
+    c.in-Ok-replayed.ensures ready.texts ready.form ready.pages ready.empty c.in-Ok-close_run.ensures.legal) ready.ends
     (rw (ready.volume, ready.log) at c.in-Ok-close_run.ensures.closes)

@@ -5,7 +5,7 @@ use sqlite_items::Items;
 /// One error of a check. Fields that its number doesn't use are 0. Errors are ordered by their fields
 /// in this order (numbers are chosen after those of DBCC CHECKDB; what each means is this project's
 /// own).
-#[derive(Clone, Copy, Debug, PartialEq, Eq, PartialOrd, Ord)]
+#[derive(Clone, Copy, Debug, Default, PartialEq, Eq, PartialOrd, Ord)]
 pub struct CheckError {
     pub number: u32,
     pub object: u32,

@@ -1,0 +1,6 @@
+pub mod Known
+pub mod Parents
+pub mod ParentRules
+pub mod NeighbourRules
+pub mod Trees
+pub mod AgreeLaws

@@ -1,7 +1,6 @@
 -- The maps that a check keeps, and what they say of an image.
-use Rattle.std.specs.Prelude.{◌≡◌, ◌↔◌, ℕ, ◌/◌, ◌%◌, ◌<◌, ◌≤◌, ◌==◌, Bool, IsTrue, List, [], length, map, slice_index, slice_get, Some, Contains}
+use Rattle.std.specs.Prelude.{◌≡◌, ◌↔◌, ℕ, ◌/◌, ◌%◌, ◌≤◌, ◌==◌, Bool, IsTrue, List, map, slice_index, slice_get, Some, Contains}
 use Rattle.std.specs.Int.{bit_at}
-use Rattle.std.specs.List.{range_with_len}
 use Rattle.std.specs.List.Sorted.{IsStrictlySortedBy}
 use Rattle.std.specs.Ordering.{nat_cmp, on, then_cmp}
 use Rattle.std.specs.declared.cmp.Ordering.{Ordering}
@@ -11,11 +10,7 @@ use Rattle.spec_file.specs.Places.{page_limit, is_free, is_mixed}
 use Rattle.spec_file.specs.CatalogRows.{CatalogRow}
 use Rattle.spec_chain.specs.Chains.{IsObject}
 use Rattle.spec_chain.specs.Marks.{IsMarked}
-use Rattle.spec_chain.specs.Uses.{Use, IsUse, pfs_byte}
-use Rattle.spec_check.specs.declared.report.CheckError.{CheckError}
-use Rattle.spec_check.specs.Errors.{Lists}
-use Rattle.spec_check.specs.System.{IsSystemError}
-use Rattle.spec_check.specs.Chains.{IsChainError}
+use Rattle.spec_chain.specs.Uses.{Use, IsUse}
 use Rattle.db_cat.specs.declared.rows.CatRow.{CatRow}
 use Rattle.db_cat.specs.Rows.{row_of}
 use Rattle.ck_facts.specs.declared.map.PageUse.{PageUse}

@@ -1,0 +1,7 @@
+pub mod Orders
+pub mod PageErrors
+pub mod Filtering
+pub mod OwnerLists
+pub mod OwnerLaws
+pub mod Between
+pub mod Members

@@ -1,0 +1,53 @@
+-- Which pages objects own, as the maps tell it.
+use Rattle.std.specs.Prelude.{◌≡◌, ℕ, ◌/◌, ◌==◌, ◌&&◌, ◌||◌, Bool, false, nat_lt, List, [], map, filter, replicate, slice_index, slice_index_or}
+use Rattle.std.specs.List.{list_any, range_with_len}
+use Rattle.std.specs.Int.{bit_at}
+use Rattle.db_cat.specs.declared.rows.CatRow.{CatRow}
+use Rattle.ck_facts.specs.declared.map.AllocMap.{AllocMap}
+use Rattle.ck_facts.specs.declared.map.ExtentMap.{ExtentMap}
+use Rattle.ck_facts.specs.declared.map.PageUse.{PageUse}
+use Rattle.ck_facts.specs.declared.owners.OwnedPage.{OwnedPage}
+use Rattle.ck_facts.specs.Maps.{has_mark}
+
+-- what stands for the map of an extent past the file's end
+abbrev pub no_extent : ExtentMap
+no_extent = record { free = false; mixed = false; marks = replicate 16 0 }
+
+abbrev pub extent_at : AllocMap → ℕ → ExtentMap
+extent_at m e = slice_index_or m.extents.items e no_extent
+
+-- a PFS byte says that its page is allocated
+abbrev pub has_allocated_bit : ℕ → Bool
+has_allocated_bit byte = bit_at byte 6 == 1
+
+-- the i-th object marks the extent of page p, and the page is allocated
+abbrev pub is_marked : AllocMap → ℕ → ℕ → Bool
+is_marked m i p = has_mark (extent_at m (p / 8)) i && has_allocated_bit (slice_index m.pfs.items p)
+
+-- the use is that of a single-page slot of the object
+abbrev pub is_single : ℕ → PageUse → Bool
+is_single id u = (u.object == id) && nat_lt u.place 8
+
+-- one of the uses is that of a single-page slot of the object
+abbrev pub is_held : ℕ → List PageUse → Bool
+is_held id uses = list_any (is_single id) uses
+
+-- the ids of the objects
+abbrev pub ids_of : List CatRow → List ℕ
+ids_of objects = map (λ row. row.id.0) objects
+
+-- the i-th object owns page p, which has these uses
+abbrev pub is_owned_by : AllocMap → List PageUse → ℕ → ℕ → Bool
+is_owned_by m uses p i = is_marked m i p || is_held (slice_index (ids_of m.objects.items) i) uses
+
+abbrev pub owned_at : ℕ → ℕ → OwnedPage
+owned_at p i = record { page = record { 0 = p }; owner = i }
+
+-- page p, which has these uses, with each of the first n objects that owns it
+abbrev pub owners_of : AllocMap → List PageUse → ℕ → ℕ → List OwnedPage
+owners_of m uses p n = filter (λ u. is_owned_by m uses p u.owner) (map (owned_at p) (range_with_len 0 n))
+
+-- an extent whose pages nobody uses, and that nobody marks
+pub record IsUnowned (m : AllocMap) (e : ℕ) (uses : List PageUse) : Type 0 where
+  pub unused : uses ≡ []
+  pub unmarked : (i : ℕ) → has_mark (extent_at m e) i ≡ false

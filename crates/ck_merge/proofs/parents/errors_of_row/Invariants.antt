@@ -1,0 +1,9 @@
+use Rattle.std.proofs.Common.{take}
+use Rattle.ck_error.specs.Gathered.{Adds, Each}
+use Rattle.ck_merge.specs.Filing.{known_in}
+use Rattle.ck_merge.specs.ParentErrors.{IsRowErrorOf}
+use Rattle.ck_merge.proofs.parents.errors_of_row.Given as goal
+
+abbrev pub invariant-loop-s : goal.invariant-loop-s
+invariant-loop-s l =
+    Adds l.initial.errors.items l.errors.items (Each (take l.s-index l.children) (IsRowErrorOf (known_in l.roots l.u) l.c))

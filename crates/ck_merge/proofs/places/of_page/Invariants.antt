@@ -1,0 +1,7 @@
+use Rattle.std.proofs.Common.{take}
+use Rattle.ck_error.specs.Gathered.{Adds, Each}
+use Rattle.ck_merge.specs.Shown.{LacksPlaceIn}
+use Rattle.ck_merge.proofs.places.of_page.Given as goal
+
+abbrev pub invariant-loop-t : goal.invariant-loop-t
+invariant-loop-t l = Adds l.initial.errors.items l.errors.items (Each (take l.t-index l.roots) (LacksPlaceIn l.u.rows.items l.u.links.items l.s))

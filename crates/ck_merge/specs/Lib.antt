@@ -1,0 +1,6 @@
+pub mod Filing
+pub mod Runs
+pub mod Shown
+pub mod ParentErrors
+pub mod Buckets
+pub mod Held

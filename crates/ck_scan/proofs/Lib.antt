@@ -1,6 +1,10 @@
 pub mod Members
-pub mod Singles
 pub mod Counting
-pub mod Owning
+pub mod OwnerLaws
+pub mod CountLaws
+pub mod FoundLaws
+pub mod PageLaws
+pub mod StartLaws
+pub mod KnownLaws
 pub mod TableLaws
 pub mod Reports

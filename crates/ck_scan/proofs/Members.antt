@@ -1,6 +1,8 @@
 -- Members of lists that a map or a filter makes, and lists in strict order.
-use Rattle.std.proofs.Common.{◌≡◌, ◌⊎◌, Bool, true, false, List, [], ◌∷◌, Contains, map, filter, cond, arith, sym, subst, ap, ◌∙◌, refl, inl, inr, ⊎_elim, Ordering}
+use Rattle.std.proofs.Common.{◌≡◌, ◌⊎◌, ℕ, ◌+◌, ◌<◌, Bool, true, false, List, [], ◌∷◌, Contains, map, filter, cond, arith, sym, subst, ap, ◌∙◌, refl, inl, inr, ⊎_elim, Ordering}
+use Rattle.std.specs.List.{range_with_len}
 use Rattle.std.specs.List.Sorted.{IsStrictlySortedBy}
+use Rattle.std.proofs.lemmas.List.FromFn.{length-range_with_len, get_or-range_with_len}
 use Rattle.std.specs.declared.cmp.Ordering.TheVariants.{Less}
 use Rattle.std.proofs.lemmas.List.Elements.{All-from_recursion, All-contains, Contains-push_cases, Contains-push, Contains-append_left, Contains-append_right, Contains-append_cases}
 
@@ -54,3 +56,15 @@ filter_in p (z ∷ zs) x h passes = in_step (p z) p z zs x refl passes
 pub below : {K : Type 0} (R : K → K → Ordering) (x : K) (xs : List K) (z : K) → IsStrictlySortedBy R (x ∷ xs) → Contains xs z → R x z ≡ Less
 unfolding IsStrictlySortedBy
 below R x xs z s h = All-contains (λ y. R x y ≡ Less) xs z (All-from_recursion (λ y. R x y ≡ Less) xs s.0) h
+
+pub rest_sorted : {K : Type 0} (R : K → K → Ordering) (x : K) (xs : List K) → IsStrictlySortedBy R (x ∷ xs) → IsStrictlySortedBy R xs
+unfolding IsStrictlySortedBy
+rest_sorted R x xs s = s.1
+
+pub range_from : (n i : ℕ) → Contains (range_with_len 0 n) i → i < n
+range_from n i h =
+    let inside : h.0 < n = omega (arith, h.1, length-range_with_len 0 n) in
+    let is : i ≡ 0 + h.0 = sym h.2 ∙ get_or-range_with_len 0 n h.0 i inside in omega arith
+
+pub range_in : (n i : ℕ) → i < n → Contains (range_with_len 0 n) i
+range_in n i h = (i, omega (arith, length-range_with_len 0 n), get_or-range_with_len 0 n i i h ∙ omega arith)

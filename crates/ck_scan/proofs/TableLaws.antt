@@ -1,55 +1,40 @@
 -- Lines that stand for the objects of an image are its table lines.
-use Rattle.std.proofs.Common.{◌≡◌, ℕ, ◌+◌, ◌<◌, List, [], ◌∷◌, ◌++◌, Contains, take, length, arith, sym, subst, ap, ◌∙◌, ⊎_elim, Some}
+use Rattle.std.proofs.Common.{◌≡◌, ℕ, suc, List, [], ◌∷◌, Contains, map, sym, subst, refl, ⊎_elim, Some}
 use Rattle.std.specs.Prelude.{slice_get}
 use Rattle.std.specs.Ordering.{nat_cmp, on}
 use Rattle.std.specs.List.{AllByRecursion}
 use Rattle.std.specs.List.Sorted.{IsStrictlySortedBy}
 use Rattle.std.specs.declared.cmp.Ordering.TheVariants.{Less}
-use Rattle.std.proofs.lemmas.List.{take_more, length-map}
-use Rattle.std.proofs.Math.Seq.{take-length}
-use Rattle.std.proofs.lemmas.Option.{get_or_from_slice_get, slice_get_cases}
 use Rattle.spec_file.specs.declared.geometry.Geometry.{Geometry}
 use Rattle.spec_file.specs.Image.{Image}
 use Rattle.spec_file.specs.CatalogRows.{CatalogRow}
 use Rattle.spec_check.specs.declared.report.TableLine.{TableLine}
 use Rattle.spec_tables.specs.Lines.{IsLineOf, AreTables}
+use Rattle.ck_facts.specs.declared.map.AllocMap.{AllocMap}
+use Rattle.ck_facts.specs.MapOf.{IsMapOf}
 use Rattle.ck_facts.specs.Maps.{AreObjects, rows_of_objects}
-use Rattle.db_cat.specs.declared.rows.CatRow.{CatRow}
-use Rattle.db_cat.specs.Rows.{row_of}
-use Rattle.ck_scan.specs.Lines.{AreLines, AddsLine}
+use Rattle.ck_scan.specs.Counted.{AreCounts}
+use Rattle.ck_scan.specs.Lines.{AreLines}
 use Rattle.ck_scan.proofs.Members.{nothing_there, cons_cases, cons_here, cons_there}
+use Rattle.ck_scan.proofs.OwnerLaws.{Owned, owned_there}
 
-lines_push : (g : Geometry) (image : Image) (rows : List CatalogRow) (lines : List TableLine) (row : CatalogRow) (line : TableLine)
-    → AreLines g image rows lines → IsLineOf g image row line → AreLines g image (rows ++ row ∷ []) (lines ++ line ∷ [])
-lines_push g image [] [] row line h is = (is, tt)
-lines_push g image [] (t ∷ ts) row line h is = absurd h
-lines_push g image (r ∷ rs) [] row line h is = absurd h
-lines_push g image (r ∷ rs) (t ∷ ts) row line h is = (h.0, lines_push g image rs ts row line h.1 is)
+-- lines that name the rows' objects one for one, each that of the row at its place
+lines_from : (g : Geometry) (image : Image) (rows : List CatalogRow) (lines : List TableLine)
+    → map (λ (line : TableLine). line.object) lines ≡ map (λ (row : CatalogRow). row.id) rows
+    → ((i : ℕ) (row : CatalogRow) (line : TableLine) → slice_get rows i ≡ Some row → slice_get lines i ≡ Some line → line.object ≡ row.id → IsLineOf g image row line)
+    → AreLines g image rows lines
+lines_from g image [] [] ids each = tt
+lines_from g image [] (t ∷ ts) ids each = absurd (cc)
+lines_from g image (r ∷ rs) [] ids each = absurd (cc)
+lines_from g image (r ∷ rs) (t ∷ ts) ids each =
+    let first : t.object ≡ r.id = head_same t.object r.id _ _ ids in
+    let rest : map (λ (line : TableLine). line.object) ts ≡ map (λ (row : CatalogRow). row.id) rs = tail_same t.object r.id _ _ ids in
+    (each 0 r t refl refl first, lines_from g image rs ts rest (λ i row line at here. each (suc i) row line at here)) where
+      head_same : (a b : ℕ) (xs ys : List ℕ) → a ∷ xs ≡ b ∷ ys → a ≡ b
+      head_same a b xs ys h = cc
 
-pub lines_more : (g : Geometry) (image : Image) (rows : List CatalogRow) (old now : List TableLine) (i : ℕ) (row : CatalogRow)
-    → i < length rows → slice_get rows i ≡ Some row → AreLines g image (take i rows) old → AddsLine g image row old now
-    → AreLines g image (take (i + 1) rows) now
-lines_more g image rows old now i row below at h adds =
-    let front : take (i + 1) rows ≡ take i rows ++ row ∷ [] =
-    take_more rows i row below ∙ ap (λ r. take i rows ++ r ∷ []) (get_or_from_slice_get rows i row row at) in
-    subst (λ l. AreLines g image l now) (sym front) (subst (λ l. AreLines g image (take i rows ++ row ∷ []) l) (sym adds.2)
-    (lines_push g image (take i rows) old row adds.0 h adds.1))
-
-pub lines_next : (g : Geometry) (image : Image) (objects : List CatRow) (old now : List TableLine) (i : ℕ) → i < length objects
-    → AreLines g image (take i (rows_of_objects objects)) old
-    → ((row : CatalogRow) → slice_get (rows_of_objects objects) i ≡ Some row → AddsLine g image row old now)
-    → AreLines g image (take (i + 1) (rows_of_objects objects)) now
-lines_next g image objects old now i below h adds =
-    let rows = rows_of_objects objects in
-    let long : length rows ≡ length objects = length-map objects row_of in
-    let inside : i < length rows = omega (arith, long, below) in
-    ⊎_elim (λ r. lines_more g image rows old now i r.0 inside r.2 h (adds r.0 r.2))
-    (λ past. let out = past.0 in absurd (omega (arith, inside, out))) (slice_get_cases rows i).1
-
-pub all_rows : (objects : List CatRow) (i : ℕ) → i ≡ length objects → take i (rows_of_objects objects) ≡ rows_of_objects objects
-all_rows objects i end =
-    let rows = rows_of_objects objects in
-    ap (λ k. take k rows) (end ∙ sym (length-map objects row_of)) ∙ take-length rows
+      tail_same : (a b : ℕ) (xs ys : List ℕ) → a ∷ xs ≡ b ∷ ys → xs ≡ ys
+      tail_same a b xs ys h = cc
 
 all_lines : (g : Geometry) (image : Image) (x : CatalogRow) (line : TableLine) (rows : List CatalogRow) (lines : List TableLine)
     → line.object ≡ x.id → AllByRecursion (λ r. on (λ (w : CatalogRow). w.id) nat_cmp x r ≡ Less) rows → AreLines g image rows lines
@@ -94,3 +79,21 @@ tables_of g image rows lines objects l = record {
   sound = λ line c. let f = line_from g image rows lines line l c in (f.0, (objects.same f.0).0 f.1, f.2);
   complete = λ row object. line_in g image rows lines row l ((objects.same row).1 object);
 }
+
+-- where all pages that objects own are met
+pub tables_found : (image : Image) (m : AllocMap) (lines : List TableLine) → IsMapOf image m → m.system.items ≡ []
+    → AreCounts image m (Owned image m) lines → AreTables m.geometry image lines
+tables_found image m lines of sound counts = tables_of m.geometry image (rows_of_objects m.objects.items) lines (of.whole sound).objects
+    (lines_from m.geometry image (rows_of_objects m.objects.items) lines counts.ids (λ i row line at here is.
+    let count = counts.each i row line at here in
+    record {
+      object = is;
+      seen = count.taken;
+      are_seen = record {
+        sorted = count.sorted;
+        sound = λ p c. (count.sound p c).1;
+        complete = λ p seen. count.complete p (owned_there image m i p row of.pages at seen.allocated, seen);
+      };
+      pages = count.pages;
+      rows = count.rows;
+    }))

@@ -1,28 +1,50 @@
--- What one page adds to the line of an object.
-use Rattle.std.specs.Prelude.{◌≡◌, ◌⊎◌, ℕ, ◌+◌, ◌*◌, ◌≤◌, IsTrue, List, Option, Some, None}
-use Rattle.spec_rows.specs.PageTest.{PassesTest}
-use Rattle.spec_tables.specs.Seen.{rows_on}
+-- How lines count pages and their rows.
+use Rattle.std.specs.Prelude.{◌≡◌, ℕ, ◌+◌, ◌^◌, ◌<◌, List, length, map, Contains, Some, slice_get, slice_set}
+use Rattle.std.specs.List.{sum_by}
+use Rattle.std.specs.List.Sorted.{IsStrictlySortedBy}
+use Rattle.std.specs.Ordering.{nat_cmp}
+use Rattle.spec_file.specs.Image.{Image, page}
+use Rattle.spec_file.specs.CatalogRows.{CatalogRow}
+use Rattle.spec_check.specs.declared.report.TableLine.{TableLine}
+use Rattle.spec_tables.specs.Seen.{IsSeen, rows_on}
 use Rattle.ck_facts.specs.declared.map.AllocMap.{AllocMap}
-use Rattle.ck_scan.specs.declared.owned.Owner.{Owner}
-use Rattle.ck_scan.specs.declared.tally.Tally.{Tally}
-use Rattle.ck_scan.specs.Owned.{is_owned}
+use Rattle.ck_facts.specs.declared.owners.OwnedPage.{OwnedPage}
+use Rattle.ck_facts.specs.Maps.{rows_of_objects}
+use Rattle.ck_facts.specs.Owners.{IsObjectAt}
 
--- page p passes its test exactly where its rows are told
-abbrev pub IsTested : Owner → ℕ → List ℕ → Option ℕ → Type 0
-IsTested owner p bytes (Some rows) = PassesTest p owner.id.0 owner.kind bytes × (rows ≡ rows_on bytes)
-IsTested owner p bytes None = PassesTest p owner.id.0 owner.kind bytes → ⊥
+-- there is a rising list of exactly the pages that are taken; the line has its length and its rows
+pub record IsCountOf (Taken : ℕ → Type 0) (rows_of : ℕ → ℕ) (line : TableLine) : Type 0 where
+  pub taken : List ℕ
+  pub sorted : IsStrictlySortedBy nat_cmp taken
+  pub sound : (p : ℕ) → Contains taken p → Taken p
+  pub complete : (p : ℕ) → Taken p → Contains taken p
+  pub pages : line.pages ≡ length taken
+  pub rows : line.rows ≡ sum_by rows_of taken
 
--- the object owns page p, and these bytes of it pass the test
-abbrev pub IsTaken : AllocMap → Owner → ℕ → List ℕ → Type 0
-IsTaken m owner p bytes = IsTrue (is_owned m owner p) × PassesTest p owner.id.0 owner.kind bytes
+-- the line has one page more, with so many rows, where its counts have room for them
+pub record IsOneMore (old new : TableLine) (n : ℕ) : Type 0 where
+  pub object : new.object ≡ old.object
+  pub pages : old.pages + 1 < 2 ^ 64 → new.pages ≡ old.pages + 1
+  pub rows : old.rows + n < 2 ^ 64 → new.rows ≡ old.rows + n
 
--- the page is counted with its rows where it is taken, and nowhere else
-abbrev pub IsCounted : AllocMap → Owner → ℕ → List ℕ → Tally → Tally → Type 0
-IsCounted m owner p bytes old now =
-    (IsTaken m owner p bytes × (now.pages ≡ old.pages + 1) × (now.rows ≡ old.rows + rows_on bytes))
-    ⊎ ((IsTaken m owner p bytes → ⊥) × (now ≡ old))
+-- the line at place i counts a page with so many rows, and the others stay
+pub record CountsPage (old new : List TableLine) (i rows : ℕ) : Type 0 where
+  pub before : TableLine
+  pub after : TableLine
+  pub at : slice_get old i ≡ Some before
+  pub more : IsOneMore before after rows
+  pub is : new ≡ slice_set old i after
 
--- so much was counted on p pages at most
-pub record Fits (p : ℕ) (tally : Tally) : Type 0 where
-  pub pages : tally.pages ≤ p
-  pub rows : tally.rows ≤ 65535 * p
+-- page p, owned by the i-th object
+abbrev pub owned_by : ℕ → ℕ → OwnedPage
+owned_by i p = record { page = record { 0 = p }; owner = i }
+
+-- the i-th object's pages that are met and seen
+abbrev pub IsMetOf : Image → AllocMap → (OwnedPage → Type 0) → ℕ → CatalogRow → ℕ → Type 0
+IsMetOf image m Met i row p = Met (owned_by i p) × IsSeen m.geometry image row p
+
+-- each object's line, at its place, counts its pages that are met and seen
+pub record AreCounts (image : Image) (m : AllocMap) (Met : OwnedPage → Type 0) (lines : List TableLine) : Type 0 where
+  pub ids : map (λ line. line.object) lines ≡ map (λ row. row.id) (rows_of_objects m.objects.items)
+  pub each : (i : ℕ) (row : CatalogRow) (line : TableLine) → IsObjectAt m i row → slice_get lines i ≡ Some line
+      → IsCountOf (IsMetOf image m Met i row) (λ p. rows_on (page image p)) line

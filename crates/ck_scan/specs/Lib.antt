@@ -1,4 +1,5 @@
-pub mod Owned
+pub mod Shown
 pub mod Counted
-pub mod Tallies
+pub mod Found
+pub mod Frames
 pub mod Lines

@@ -1,14 +1,17 @@
-//! The check of a still file by one reader: its allocation errors, and a line for each object that
-//! counts its pages and rows.
+//! The check of a still file by one reader: the errors of its maps, pages and trees, and a line for each
+//! object that counts its pages and rows.
 #![tactic(auto)]
 
-mod lines;
-mod owned;
-mod page;
+mod findings;
+mod frame;
+mod pages;
 mod scan;
-mod tally;
 
 pub use scan::scan_one;
 
+#[cfg(test)]
+mod file_tests;
+#[cfg(test)]
+mod made;
 #[cfg(test)]
 mod tests;

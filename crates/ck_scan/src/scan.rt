@@ -1,13 +1,23 @@
 // The check of a still file.
-ghost use Rattle.std.specs.Prelude.{◌≡◌, ◌≤◌, [], IfOk, IfSome, IsTrue};
+ghost use Rattle.std.specs.Prelude.{◌≡◌, ◌↔◌, ◌≤◌, ◌/◌, ◌⊎◌, [], IfOk, OnOk, IfSome, IsTrue, Contains};
 ghost use Rattle.std.specs.Option.{ForSome};
+ghost use Rattle.spec_file.specs.Image.{Image};
+ghost use Rattle.spec_check.specs.Allocation.{IsAllocationError};
+ghost use Rattle.spec_check.specs.declared.report.CheckError.{CheckError};
+ghost use Rattle.spec_check.specs.Errors.{Lists};
 ghost use Rattle.pg_base.specs.Reading.{StopHasCause};
+ghost use Rattle.ck_error.specs.Gathered.{Below, Gathers};
 ghost use Rattle.ck_facts.specs.MapOf.{IsMapOf};
+ghost use Rattle.ck_facts.specs.Owners.{IsOwnerIn};
+ghost use Rattle.ck_merge.specs.Held.{roots_in, roots_of};
 ghost use Rattle.spec_tables.specs.Written.{IsCheckOf};
+ghost use Rattle.ck_scan.specs.Found.{AreFound};
 ghost use Rattle.ck_scan.specs.Lines.{IsReportOfRules};
 
-use crate::lines::lines_of;
+use crate::findings::Findings;
+use crate::pages::find_all;
 use ck_alloc::alloc_errors;
+use ck_error::{CheckError, in_order};
 use ck_facts::{AllocMap, CheckReport};
 use pg_base::{NoMemory, ReadStop, SnapReader};
 use sqlite_items::Items;
@@ -24,7 +34,33 @@ fn system_report(alloc: Global, map: &AllocMap) -> Result<CheckReport, NoMemory>
     })
 }
 
-// The report of a file without system errors: the errors of its maps, and the lines of its objects.
+// The errors of both lists.
+fn joined(first: Vec<CheckError>, second: &[CheckError]) -> Result<Vec<CheckError>, NoMemory>
+    ensures { IfOk result (λ both. (x : CheckError) → Contains both.items x ↔ (Contains first.items x ⊎ Contains second.now x)) }
+{
+    let mut both = first;
+    both.extend_from_slice(second)?;
+    Ok(both)
+}
+
+// The report of a file without system errors, of whose pages all is found.
+fn report_of(alloc: Global, map: &AllocMap, found: Findings) -> Result<CheckReport, NoMemory>
+    requires sound { map.now.system.items ≡ [] }
+    requires roots { roots_in found.parts ≡ roots_of map.now.objects.items }
+    ensures report { IfOk result (λ report. (image : Image) → IsMapOf image map.now
+        → AreFound image map.now (Below (map.now.pages / 8) (IsOwnerIn image map.now)) found → IsReportOfRules map.now.geometry image report) }
+{
+    let of_pages = joined(alloc_errors(alloc, map)?, &found.errors)?;
+    let of_trees = found.parts.finish()?;
+    let errors = joined(of_pages, &of_trees)?;
+    Ok(CheckReport {
+        errors: Items::from_vec(in_order(errors)),
+        tables: Items::from_vec(found.lines),
+    })
+}
+
+// The report of a file without system errors: the errors of its maps, pages and trees, and the lines of its
+// objects.
 fn rules_report<R: SnapReader>(
     alloc: Global,
     reader: &mut R,
@@ -41,12 +77,8 @@ fn rules_report<R: SnapReader>(
     ensures image { R.image reader.new ≡ R.image reader.old }
     ensures bound { R.bound reader.new ≡ R.bound reader.old }
 {
-    let errors = alloc_errors(alloc, map)?;
-    let tables = lines_of(alloc, reader, map)?;
-    Ok(CheckReport {
-        errors: Items::from_vec(errors),
-        tables: Items::from_vec(tables),
-    })
+    let found = find_all(alloc, reader, map)?;
+    Ok(report_of(alloc, map, found)?)
 }
 
 /// The check of a still file by its maps and one reader: the report is the written check of the reader's

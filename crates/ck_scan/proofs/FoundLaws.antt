@@ -1,0 +1,140 @@
+-- What was found, when one page more is met.
+use Rattle.std.proofs.Common.{◌≡◌, ◌⊎◌, ℕ, zero, suc, ◌+◌, ◌/◌, ◌<◌, List, [], ◌∷◌, ◌++◌, Contains, length, map, take, get_or, arith, sym, subst, ap, ◌∙◌, refl, inl, inr, ⊎_elim, Ordering}
+use Rattle.std.specs.Ordering.{nat_cmp, ordering_then}
+use Rattle.std.specs.List.Sorted.{IsStrictlySortedBy}
+use Rattle.std.specs.declared.cmp.Ordering.TheVariants.{Less, Equal, Greater}
+use Rattle.std.proofs.lemmas.List.{take_more}
+use Rattle.std.proofs.lemmas.List.Elements.{Contains-get_or, Contains-append_left, Contains-append_right, Contains-append_cases, Contains-push, Contains-push_cases}
+use Rattle.spec_file.specs.Image.{Image}
+use Rattle.spec_check.specs.declared.report.CheckError.{CheckError}
+use Rattle.ck_error.specs.Gathered.{Gathers, Adds, Below}
+use Rattle.ck_error.specs.GatheringLaws.{gathers_as, gathers_more}
+use Rattle.ck_facts.specs.declared.facts.Fact.{Fact}
+use Rattle.ck_facts.specs.declared.map.AllocMap.{AllocMap}
+use Rattle.ck_facts.specs.declared.owners.OwnedPage.{OwnedPage}
+use Rattle.ck_facts.specs.Owners.{IsOwnerIn, AreOwnersIn, owned_cmp}
+use Rattle.ck_scan.specs.declared.findings.Findings.{Findings}
+use Rattle.ck_scan.specs.Shown.{IsErrorAt, IsFactAt, Among, And}
+use Rattle.ck_scan.specs.Found.{AreFound, AddsPage, IsBehind}
+use Rattle.ck_scan.proofs.Members.{nothing_there, cons_cases, below, rest_sorted}
+use Rattle.ck_scan.proofs.Counting.{less_from}
+use Rattle.ck_scan.proofs.CountLaws.{counts_more, counts_as}
+
+among_more : {Z : Type 0} (Met : OwnedPage → Type 0) (u : OwnedPage) (Shows : OwnedPage → Z → Type 0) (x : Z)
+    → Among Met Shows x ⊎ Shows u x → Among (And Met u) Shows x
+among_more {Z} Met u Shows x h = ⊎_elim (λ was. (was.0, inl was.1, was.2)) (λ now. (u, inr refl, now)) h
+
+among_less : {Z : Type 0} (Met : OwnedPage → Type 0) (u : OwnedPage) (Shows : OwnedPage → Z → Type 0) (x : Z)
+    → Among (And Met u) Shows x → Among Met Shows x ⊎ Shows u x
+among_less {Z} Met u Shows x h = ⊎_elim (λ was. inl (h.0, was, h.2)) (λ e. inr (subst (λ v. Shows v x) (sym e) h.2)) h.1
+
+among_as : {Z : Type 0} (Met Other : OwnedPage → Type 0) (Shows : OwnedPage → Z → Type 0) (xs : List Z) → ((v : OwnedPage) → Met v → Other v)
+    → ((v : OwnedPage) → Other v → Met v) → Gathers xs (Among Met Shows) → Gathers xs (Among Other Shows)
+among_as {Z} Met Other Shows xs there back h = gathers_as xs (Among Met Shows) (Among Other Shows)
+    (λ x s. (s.0, there s.0 s.1, s.2)) (λ x s. (s.0, back s.0 s.1, s.2)) h
+
+errors_more : (image : Image) (m : AllocMap) (Met : OwnedPage → Type 0) (u : OwnedPage) (old new : List CheckError)
+    → Gathers old (Among Met (IsErrorAt image m)) → Adds old new (IsErrorAt image m u) → Gathers new (Among (And Met u) (IsErrorAt image m))
+errors_more image m Met u old new h a = gathers_as new (λ x. Among Met (IsErrorAt image m) x ⊎ IsErrorAt image m u x)
+    (Among (And Met u) (IsErrorAt image m)) (among_more Met u (IsErrorAt image m)) (among_less Met u (IsErrorAt image m))
+    (gathers_more old new (Among Met (IsErrorAt image m)) (IsErrorAt image m u) h a)
+
+facts_more : (image : Image) (m : AllocMap) (Met : OwnedPage → Type 0) (u : OwnedPage) (held more : List Fact)
+    → Gathers held (Among Met (IsFactAt image m)) → Gathers more (IsFactAt image m u) → Gathers (held ++ more) (Among (And Met u) (IsFactAt image m))
+facts_more image m Met u held more h a = record {
+  sound = λ x c. among_more Met u (IsFactAt image m) x (⊎_elim (λ was. inl (h.sound x was)) (λ now. inr (a.sound x now)) (Contains-append_cases held more x c));
+  complete = λ x s. ⊎_elim (λ was. Contains-append_left held more x (h.complete x was)) (λ now. Contains-append_right held more x (a.complete x now))
+      (among_less Met u (IsFactAt image m) x s);
+}
+
+pub found_more : (image : Image) (m : AllocMap) (Met : OwnedPage → Type 0) (u : OwnedPage) (old new : Findings) → length image ≡ m.pages
+    → IsBehind Met u → AreFound image m Met old → AddsPage image m u old new → AreFound image m (And Met u) new
+found_more image m Met u old new pages behind h a = record {
+  errors = errors_more image m Met u old.errors.items new.errors.items h.errors a.errors;
+  facts = h.facts ++ a.more;
+  held = a.held.holds h.facts h.held;
+  each = facts_more image m Met u h.facts a.more h.each a.each;
+  lines = counts_more image m Met u old.lines.items new.lines.items pages behind h.lines a.lines;
+}
+
+pub found_as : (image : Image) (m : AllocMap) (Met Other : OwnedPage → Type 0) (found : Findings) → ((v : OwnedPage) → Met v → Other v)
+    → ((v : OwnedPage) → Other v → Met v) → AreFound image m Met found → AreFound image m Other found
+found_as image m Met Other found there back h = record {
+  errors = among_as Met Other (IsErrorAt image m) found.errors.items there back h.errors;
+  facts = h.facts;
+  held = h.held;
+  each = among_as Met Other (IsFactAt image m) h.facts there back h.each;
+  lines = counts_as image m Met Other found.lines.items there back h.lines;
+}
+
+-- The pages of one extent, in their order.
+
+-- those before extent e, and the first k of its own
+abbrev pub IsReached : Image → AllocMap → ℕ → List OwnedPage → ℕ → OwnedPage → Type 0
+IsReached image m e owned k v = Below e (IsOwnerIn image m) v ⊎ Contains (take k owned) v
+
+less_than : {K : Type 0} (R : K → K → Ordering) (xs : List K) (k : ℕ) (d v : K) → IsStrictlySortedBy R xs → k < length xs → Contains (take k xs) v
+    → R v (get_or xs k d) ≡ Less
+less_than R [] k d v s low c = absurd (omega (arith, low))
+less_than R (x ∷ xs) zero d v s low c = absurd (nothing_there v c)
+less_than R (x ∷ xs) (suc k) d v s low c =
+    let rest : k < length xs = omega (arith, low) in
+    ⊎_elim (λ e. subst (λ w. R w (get_or xs k d) ≡ Less) e (below R x xs (get_or xs k d) s (Contains-get_or xs k d rest)))
+    (λ later. less_than R xs k d v (rest_sorted R x xs s) rest later) (cons_cases x (take k xs) v c)
+
+then_cases : (o p : Ordering) → ordering_then o p ≡ Less → (o ≡ Less) ⊎ ((o ≡ Equal) × (p ≡ Less))
+then_cases Less p h = inl refl
+then_cases Equal p h = inr (refl, h)
+then_cases Greater p h = absurd (cc)
+
+page_before : (v u : OwnedPage) → owned_cmp v u ≡ Less → v.owner ≡ u.owner → v.page.0 < u.page.0
+page_before v u less same = ⊎_elim (λ before. less_from v.page.0 u.page.0 before)
+    (λ tied. let never = less_from v.owner u.owner tied.1 in absurd (omega (arith, never, same)))
+    (then_cases (nat_cmp v.page.0 u.page.0) (nat_cmp v.owner u.owner) less)
+
+pub reached_behind : (image : Image) (m : AllocMap) (e : ℕ) (owned : List OwnedPage) (k : ℕ) (d : OwnedPage) → AreOwnersIn image m e owned
+    → k < length owned → IsBehind (IsReached image m e owned k) (get_or owned k d)
+reached_behind image m e owned k d are low v met same = ⊎_elim
+    (λ before. let here = (are.sound (get_or owned k d) (Contains-get_or owned k d low)).extent in
+    let there = before.2.extent in
+    let less = before.1 in
+    earlier v.page.0 (get_or owned k d).page.0 before.0 e there here less)
+    (λ first. page_before v (get_or owned k d) (less_than owned_cmp owned k d v are.sorted low first) same) met where
+      earlier : (p q a b : ℕ) → p / 8 ≡ a → q / 8 ≡ b → a < b → p < q
+      earlier p q a b first second less = omega arith
+
+pub reached_next : (image : Image) (m : AllocMap) (e : ℕ) (owned : List OwnedPage) (k : ℕ) (d : OwnedPage) (found : Findings) → k < length owned
+    → AreFound image m (And (IsReached image m e owned k) (get_or owned k d)) found → AreFound image m (IsReached image m e owned (k + 1)) found
+reached_next image m e owned k d found low h =
+    let more : take (k + 1) owned ≡ take k owned ++ get_or owned k d ∷ [] = take_more owned k d low in
+    found_as image m (And (IsReached image m e owned k) (get_or owned k d)) (IsReached image m e owned (k + 1)) found
+    (λ v met. ⊎_elim (λ was. ⊎_elim (λ before. inl before)
+    (λ first. inr (subst (λ l. Contains l v) (sym more) (Contains-append_left (take k owned) (get_or owned k d ∷ []) v first))) was)
+    (λ same. inr (subst (λ l. Contains l v) (sym more) (subst (Contains (take k owned ++ get_or owned k d ∷ [])) same (Contains-push (take k owned) (get_or owned k d))))) met)
+    (λ v met. ⊎_elim (λ before. inl (inl before))
+    (λ now. ⊎_elim (λ first. inl (inr first)) (λ same. inr same) (Contains-push_cases (take k owned) (get_or owned k d) v (subst (λ l. Contains l v) more now))) met) h
+
+pub reached_first : (image : Image) (m : AllocMap) (e : ℕ) (owned : List OwnedPage) (found : Findings)
+    → AreFound image m (Below e (IsOwnerIn image m)) found → AreFound image m (IsReached image m e owned 0) found
+reached_first image m e owned found h = found_as image m (Below e (IsOwnerIn image m)) (IsReached image m e owned 0) found
+    (λ v met. inl met) (λ v met. ⊎_elim (λ before. before) (λ none. absurd (nothing_there v none)) met) h
+
+pub reached_last : (image : Image) (m : AllocMap) (e : ℕ) (owned : List OwnedPage) (k : ℕ) (found : Findings) → AreOwnersIn image m e owned
+    → take k owned ≡ owned → AreFound image m (IsReached image m e owned k) found → AreFound image m (Below (e + 1) (IsOwnerIn image m)) found
+reached_last image m e owned k found are all h = found_as image m (IsReached image m e owned k) (Below (e + 1) (IsOwnerIn image m)) found
+    (λ v met. ⊎_elim (λ before. let less = before.1 in (before.0, omega (arith, less), before.2))
+    (λ here. (e, omega arith, are.sound v (subst (λ l. Contains l v) all here))) met)
+    (λ v met. ⊎_elim (λ less. inl (met.0, less, met.2))
+    (λ same. inr (subst (λ l. Contains l v) (sym all) (are.complete v (subst (λ n. IsOwnerIn image m n v) same met.2)))) (upto met.0 e met.1)) h where
+      upto : (i n : ℕ) → i < n + 1 → (i < n) ⊎ (i ≡ n)
+      upto i n h = search (Rattle.std.proofs.Common.rules, arith)
+
+pub reached_step : (image : Image) (m : AllocMap) (e : ℕ) (owned : List OwnedPage) (k : ℕ) (d : OwnedPage) (old new : Findings)
+    → length image ≡ m.pages → AreOwnersIn image m e owned → k < length owned → AreFound image m (IsReached image m e owned k) old
+    → AddsPage image m (get_or owned k d) old new → AreFound image m (IsReached image m e owned (k + 1)) new
+reached_step image m e owned k d old new pages are low was adds = reached_next image m e owned k d new low
+    (found_more image m (IsReached image m e owned k) (get_or owned k d) old new pages (reached_behind image m e owned k d are low) was adds)
+
+pub owner_at : (image : Image) (m : AllocMap) (e : ℕ) (owned : List OwnedPage) (k : ℕ) (d : OwnedPage) → AreOwnersIn image m e owned
+    → k < length owned → IsOwnerIn image m e (get_or owned k d)
+owner_at image m e owned k d are low = are.sound (get_or owned k d) (Contains-get_or owned k d low)

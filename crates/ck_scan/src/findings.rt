@@ -1,0 +1,152 @@
+// What pages show together.
+ghost use Rattle.std.specs.Prelude.{◌≡◌, ℕ, ◌<◌, [], IfOk, OnOk, true, false, Contains, map, vec_len};
+ghost use Rattle.spec_file.specs.Image.{Image, page as image_page};
+ghost use Rattle.spec_chain.specs.Chains.{is_ordinary};
+ghost use Rattle.spec_check.specs.declared.report.CheckError.{CheckError};
+ghost use Rattle.spec_tables.specs.PageRules as spec;
+ghost use Rattle.ck_error.specs.Gathered.{Adds, Below};
+ghost use Rattle.ck_facts.specs.MapOf.{IsMapOf};
+ghost use Rattle.ck_facts.specs.Owners.{IsOwnerIn};
+ghost use Rattle.ck_merge.specs.Held.{roots_in, roots_of};
+ghost use Rattle.ck_scan.specs.Counted.{IsOneMore};
+ghost use Rattle.ck_scan.specs.Found.{AreFound, AddsPage, CountsWhere, Takes};
+
+use ck_error::CheckError;
+use ck_facts::{AllocMap, CatRow, OwnedPage, PageFacts, TableLine, facts_of_page};
+use ck_merge::Parts;
+use pg_base::{NoMemory, Page, PageNo};
+use std::alloc::Global;
+
+/// What the pages that were met show: their errors, what they show for the rules of trees, and a line for
+/// each object that counts those that are seen of it.
+#[derive(Drop)]
+pub struct Findings {
+    pub errors: Vec<CheckError>,
+    pub parts: Parts,
+    pub lines: Vec<TableLine>,
+}
+
+// The error of a page that no object may own.
+fn not_ordinary(row: &CatRow, p: PageNo) -> CheckError
+    ensures { result ≡ spec.not_ordinary row.now.id.0 p.0 }
+{
+    CheckError {
+        number: 8928,
+        object: row.id.0,
+        page: p.0,
+        other: 0,
+        slot: 0,
+        value: 0,
+    }
+}
+
+// A line of each object that counts nothing yet.
+fn blank_lines(alloc: Global, objects: &[CatRow]) -> Result<Vec<TableLine>, NoMemory>
+    ensures { IfOk result (λ lines. lines.items ≡ map (λ row. record { object = row.id.0; rows = 0; pages = 0 }) objects.now) }
+{
+    Ok(
+        objects
+            .iter()
+            .map(|row| TableLine {
+                object: row.id.0,
+                rows: 0,
+                pages: 0,
+            })
+            .collect(alloc)?,
+    )
+}
+
+// The line with one page more. A count stands still at its type's end.
+fn with_page(line: TableLine, rows: u64) -> TableLine
+    ensures { IsOneMore line result rows }
+{
+    TableLine {
+        object: line.object,
+        rows: line.rows.saturating_add(rows),
+        pages: line.pages.saturating_add(1),
+    }
+}
+
+// Counts a page of the i-th object where it is seen.
+fn count_page(lines: &mut Vec<TableLine>, i: usize, seen: bool, rows: u64)
+    requires { i < vec_len lines.old }
+    ensures counts { CountsWhere seen lines.old.items lines.new.items i rows }
+    ensures size { vec_len lines.new ≡ vec_len lines.old }
+{
+    if seen {
+        lines[i] = with_page(lines[i], rows);
+    }
+}
+
+fn add_errors(errors: &mut Vec<CheckError>, more: &[CheckError]) -> Result<(), NoMemory>
+    ensures { OnOk result (Adds errors.old.items errors.new.items (Contains more.now)) }
+{
+    errors.extend_from_slice(more)?;
+    Ok(())
+}
+
+impl Findings {
+    /// Nothing is found before the first page.
+    pub fn begin(alloc: Global, map: &AllocMap) -> Result<Findings, NoMemory>
+        requires sound { map.now.system.items ≡ [] }
+        ensures found { IfOk result (λ found. (image : Image) → AreFound image map.now (Below 0 (IsOwnerIn image map.now)) found) }
+        ensures lines { IfOk result (λ found. vec_len found.lines ≡ vec_len map.now.objects) }
+        ensures roots { IfOk result (λ found. roots_in found.parts ≡ roots_of map.now.objects.items) }
+    {
+        Ok(Findings {
+            errors: Vec::new(alloc),
+            parts: Parts::begin(alloc, map, 1)?,
+            lines: blank_lines(alloc, &map.objects)?,
+        })
+    }
+
+    // Takes what a page shows for the i-th object.
+    fn take(&mut self, i: usize, shown: &PageFacts) -> Result<(), NoMemory>
+        requires { i < vec_len self.old.lines }
+        ensures takes { OnOk result (Takes shown.now i self.old self.new) }
+        ensures lines { OnOk result (vec_len self.new.lines ≡ vec_len self.old.lines) }
+        ensures roots { roots_in self.new.parts ≡ roots_in self.old.parts }
+    {
+        add_errors(&mut self.errors, &shown.errors)?;
+        self.parts.add(&shown.facts)?;
+        count_page(&mut self.lines, i, shown.seen, shown.rows);
+        Ok(())
+    }
+
+    /// Takes what a page shows that an object may own.
+    pub fn add_page(
+        &mut self,
+        alloc: Global,
+        map: &AllocMap,
+        owned: &OwnedPage,
+        page: &Page,
+    ) -> Result<(), NoMemory>
+        requires sound { map.now.system.items ≡ [] }
+        requires inside { owned.now.page.0 < map.now.pages }
+        requires object { owned.now.owner < vec_len map.now.objects }
+        requires lines { vec_len self.old.lines ≡ vec_len map.now.objects }
+        ensures adds { OnOk result ((image : Image) (e : ℕ) → IsMapOf image map.now → IsOwnerIn image map.now e owned.now
+            → is_ordinary map.now.geometry owned.now.page.0 ≡ true → page.now.bytes ≡ image_page image owned.now.page.0
+            → AddsPage image map.now owned.now self.old self.new) }
+        ensures lines { OnOk result (vec_len self.new.lines ≡ vec_len self.old.lines) }
+        ensures roots { roots_in self.new.parts ≡ roots_in self.old.parts }
+    {
+        let row = &map.objects[owned.owner];
+        let shown = facts_of_page(alloc, page, owned.page, row, map.pfs(owned.page))?;
+        self.take(owned.owner, &shown)?;
+        Ok(())
+    }
+
+    /// Takes that no object may own the page.
+    pub fn add_not_ordinary(&mut self, map: &AllocMap, owned: &OwnedPage) -> Result<(), NoMemory>
+        requires object { owned.now.owner < vec_len map.now.objects }
+        ensures adds { OnOk result ((image : Image) → is_ordinary map.now.geometry owned.now.page.0 ≡ false
+            → AddsPage image map.now owned.now self.old self.new) }
+        ensures lines { OnOk result (vec_len self.new.lines ≡ vec_len self.old.lines) }
+        ensures roots { roots_in self.new.parts ≡ roots_in self.old.parts }
+    {
+        let row = &map.objects[owned.owner];
+        self.errors.push(not_ordinary(row, owned.page))?;
+        Ok(())
+    }
+}

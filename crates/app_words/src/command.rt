@@ -3,14 +3,25 @@ ghost use Rattle.std.specs.Prelude.{◌≡◌, ◌+◌, ◌<◌, slice_get, Matc
 ghost use Rattle.std.specs.Option.{option_copied};
 ghost use Rattle.app_words.specs.Words as spec;
 
-use pg_base::Words;
+use pg_base::{PageNo, Words};
+use sql_script::number_within;
 
 /// What the words ask for.
 #[derive(Clone, Copy, Debug, PartialEq, Eq)]
 pub enum Command {
     /// The report of a still file.
     Check,
+    /// The header and the slots of a page.
+    ShowPage(PageNo),
     /// Sessions in turns over a file and its log.
+    Replay,
+}
+
+/// What the first word asks to be done.
+#[derive(Clone, Copy, Debug, PartialEq, Eq)]
+pub enum Verb {
+    Check,
+    Page,
     Replay,
 }
 
@@ -31,17 +42,20 @@ pub fn word_at(words: &Words, i: usize) -> Option<&str>
     }
 }
 
-/// The command of the first word.
-fn command_of(word: Option<&str>) -> Option<Command>
-    ensures { result ≡ spec.command_of (option_copied word.entry) }
+/// What the first word asks to be done.
+fn verb_of(word: Option<&str>) -> Option<Verb>
+    ensures { result ≡ spec.verb_of (option_copied word.entry) }
 {
     match word {
         Some(word) => {
             if word == "check" {
-                return Some(Command::Check);
+                return Some(Verb::Check);
+            }
+            if word == "page" {
+                return Some(Verb::Page);
             }
             if word == "replay" {
-                return Some(Command::Replay);
+                return Some(Verb::Replay);
             }
             None
         }
@@ -76,19 +90,44 @@ fn is_no_file(word: Option<&str>) -> bool
     }
 }
 
+/// The number of a page that the word is.
+fn page_number(word: &str) -> Option<u32>
+    ensures { result ≡ spec.page_of word.now }
+{
+    number_within(0, u32::MAX, word.as_bytes())
+}
+
+fn is_page(word: Option<&str>) -> bool
+    ensures { result ≡ spec.is_page (option_copied word.entry) }
+{
+    match word {
+        Some(word) => page_number(word).is_some(),
+        None => false,
+    }
+}
+
 /// Whether the word at a place behind the first is wrong or missing.
-fn is_wrong_at(command: Command, words: &Words, i: usize) -> bool
-    ensures { result ≡ spec.is_wrong_at command words.now i }
+fn is_wrong_at(verb: Verb, words: &Words, i: usize) -> bool
+    ensures { result ≡ spec.is_wrong_at verb words.now i }
 {
     let word = word_at(words, i);
-    match command {
-        Command::Check => {
+    match verb {
+        Verb::Check => {
             if i < 2 {
                 return !is_file(word);
             }
             word.is_some()
         }
-        Command::Replay => {
+        Verb::Page => {
+            if i < 2 {
+                return !is_file(word);
+            }
+            if i < 3 {
+                return !is_page(word);
+            }
+            word.is_some()
+        }
+        Verb::Replay => {
             if i < 5 {
                 return !is_file(word);
             }
@@ -100,39 +139,61 @@ fn is_wrong_at(command: Command, words: &Words, i: usize) -> bool
     }
 }
 
-/// How many places a command looks at behind the first.
-fn places_of(command: Command) -> usize
-    ensures { result ≡ spec.places_of command }
+/// How many places are looked at behind the first.
+fn places_of(verb: Verb) -> usize
+    ensures { result ≡ spec.places_of verb }
 {
-    match command {
-        Command::Check => 2,
-        Command::Replay => 20,
+    match verb {
+        Verb::Check => 2,
+        Verb::Page => 3,
+        Verb::Replay => 20,
     }
 }
 
 /// The first place behind the first at which a word is wrong or missing.
-fn wrong_place(command: Command, words: &Words) -> Option<usize>
-    ensures least { result ≡ spec.least (spec.is_wrong_at command words.now) (spec.places_of command) 1 }
+fn wrong_place(verb: Verb, words: &Words) -> Option<usize>
+    ensures least { result ≡ spec.least (spec.is_wrong_at verb words.now) (spec.places_of verb) 1 }
     ensures low { IfSome result (λ i. i < 21) }
 {
-    let end = places_of(command) + 1;
+    let end = places_of(verb) + 1;
     for i in 1..end {
-        if is_wrong_at(command, words, i) {
+        if is_wrong_at(verb, words, i) {
             return Some(i);
         }
     }
     None
 }
 
+/// The number of a page that the third word is; 0 where it is none.
+fn page_asked(words: &Words) -> PageNo
+    ensures { result.0 ≡ spec.page_asked words.now }
+{
+    match word_at(words, 2) {
+        Some(word) => PageNo(page_number(word).unwrap_or(0)),
+        None => PageNo(0),
+    }
+}
+
+/// The command that right words ask for.
+fn command_of(words: &Words, verb: Verb) -> Command
+    ensures { result ≡ spec.command_of words.now verb }
+{
+    match verb {
+        Verb::Check => Command::Check,
+        Verb::Page => Command::ShowPage(page_asked(words)),
+        Verb::Replay => Command::Replay,
+    }
+}
+
 /// The command that the words ask for, exactly where they have its form.
 pub fn read_words(words: &Words) -> Result<Command, WordStop>
     ensures { MatchResult result (λ command. spec.Asks command words.now) (λ stop. spec.first_wrong words.now ≡ Some stop.at) }
 {
-    let Some(command) = command_of(word_at(words, 0)) else {
+    let Some(verb) = verb_of(word_at(words, 0)) else {
         return Err(WordStop { at: 1 });
     };
-    match wrong_place(command, words) {
+    match wrong_place(verb, words) {
         Some(i) => Err(WordStop { at: i as u32 + 1 }),
-        None => Ok(command),
+        None => Ok(command_of(words, verb)),
     }
 }

@@ -47,7 +47,7 @@ pub fn names_of(alloc: Global, words: &Words) -> Result<Names, NoMemory>
             log: String::new(alloc),
             sources: Vec::new(alloc),
         }),
-        Ok(Command::Check) => Ok(Names {
+        Ok(Command::Check | Command::ShowPage(_)) => Ok(Names {
             volume: copied(alloc, words, 1)?,
             log: String::new(alloc),
             sources: Vec::new(alloc),

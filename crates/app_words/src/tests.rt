@@ -1,5 +1,5 @@
 use super::*;
-use pg_base::Words;
+use pg_base::{PageNo, Words};
 use std::alloc::{AllocError, Global};
 use std::test::Fail;
 
@@ -27,13 +27,24 @@ fn replay(alloc: Global, names: usize) -> Result<Words, Fail> {
 #[test]
 fn the_first_wrong_or_missing_word_is_named(rt: HostRuntime) -> Result<(), Fail> {
     let alloc = rt.alloc();
-    let rows: [(&[&str], Result<Command, u32>); 9] = [
+    let rows: [(&[&str], Result<Command, u32>); 17] = [
         (&[], Err(1)),
         (&["repair", "d"], Err(1)),
         (&["check"], Err(2)),
         (&["check", "-d"], Err(2)),
         (&["check", "d"], Ok(Command::Check)),
         (&["check", "d", "e"], Err(3)),
+        (&["page", "d", "9"], Ok(Command::ShowPage(PageNo(9)))),
+        (&["page", "d", "0"], Ok(Command::ShowPage(PageNo(0)))),
+        (
+            &["page", "d", "4294967295"],
+            Ok(Command::ShowPage(PageNo(u32::MAX))),
+        ),
+        (&["page", "d", "4294967296"], Err(3)),
+        (&["page", "d", "09"], Err(3)),
+        (&["page", "d", "+9"], Err(3)),
+        (&["page", "d"], Err(3)),
+        (&["page", "d", "9", "9"], Err(4)),
         (&["replay", "d", "", "s", "t"], Err(3)),
         (&["replay", "d", "l", "s", "t"], Ok(Command::Replay)),
         (&["replay", "d", "l", "s", "t", "-u"], Err(6)),

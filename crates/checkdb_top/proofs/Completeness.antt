@@ -19,27 +19,24 @@ no_fault : (fault : Option FileWhy) (w : FileWhy) → fault ≡ Some w → fault
 no_fault fault w a b = let same : Some w ≡ None = sym a ∙ b in cc
 
 -- a file is refused for one reason
-one_reason : (bytes : List ℕ) (w v : FileWhy) → IsRefusedFor w bytes → IsRefusedFor v bytes → w ≡ v
-one_reason bytes w v a b =
-    ⊎_elim (λ first. ⊎_elim (λ other. same_fault (file_fault bytes) w v first other) (λ later. absurd (no_fault (file_fault bytes) w first later.1)) b)
-    (λ later. ⊎_elim (λ other. absurd (no_fault (file_fault bytes) v other later.1)) (λ again. later.0 ∙ sym again.0) b) a
+pub one_reason : (bytes : List ℕ) (w v : FileWhy) → IsRefusedFor w bytes → IsRefusedFor v bytes → w ≡ v
+one_reason bytes w v a b = same_fault (file_fault bytes) w v a b
 
--- and none that is checked is refused
-not_refused : (bytes : List ℕ) (g : Geometry) (w : FileWhy) → IsChecked g bytes → IsRefusedFor w bytes → ⊥
-not_refused bytes g w checked refused =
-    ⊎_elim (λ first. no_fault (file_fault bytes) w first checked.passes) (λ later. checked.heaps later.2) refused
+-- and none that passes is refused
+pub not_refused : (bytes : List ℕ) (w : FileWhy) → file_fault bytes ≡ None → IsRefusedFor w bytes → ⊥
+not_refused bytes w passes refused = no_fault (file_fault bytes) w refused passes
 
 size_first : (size : Bool) (fault : Option FileWhy) → size ≡ false → (if not size then Some why.Size else fault) ≡ Some why.Size
 size_first size fault fails = rw fails refl
 
-wrong_size : (bytes : List ℕ) → size_passes (length bytes) ≡ false → IsRefusedFor why.Size bytes
-wrong_size bytes fails = inl (size_first (size_passes (length bytes)) _ fails)
+pub wrong_size : (bytes : List ℕ) → size_passes (length bytes) ≡ false → IsRefusedFor why.Size bytes
+wrong_size bytes fails = size_first (size_passes (length bytes)) _ fails
 
 checked_completes : (bytes : List ℕ) (g : Geometry) (s : Status) → IsChecked g bytes → ((s ≡ status.Clean) ⊎ (s ≡ status.Errors)) ⊎ (s ≡ status.Memory)
     → Completes bytes s
 checked_completes bytes g s checked is = record {
-  size = λ wrong. absurd (not_refused bytes g why.Size checked (wrong_size bytes wrong));
-  refused = λ w for. absurd (not_refused bytes g w checked for);
+  size = λ wrong. absurd (not_refused bytes why.Size checked.passes (wrong_size bytes wrong));
+  refused = λ w for. absurd (not_refused bytes w checked.passes for);
   checked = λ _ _. is;
 }
 
@@ -47,10 +44,10 @@ refused_completes : (bytes : List ℕ) (w : FileWhy) → IsRefusedFor w bytes �
 refused_completes bytes w refused = record {
   size = λ wrong. ap (λ v. status.File v) (one_reason bytes w why.Size refused (wrong_size bytes wrong));
   refused = λ v for. inl (ap (λ u. status.File u) (one_reason bytes w v refused for));
-  checked = λ g checked. absurd (not_refused bytes g w checked refused);
+  checked = λ g checked. absurd (not_refused bytes w checked.passes refused);
 }
 
-right_size : (bytes : List ℕ) → IsTrue (size_passes (length bytes)) → size_passes (length bytes) ≡ false → ⊥
+pub right_size : (bytes : List ℕ) → IsTrue (size_passes (length bytes)) → size_passes (length bytes) ≡ false → ⊥
 right_size bytes right wrong = cc
 
 pub completes : (told before after : Option (List ℕ)) (s : Status) (RoseVolume RoseSink : Type 0) → Answers told before after s

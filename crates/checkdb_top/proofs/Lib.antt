@@ -6,3 +6,4 @@ pub mod Running
 pub mod Closings
 pub mod Starting
 pub mod Begun
+pub mod Showing

@@ -1,5 +1,5 @@
 -- What the status of a check says of the file and of the output.
-use Rattle.std.specs.Prelude.{◌≡◌, ◌≢◌, ℕ, IsTrue, List, [], length, Option, IfSome}
+use Rattle.std.specs.Prelude.{◌≡◌, ◌≢◌, ℕ, IsTrue, List, [], length, Option, IfSome, ⊤}
 use Rattle.std.specs.Io.KnownBytes.{append_known}
 use Rattle.spec_file.specs.declared.geometry.Geometry.{Geometry}
 use Rattle.spec_file.specs.Image.{Image, pages_of}
@@ -14,7 +14,7 @@ use Rattle.checkdb_top.specs.declared.status.Status.{Status}
 use Rattle.checkdb_top.specs.declared.status.Status.TheVariants as status
 use Rattle.pg_base.specs.declared.reader.ReadStop.{ReadStop}
 use Rattle.pg_base.specs.declared.reader.ReadStop.TheVariants.{Fault, Ended, NoMemory}
-use Rattle.checkdb_top.specs.Form.{IsRefusedFor, IsChecked, IsLeftFor, IsTaken}
+use Rattle.checkdb_top.specs.Form.{IsRefusedFor, IsRefusedAs, IsChecked, IsOpenedAs}
 
 -- the status names this device
 abbrev pub IsDevice : Device → Status → Type 0
@@ -51,6 +51,12 @@ Answers told before after status.LogSize = ⊥
 Answers told before after status.LogLater = ⊥
 Answers told before after status.NoReport = ⊥
 
+-- what the status says of a file that isn't read as an image: it fails, or its size is wrong
+abbrev pub StopsAtSize : Option (List ℕ) → Status → Type 0
+StopsAtSize told (status.File why) = IfSome told (IsRefusedFor why)
+StopsAtSize told (status.Device device.Volume) = ⊤
+StopsAtSize told _ = ⊥
+
 -- what writing a report says of the output
 abbrev pub Reports : CheckReport → Option (List ℕ) → Option (List ℕ) → Status → Type 0
 Reports report before after status.Clean = (report.errors ≡ []) × (after ≡ append_known before (report_text report))
@@ -60,7 +66,7 @@ Reports report before after _ = ⊥
 
 -- the same for the image of a file whose size has passed
 abbrev pub AnswersImage : Option Image → Option (List ℕ) → Option (List ℕ) → Status → Type 0
-AnswersImage told before after (status.File why) = IfSome told (IsLeftFor why) × (after ≡ before)
+AnswersImage told before after (status.File why) = IfSome told (IsRefusedAs why) × (after ≡ before)
 AnswersImage told before after (status.Device device.Volume) = after ≡ before
 AnswersImage told before after status.Memory = after ≡ before
 AnswersImage told before after (status.Words at) = ⊥
@@ -71,7 +77,7 @@ AnswersImage told before after status.LogSize = ⊥
 AnswersImage told before after status.LogLater = ⊥
 AnswersImage told before after status.NoReport = ⊥
 AnswersImage told before after s =
-    (report : CheckReport) × IfSome told (λ image. (g : Geometry) × IsTaken g image × IsCheckOf g image report) × Reports report before after s
+    (report : CheckReport) × IfSome told (λ image. (g : Geometry) × IsOpenedAs g image × IsCheckOf g image report) × Reports report before after s
 
 -- the status of a check that met a stop in reading
 abbrev pub stopped : ReadStop → Status

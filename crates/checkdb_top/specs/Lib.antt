@@ -3,6 +3,7 @@ pub mod WholeFiles
 pub mod Form
 pub mod Opening
 pub mod Answers
+pub mod Shows
 pub mod Completeness
 pub mod Start
 pub mod Runs

@@ -2,8 +2,8 @@
 use Rattle.std.specs.Prelude.{◌≡◌, ℕ, ◌≤◌, length, Some, ⊤}
 use Rattle.spec_file.specs.Image.{Image, page}
 use Rattle.spec_file.specs.Places.{page_limit}
-use Rattle.checkdb_top.specs.declared.check.Opened.{Opened}
-use Rattle.checkdb_top.specs.declared.check.Opened.TheVariants.{As, Refused}
+use Rattle.checkdb_top.specs.declared.file.Opened.{Opened}
+use Rattle.checkdb_top.specs.declared.file.Opened.TheVariants.{As, Refused}
 use Rattle.checkdb_top.specs.Form.{IsOpenedAs}
 use Rattle.run_file.specs.Opening.{opening_fault}
 

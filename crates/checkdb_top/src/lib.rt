@@ -2,10 +2,11 @@
 #![tactic(auto)]
 
 mod check;
-mod form;
+mod file;
 mod gate;
 mod reader;
 mod run;
+mod show;
 mod start;
 mod status;
 mod top;

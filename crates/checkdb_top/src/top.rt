@@ -1,17 +1,21 @@
-ghost use Rattle.std.specs.Prelude.{◌≡◌, ◌<◌, ◌≤◌, ◌↔◌, length, map, IfSome, Some};
+ghost use Rattle.std.specs.Prelude.{◌≡◌, ◌⊎◌, ◌<◌, ◌≤◌, length, map, IfSome, Some};
 ghost use Rattle.pg_base.specs.Faults.{Rose};
-ghost use Rattle.app_words.specs.Words.{first_wrong, Asks};
-ghost use Rattle.app_words.specs.declared.command.Command.TheVariants.{Check, Replay};
+ghost use Rattle.app_words.specs.Words.{first_wrong, Asks, AsksStill};
+ghost use Rattle.app_words.specs.declared.command.Command.TheVariants.{Check, ShowPage, Replay};
+ghost use Rattle.spec_file.specs.declared.data.PageNo.{PageNo};
 ghost use Rattle.run_file.specs.Sources.{AreKnown, NoneFell, OneRose};
 ghost use Rattle.checkdb_top.specs.Runs.{Ends};
 ghost use Rattle.checkdb_top.specs.Answers.{Answers, IsDevice, IsWordsAt};
 ghost use Rattle.checkdb_top.specs.Completeness.{Completes, CompletesRun};
+ghost use Rattle.checkdb_top.specs.Shows.{Shows, CompletesPage};
 ghost use Rattle.checkdb_top.specs.declared.status.Device.TheVariants.{Volume, Sink};
 ghost use Rattle.checkdb_top.specs.declared.status.Status.TheVariants.{NoReport};
 
-use crate::check::{Checked, check};
+use crate::check::check;
+use crate::file::Finished;
 use crate::gate::Gate;
 use crate::run::run;
+use crate::show::show;
 use crate::{Device, Status};
 use app_words::{Command, read_words};
 use pg_base::Words;
@@ -27,8 +31,9 @@ pub struct Outcome<V, L> {
 
 /// Does a command on one thread, and returns for every input.
 ///
-/// `check DATA` writes the report of a still file; nothing but the output is written. `replay DATA LOG
-/// SCHEDULE SCRIPT ..` runs scripts as sessions, in turns, over the file.
+/// `check DATA` writes the report of a still file, `page DATA P` the header and the slots of its page P;
+/// nothing but the output is written. `replay DATA LOG SCHEDULE SCRIPT ..` runs scripts as sessions, in
+/// turns, over the file.
 pub fn plain_top<V: vol_dev::Volume, L: LogFile, S: Source, K: vol_dev::Sink, G: Gate>(
     alloc: Global,
     words: &Words,
@@ -42,17 +47,21 @@ pub fn plain_top<V: vol_dev::Volume, L: LogFile, S: Source, K: vol_dev::Sink, G:
     requires some { Asks Replay words.now → 0 < length sources.old.items }
     requires few { Asks Replay words.now → length sources.old.items ≤ 17 }
 
-    // The status names a wrong word exactly where it is the first that is wrong or missing, and then
-    // no device was called.
-    ensures words { (at : _) → IsWordsAt at result.status ↔ (first_wrong words.now ≡ Some at) }
+    // The status names the first word that is wrong or missing, and then no device was called. It names a
+    // word else only where a page is asked for that the file hasn't.
+    ensures words { (at : _) → first_wrong words.now ≡ Some at → IsWordsAt at result.status }
+    ensures words_only { (at : _) → IsWordsAt at result.status → (first_wrong words.now ≡ Some at) ⊎ ((p : PageNo) × Asks (ShowPage p) words.now) }
     ensures no_call { (at : _) → first_wrong words.now ≡ Some at →
         (result.volume ≡ volume) × (result.log ≡ log) × (sources.new ≡ sources.old) × (out.new ≡ out.old) }
 
     // What each status of a check says of the file and of the output; nothing but the output changes.
     ensures answers { Asks Check words.now → Answers (V.contents volume) (K.contents out.old) (K.contents out.new) result.status }
-    ensures volume { Asks Check words.now → V.contents result.volume ≡ V.contents volume }
-    ensures log { Asks Check words.now → result.log ≡ log }
-    ensures sources { Asks Check words.now → sources.new ≡ sources.old }
+    ensures volume { AsksStill words.now → V.contents result.volume ≡ V.contents volume }
+    ensures log { AsksStill words.now → result.log ≡ log }
+    ensures sources { AsksStill words.now → sources.new ≡ sources.old }
+
+    // What each status of `page` says of the file and of the output.
+    ensures shows { (p : PageNo) → Asks (ShowPage p) words.now → Shows p.0 (V.contents volume) (K.contents out.old) (K.contents out.new) result.status }
 
     // How a run ends.
     ensures ends { Asks Replay words.now → Ends (map S.left sources.old.items) (map S.left sources.new.items)
@@ -69,11 +78,14 @@ pub fn plain_top<V: vol_dev::Volume, L: LogFile, S: Source, K: vol_dev::Sink, G:
     ensures source_faults { NoneFell (map S.faults sources.old.items) (map S.faults sources.new.items) }
     ensures sink_faults { K.faults out.old ≤ K.faults out.new }
 
-    // Where a check is asked for and no device fails, the file's form fixes the status, but for want of
+    // Where a check or a page is asked for and no device fails, the file's form fixes the status, but for want of
     // memory.
     ensures complete { Asks Check words.now → IfSome (V.contents volume) (λ bytes.
         ¬ Rose (V.faults volume) (V.faults result.volume) → ¬ Rose (K.faults out.old) (K.faults out.new) →
         Completes bytes result.status) }
+    ensures complete_page { (p : PageNo) → Asks (ShowPage p) words.now → IfSome (V.contents volume) (λ bytes.
+        ¬ Rose (V.faults volume) (V.faults result.volume) → ¬ Rose (K.faults out.old) (K.faults out.new) →
+        CompletesPage p.0 bytes result.status) }
 
     // Where a run is asked for, all that it reads is told and no device fails, the sources, the file and
     // the log fix the status, but for want of memory.
@@ -94,7 +106,15 @@ pub fn plain_top<V: vol_dev::Volume, L: LogFile, S: Source, K: vol_dev::Sink, G:
             log,
         },
         Ok(Command::Check) => {
-            let Checked { status, volume } = check(alloc, volume, out);
+            let Finished { status, volume } = check(alloc, volume, out);
+            Outcome {
+                status,
+                volume,
+                log,
+            }
+        }
+        Ok(Command::ShowPage(p)) => {
+            let Finished { status, volume } = show(alloc, volume, p, out);
             Outcome {
                 status,
                 volume,

@@ -15,6 +15,7 @@ pub use laws::{schedule_law, script_law};
 pub use print::print_statement;
 pub use read::{read_schedule, read_script};
 pub use stop::ScriptStop;
+pub use words::number_within;
 
 #[cfg(test)]
 mod tests;

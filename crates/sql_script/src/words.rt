@@ -71,7 +71,7 @@ pub(crate) fn number_of(digits: &[u8]) -> Option<u64>
 
 /// The number from `least` to `most` that has these digits.
 #[tactic(auto, unfolding(crate::specs::Reading::number_within))]
-pub(crate) fn number_within(least: u32, most: u32, digits: &[u8]) -> Option<u32>
+pub fn number_within(least: u32, most: u32, digits: &[u8]) -> Option<u32>
     ensures number { result ≡ spec.number_within least most digits.now }
     ensures within { IfSome result (λ n. n ≤ most) }
 {

@@ -7,7 +7,7 @@ pub returns-then-is_wrong_at-clause-least : goal.returns-then-is_wrong_at-clause
 returns-then-is_wrong_at-clause-least c =
     let some : 0 < c.places_of-end.result + 1 - c.loop-i.i = omega (arith, c.loop-i-test.true, c.loop-i.auto.i-end) in
     sym (c.loop-i.invariant
-    ∙ least_here (is_wrong_at c.args.command c.args.words.now) (c.places_of-end.result + 1 - c.loop-i.i) c.loop-i.i some
+    ∙ least_here (is_wrong_at c.args.verb c.args.words.now) (c.places_of-end.result + 1 - c.loop-i.i) c.loop-i.i some
     (sym c.is_wrong_at.ensures ∙ c.if-is_wrong_at.true))
 
 pub loop-i-preserved : goal.loop-i-preserved
@@ -15,5 +15,5 @@ loop-i-preserved c =
     let more : c.places_of-end.result + 1 - c.loop-i.i ≡ suc (c.places_of-end.result + 1 - (c.loop-i.i + 1)) =
     omega (arith, c.loop-i-test.true, c.loop-i.auto.i-end) in
     c.loop-i.invariant
-    ∙ least_behind (is_wrong_at c.args.command c.args.words.now) (c.places_of-end.result + 1 - c.loop-i.i)
+    ∙ least_behind (is_wrong_at c.args.verb c.args.words.now) (c.places_of-end.result + 1 - c.loop-i.i)
     (c.places_of-end.result + 1 - (c.loop-i.i + 1)) c.loop-i.i more (sym c.is_wrong_at.ensures ∙ c.if-is_wrong_at.false)

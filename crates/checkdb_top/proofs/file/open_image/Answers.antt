@@ -1,5 +1,5 @@
 use Rattle.checkdb_top.proofs.Forms.{told_opened, told_refused}
-use Rattle.checkdb_top.proofs.check.open_image.Goals as goal
+use Rattle.checkdb_top.proofs.file.open_image.Goals as goal
 
 pub returns-in-Ok-clause-opened : goal.returns-in-Ok-clause-opened
 returns-in-Ok-clause-opened g c =

@@ -1,4 +1,4 @@
-use crate::files::{PAGE, base, check, put};
+use crate::files::{PAGE, base, put, reports};
 use crate::objects::{
     Iam, heap, heap_page, iam_page, marks, only, pfs, slot, two_intervals, two_spans,
 };
@@ -13,16 +13,6 @@ const ONE: &str = "Msg 8989: 1 allocation errors, 0 consistency errors\n";
 const EMPTY_ONE: &str = "Msg 2593: object 1, rows 0, pages 0\n";
 
 const EMPTY_TWO: &str = "Msg 2593: object 2, rows 0, pages 0\n";
-
-// Whether the check of the file ends so, and its report has these lines, one after another.
-fn reports(alloc: Global, file: Vec<u8>, status: Status, lines: &[&str]) -> Result<bool, Fail> {
-    let (found, text) = check(alloc, file)?;
-    let mut wanted = Vec::new(alloc);
-    for line in lines {
-        wanted.extend_from_slice(line.as_bytes())?;
-    }
-    Ok(found == status && text.as_slice() == wanted.as_slice())
-}
 
 #[test]
 fn the_last_extent_is_lost(rt: HostRuntime) -> Result<(), Fail> {
@@ -73,14 +63,16 @@ fn one_page_in_slots_of_two_heaps(rt: HostRuntime) -> Result<(), Fail> {
     slot(&mut file, 10, 11);
     heap_page(&mut file, 11, 1);
     pfs(&mut file, 11, 0x60);
+    let of_another = "Msg 2534: object 2, page 11, other 1, slot 0, value 0\n";
     let two = "Msg 8910: object 1, page 11, other 2, slot 0, value 2\n";
     let one_page = "Msg 2593: object 1, rows 0, pages 1\n";
+    let end = "Msg 8989: 1 allocation errors, 1 consistency errors\n";
     assert!(rt;
         reports(
             alloc,
             file,
             Status::Errors,
-            &[two, one_page, EMPTY_TWO, ONE]
+            &[of_another, two, one_page, EMPTY_TWO, end]
         )?
     );
     Ok(())

@@ -78,3 +78,19 @@ pub fn run(
 pub fn check(alloc: Global, file: Vec<u8>) -> Result<(Status, Vec<u8>), Fail> {
     run(alloc, &["check", "d"], file, Vec::new(alloc), None)
 }
+
+// The lines, one after another.
+fn joined(alloc: Global, lines: &[&str]) -> Result<Vec<u8>, AllocError> {
+    let mut text = Vec::new(alloc);
+    for line in lines {
+        text.extend_from_slice(line.as_bytes())?;
+    }
+    Ok(text)
+}
+
+/// Whether the check of the file ends so, and its report has these lines, one after another.
+pub fn reports(alloc: Global, file: Vec<u8>, status: Status, lines: &[&str]) -> Result<bool, Fail> {
+    let (found, text) = check(alloc, file)?;
+    let wanted = joined(alloc, lines)?;
+    Ok(found == status && text.as_slice() == wanted.as_slice())
+}

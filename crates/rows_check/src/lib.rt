@@ -4,10 +4,22 @@
 #[cfg(test)]
 mod chain_tests;
 #[cfg(test)]
+mod fault_tests;
+#[cfg(test)]
 mod files;
 #[cfg(test)]
+mod link_tests;
+#[cfg(test)]
 mod objects;
+#[cfg(test)]
+mod page_rule_tests;
+#[cfg(test)]
+mod page_tests;
 #[cfg(test)]
 mod replay_tests;
 #[cfg(test)]
 mod tests;
+#[cfg(test)]
+mod tree_tests;
+#[cfg(test)]
+mod trees;

@@ -2,7 +2,8 @@
 use crate::files::{PAGE, put};
 use std::alloc::{AllocError, Global};
 
-fn number(n: u16) -> [u8; 4] {
+/// The four bytes of a number.
+pub fn number(n: u16) -> [u8; 4] {
     [(n % 256) as u8, (n / 256) as u8, 0, 0]
 }
 
@@ -49,6 +50,16 @@ pub fn iam_page(file: &mut Vec<u8>, p: u16, page: &Iam) {
     put(file, at + 16, &number(page.next));
     put(file, at + 96, &[page.interval]);
     put(file, at + 100, &[page.sequence]);
+}
+
+/// Puts pages into the slots of an IAM page, from slot 0 on.
+pub fn slots(file: &mut Vec<u8>, iam: u16, pages: &[u16]) {
+    let at = PAGE * usize::from(iam) + 104;
+    for (i, p) in pages.iter().enumerate() {
+        if let Some(place) = i.checked_mul(4).and_then(|step| at.checked_add(step)) {
+            put(file, place, &number(*p));
+        }
+    }
 }
 
 /// Puts page p into slot 0 of an IAM page.

@@ -1,6 +1,6 @@
 ghost use Rattle.std.specs.Prelude.{◌≡◌, ◌+◌, ◌≤◌, length, IfOk};
 
-use crate::files::{base, put};
+use crate::files::{PAGE, base, put};
 use crate::objects::{heap, heap_page, iam_page, only, pfs, slot};
 use checkdb_top::{NoGate, Outcome, ScriptWhy, Status, plain_top};
 use pg_base::Words;
@@ -101,6 +101,34 @@ fn a_check_sees_what_is_committed(rt: HostRuntime) -> Result<(), Fail> {
         ran.log.len(),
         (48 + 118 + 9) + 15 + 33 + (43 + 96) + 15 + (33 + 9)
     );
+    Ok(())
+}
+
+// The PFS byte of the empty page says up to half full.
+#[test]
+fn a_report_of_a_run_tells_of_fullness(rt: HostRuntime) -> Result<(), Fail> {
+    let alloc = rt.alloc();
+    let mut file = heap_file(alloc)?;
+    pfs(&mut file, 10, 0x61);
+    let ran = run(alloc, file, Vec::new(alloc), "", &["DBCC CHECKDB\n"])?;
+    let due =
+        "1.1 DBCC LSN 1\nMsg 8914: object 1, page 10, other 0, slot 0, value 97\nMsg 2593: object 1, rows 0, pages 1\nMsg 8989: 1 allocation errors, 0 consistency errors\n";
+    assert_eq!(rt; ran.status, Status::Errors);
+    assert_eq!(rt; ran.output.as_slice(), due.as_bytes());
+    Ok(())
+}
+
+// The free count of the empty page leaves out one byte.
+#[test]
+fn a_report_of_a_run_tells_of_a_page_that_fails_its_test(rt: HostRuntime) -> Result<(), Fail> {
+    let alloc = rt.alloc();
+    let mut file = heap_file(alloc)?;
+    put(&mut file, 10 * PAGE + 22, &[0x9f]);
+    let ran = run(alloc, file, Vec::new(alloc), "", &["DBCC CHECKDB\n"])?;
+    let due =
+        "1.1 DBCC LSN 1\nMsg 8939: object 1, page 10, other 0, slot 0, value 7\nMsg 2593: object 1, rows 0, pages 0\nMsg 8989: 0 allocation errors, 1 consistency errors\n";
+    assert_eq!(rt; ran.status, Status::Errors);
+    assert_eq!(rt; ran.output.as_slice(), due.as_bytes());
     Ok(())
 }
 

@@ -162,20 +162,6 @@ fn the_first_test_that_fails_is_named(rt: HostRuntime) -> Result<(), Fail> {
 }
 
 #[test]
-fn a_clustered_table_is_left_for_later(rt: HostRuntime) -> Result<(), Fail> {
-    let alloc = rt.alloc();
-    let clustered: &[u8] = &[1, 0, 0, 0, 2, 1, b't'];
-    for place in [0, 40 * 127] {
-        let mut file = base(alloc, 16)?;
-        put(&mut file, CATALOG + place, clustered);
-        let (status, text) = check(alloc, file)?;
-        assert_eq!(rt; status, Status::File(FileWhy::Later));
-        assert!(rt; text.is_empty());
-    }
-    Ok(())
-}
-
-#[test]
 fn the_first_wrong_word_is_named(rt: HostRuntime) -> Result<(), Fail> {
     let alloc = rt.alloc();
     let lines: [(&[&str], u32); 6] = [

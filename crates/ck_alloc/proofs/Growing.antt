@@ -1,11 +1,10 @@
 -- How lists of errors grow by the rules of extents and pages.
-use Rattle.std.proofs.Common.{◌≡◌, ℕ, ◌+◌, ◌<◌, ◌≤◌, Bool, IsTrue, List, [], ◌∷◌, ◌++◌, length, take, get_or, map, sym, ap, subst, refl, arith, ◌∙◌}
-use Rattle.std.proofs.lemmas.List.{take_more, length-map}
-use Rattle.std.proofs.Math.Seq.{take-length}
+use Rattle.std.proofs.Common.{◌≡◌, ℕ, ◌≤◌, Bool, IsTrue, List, [], ◌∷◌, ◌++◌, length, get_or, map, sym, ap, subst, refl, arith, ◌∙◌}
+use Rattle.std.proofs.lemmas.List.{length-map}
 use Rattle.spec_check.specs.declared.report.CheckError.{CheckError}
 use Rattle.spec_check.specs.Pages.{two_uses, GivesTwoUses}
-use Rattle.ck_error.specs.Gathered.{Adds, Each}
-use Rattle.ck_error.specs.GatheringLaws.{adds_push, adds_as, adds_each_more}
+use Rattle.ck_error.specs.Gathered.{Adds}
+use Rattle.ck_error.specs.GatheringLaws.{adds_push, adds_as}
 use Rattle.ck_facts.specs.declared.map.PageUse.{PageUse}
 use Rattle.ck_facts.specs.Maps.{use_of}
 
@@ -13,17 +12,6 @@ pub adds_if : (xs ys : List CheckError) (b c : Bool) (e m : CheckError) → b �
     → Adds xs ys (λ x. IsTrue c × (x ≡ m))
 adds_if xs ys b c e m same is a =
     subst (λ n. Adds xs ys (λ x. IsTrue c × (x ≡ n))) is (subst (λ t. Adds xs ys (λ x. IsTrue t × (x ≡ e))) same a)
-
-pub adds_next : {T : Type 0} (xs ys zs : List CheckError) (ms : List T) (i : ℕ) (d : T) (R : T → CheckError → Type 0) → i < length ms
-    → Adds xs ys (Each (take i ms) R) → Adds ys zs (R (get_or ms i d)) → Adds xs zs (Each (take (i + 1) ms) R)
-adds_next {T} xs ys zs ms i d R below a b =
-    subst (λ l. Adds xs zs (Each l R)) (sym (take_more ms i d below)) (adds_each_more xs ys zs (take i ms) (get_or ms i d) R a b)
-
-pub adds_all : {T : Type 0} (xs ys : List CheckError) (ms : List T) (i : ℕ) (R : T → CheckError → Type 0) → length ms ≤ i → i ≤ length ms
-    → Adds xs ys (Each (take i ms) R) → Adds xs ys (Each ms R)
-adds_all {T} xs ys ms i R past within a =
-    let end : i ≡ length ms = omega arith in
-    subst (λ l. Adds xs ys (Each l R)) (ap (λ j. take j ms) end ∙ take-length ms) a
 
 pub two_of : (p : ℕ) (uses : List PageUse) (d : PageUse) (xs ys : List CheckError) (e : CheckError) → 2 ≤ length uses → ys ≡ xs ++ e ∷ []
     → e ≡ two_uses p (use_of (get_or uses 0 d)) (use_of (get_or uses 1 d)) (length uses) → Adds xs ys (GivesTwoUses p (map use_of uses))

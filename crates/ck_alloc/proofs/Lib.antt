@@ -1,10 +1,8 @@
 pub mod PlaceBounds
 pub mod Ranges
 pub mod OfImage
-pub mod Filtering
 pub mod Marking
 pub mod Growing
-pub mod Members
 pub mod MarkersOf
 pub mod CatalogIds
 pub mod UsesOf

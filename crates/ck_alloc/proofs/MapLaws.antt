@@ -2,7 +2,6 @@
 use Rattle.std.proofs.Common.{◌≡◌, ◌⊎◌, ℕ, ◌+◌, ◌*◌, ◌/◌, ◌%◌, ◌<◌, Bool, List, [], ◌∷◌, length, map, slice_index, sym, subst, ap, ◌∙◌, refl, inl, inr, ⊎_elim, arith}
 use Rattle.std.proofs.lemmas.List.{length-map}
 use Rattle.std.proofs.lemmas.List.FromFn.{get_or-map-range_with_len}
-use Rattle.std.proofs.lemmas.Option.{slice_get-get_or}
 use Rattle.spec_file.specs.Image.{Image}
 use Rattle.spec_file.specs.Places.{is_free, extent_count}
 use Rattle.spec_file.specs.Roles.{role_of, is_system_extent}
@@ -17,30 +16,22 @@ use Rattle.spec_file.specs.declared.role.Role.{Role}
 use Rattle.ck_error.specs.Gathered.{Adds, Below, Gathers}
 use Rattle.ck_error.specs.GatheringLaws.{gathers_more, gathers_as}
 use Rattle.ck_facts.specs.declared.map.AllocMap.{AllocMap}
-use Rattle.ck_facts.specs.MapOf.{IsMapOf}
-use Rattle.ck_facts.specs.Maps.{IsExtentOf, rows_of_objects}
+use Rattle.ck_facts.specs.MapOf.{IsMapOf, extent_at, ids_of}
+use Rattle.ck_facts.specs.MapLaws.{extent_of}
+use Rattle.ck_facts.specs.Maps.{rows_of_objects}
 use Rattle.ck_alloc.specs.declared.extents.ExtentState.{ExtentState}
 use Rattle.ck_alloc.specs.declared.pages.PageState.{PageState}
-use Rattle.ck_alloc.specs.Held.{IsByPage, holds_use, ids_of, marked_ids}
+use Rattle.ck_alloc.specs.Held.{holds_use, marked_ids}
 use Rattle.ck_alloc.specs.ExtentRules.{ExtentSays}
 use Rattle.ck_alloc.specs.PageRules.{PageSays}
-use Rattle.ck_alloc.specs.MapRules.{no_extent, extent_at, extent_state, markers_at, page_state, uses_at, PartOfMapSays}
-use Rattle.ck_alloc.proofs.UsesOf.{by_page, uses_of_page, use_held}
+use Rattle.ck_alloc.specs.MapRules.{extent_state, markers_at, page_state, uses_at, PartOfMapSays}
+use Rattle.ck_alloc.proofs.UsesOf.{uses_of_page, use_held}
 use Rattle.ck_alloc.proofs.MarkersOf.{markers_of_rows}
 use Rattle.ck_alloc.proofs.ExtentLaws.{seen_extent, ShowsExtents, extent_there, extent_back}
 use Rattle.ck_alloc.proofs.PageLaws.{seen_page, ShowsPages, page_there, page_back}
 
-pub by_page_of : (image : Image) (m : AllocMap) → IsMapOf image m → m.system.items ≡ [] → IsByPage m.uses.items
-by_page_of image m of sound = by_page m.uses.items (of.whole sound).uses.sorted
-
--- what the map keeps of an extent
-extent_of : (image : Image) (m : AllocMap) → IsMapOf image m → m.system.items ≡ [] → (e : ℕ) → e < extent_count image
-    → IsExtentOf m.geometry image (rows_of_objects m.objects.items) e (extent_at m e)
-extent_of image m of sound e below =
-    let kept : m.extents.len ≡ m.pages / 8 = (m.sizes sound).extents in
-    let long : m.extents.len ≡ length m.extents.items = m.extents.ok.0 in
-    let pages : length image ≡ m.pages = of.pages in
-    (of.whole sound).extents.each e (extent_at m e) (slice_get-get_or m.extents.items e no_extent (omega (arith, below, kept, long, pages)))
+inside : (image : Image) (m : AllocMap) (e : ℕ) → IsMapOf image m → e < extent_count image → e < m.pages / 8
+inside image m e of below = omega (arith, below, of.pages)
 
 ids_same : (objects : List CatRow) → map (λ r. r.id) (rows_of_objects objects) ≡ ids_of objects
 ids_same [] = refl
@@ -52,7 +43,7 @@ markers_of_map image m of sound e below =
     let rows = rows_of_objects m.objects.items in
     subst (λ n. AreMarkers m.geometry image e (marked_ids (ids_of m.objects.items) (extent_at m e) n)) (length-map m.objects.items row_of)
     (subst (λ ids. AreMarkers m.geometry image e (marked_ids ids (extent_at m e) (length rows))) (ids_same m.objects.items)
-    (markers_of_rows m.geometry image rows e (extent_at m e) (of.whole sound).objects (extent_of image m of sound e below)))
+    (markers_of_rows m.geometry image rows e (extent_at m e) (of.whole sound).objects (extent_of image m of sound e (inside image m e of below))))
 
 abbrev made : ℕ → Bool → Bool → Bool → Bool → ExtentState
 made e f x s u = record { extent = e; free = f; mixed = x; system = s; used = u }
@@ -60,7 +51,7 @@ made e f x s u = record { extent = e; free = f; mixed = x; system = s; used = u 
 extent_same : (image : Image) (m : AllocMap) → IsMapOf image m → m.system.items ≡ [] → (e : ℕ) → e < extent_count image
     → extent_state m e ≡ seen_extent m.geometry image e (holds_use m.uses.items e)
 extent_same image m of sound e below =
-    let is = extent_of image m of sound e below in
+    let is = extent_of image m of sound e (inside image m e of below) in
     let system = is_system_extent m.geometry e in
     let used = holds_use m.uses.items e in
     ap (λ f. made e f (extent_at m e).mixed system used) is.free ∙ ap (λ x. made e (is_free m.geometry image e) x system used) is.mixed

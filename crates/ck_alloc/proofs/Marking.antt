@@ -6,7 +6,8 @@ use Rattle.std.specs.List.{range_with_len}
 use Rattle.db_cat.specs.declared.rows.CatRow.{CatRow}
 use Rattle.ck_facts.specs.declared.map.ExtentMap.{ExtentMap}
 use Rattle.ck_facts.specs.Maps.{has_mark}
-use Rattle.ck_alloc.specs.Held.{ids_of, marked_ids}
+use Rattle.ck_facts.specs.MapOf.{ids_of}
+use Rattle.ck_alloc.specs.Held.{marked_ids}
 
 kept : (p : ℕ → Bool) (n : ℕ) → filter p (range_with_len 0 (n + 1)) ≡ filter p (range_with_len 0 n) ++ cond (p n) (n ∷ []) []
 kept p n = simp map-id at (filter_of_map_range_with_len_more p (λ k. k) 0 n n (omega arith))

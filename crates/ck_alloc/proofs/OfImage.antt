@@ -7,13 +7,12 @@ use Rattle.std.proofs.lemmas.List.FromFn.{length-map-range_with_len, get_or-map-
 use Rattle.spec_file.specs.declared.geometry.Geometry.{Geometry}
 use Rattle.spec_file.specs.declared.role.Role.TheVariants as role
 use Rattle.spec_file.specs.Image.{Image, page, bit, maps_start}
-use Rattle.spec_file.specs.Places.{interval_size, pfs_span, pfs_page, gam_page, sgam_page, interval_of_page, is_free, is_mixed}
+use Rattle.spec_file.specs.Places.{interval_size, pfs_span, pfs_page, gam_page, sgam_page, interval_of_page, is_free, is_mixed, HasShape}
 use Rattle.spec_file.specs.Roles.{role_of, system_type, is_system_extent}
 use Rattle.spec_chain.specs.Uses.{pfs_byte}
 use Rattle.spec_check.specs.declared.report.CheckError.{CheckError}
 use Rattle.spec_check.specs.System.{IsSystemError}
 use Rattle.ck_error.specs.GatheringLaws.{gathers_as}
-use Rattle.ck_facts.specs.Maps.{HasShape}
 use Rattle.ck_alloc.specs.declared.places.SystemKind.{SystemKind}
 use Rattle.ck_alloc.specs.declared.places.SystemKind.TheVariants.{Pfs, Gam, Sgam}
 use Rattle.ck_alloc.specs.declared.system_maps.SystemMaps.{SystemMaps}

@@ -10,8 +10,7 @@ use Rattle.spec_file.specs.declared.pfs.PfsKind.TheVariants as kinds
 use Rattle.spec_file.specs.Image.{Image}
 use Rattle.spec_file.specs.Iam.{slot_count}
 use Rattle.spec_file.specs.Pfs.{expected}
-use Rattle.spec_file.specs.Roles.{role_of}
-use Rattle.spec_chain.specs.Chains.{is_for_objects}
+use Rattle.spec_file.specs.Roles.{role_of, is_for_objects}
 use Rattle.spec_chain.specs.Marks.{AreMarkers}
 use Rattle.spec_chain.specs.Uses.{Use, use_cmp, IsUse, AreUses, pfs_byte, is_allocated}
 use Rattle.spec_check.specs.declared.report.CheckError.{CheckError}
@@ -22,7 +21,7 @@ use Rattle.ck_facts.specs.declared.map.PageUse.{PageUse}
 use Rattle.ck_facts.specs.Maps.{use_of}
 use Rattle.ck_alloc.specs.declared.pages.PageState.{PageState}
 use Rattle.ck_alloc.specs.PageRules.{has_wrong_flags, has_wrong_fullness, holds_rows, TestSays, kind_of_place, kind_of_mark, UseSays, ByteSays, PageSays}
-use Rattle.ck_alloc.proofs.Members.{map_from, map_in, none_there, none_from, sorted_same}
+use Rattle.spec_check.specs.Members.{map_from, map_in, none_there, none_from, sorted_same}
 
 -- the state of a page of an image
 abbrev pub seen_page : Geometry → Image → ℕ → PageState

@@ -1,38 +1,21 @@
 -- The uses that a map keeps of a page are the page's uses.
-use Rattle.std.proofs.Common.{◌≡◌, ◌⊎◌, ◌↔◌, ℕ, ◌+◌, ◌*◌, ◌/◌, ◌<◌, ◌≤◌, ◌==◌, ◌||◌, Bool, true, false, not, nat_lt, IsTrue, List, [], ◌∷◌, Contains, map, filter, length, get_or, arith, sym, subst, ap, ◌∙◌, refl, inl, inr, ⊎_elim, Ordering}
+use Rattle.std.proofs.Common.{◌≡◌, ◌⊎◌, ◌↔◌, ℕ, ◌+◌, ◌*◌, ◌/◌, ◌<◌, ◌≤◌, ◌==◌, not, nat_lt, IsTrue, List, [], ◌∷◌, Contains, map, filter, length, arith, sym, subst, ◌∙◌, inl, inr, ⊎_elim, Ordering}
 use Rattle.std.specs.Ordering.{nat_cmp, on, ordering_then}
 use Rattle.std.specs.List.{AllByRecursion}
 use Rattle.std.specs.List.Sorted.{IsStrictlySortedBy}
-use Rattle.std.specs.declared.cmp.Ordering.TheVariants.{Less, Equal, Greater}
+use Rattle.std.specs.declared.cmp.Ordering.TheVariants.{Less, Equal}
 use Rattle.std.proofs.lemmas.Bool.{ltb-true, ltb-false, lt-ltb, le-ltb, not-true, not_from_false, eqb-true, eq-eqb, or_cases, or_left, or_right, false_from_ne_true}
-use Rattle.std.proofs.lemmas.Cmp.{nat_cmp_total, tied_itself, ranked, by_ranked}
+use Rattle.std.proofs.lemmas.Cmp.{nat_cmp_total, tied_itself}
 use Rattle.std.proofs.lemmas.List.Kept.{IsStrictlySortedBy-filter}
-use Rattle.std.proofs.lemmas.Map.Keys.{Less-from_sorted}
 use Rattle.spec_file.specs.declared.geometry.Geometry.{Geometry}
 use Rattle.spec_file.specs.Image.{Image}
 use Rattle.spec_chain.specs.Uses.{use_cmp, IsUse, AreUses}
 use Rattle.spec_check.specs.Maps.{HoldsUse}
 use Rattle.ck_facts.specs.declared.map.PageUse.{PageUse}
 use Rattle.ck_facts.specs.Maps.{page_use_cmp, use_of, AreAllUses}
-use Rattle.ck_alloc.specs.Held.{IsByPage, uses_between, holds_use}
-use Rattle.ck_alloc.proofs.Members.{cons_here, cons_there, map_from, map_in, filter_from, filter_in, none_there, some_there, sorted_map}
-
--- in the order of uses no page falls
-then_greater : (o : Ordering) → ordering_then Greater o ≡ Less → ⊥
-then_greater o h = cc
-
-page_rises : (a b : ℕ) (o : Ordering) → ordering_then (nat_cmp a b) o ≡ Less → a ≤ b
-page_rises a b o h = by_ranked (a < b) (a ≡ b) (b < a) (nat_cmp a b) (ranked a b (nat_cmp a b) refl)
-    (λ is less. omega arith) (λ is same. omega arith)
-    (λ is more. absurd (then_greater o (subst (λ t. ordering_then t o ≡ Less) is h)))
-
-pub by_page : (uses : List PageUse) → IsStrictlySortedBy page_use_cmp uses → IsByPage uses
-by_page uses sorted = record {
-  rises = λ i j d at below. ⊎_elim (λ less. page_rises _ _ _ (Less-from_sorted page_use_cmp uses i j d sorted less below))
-      (λ same. rw same (omega arith)) (split i j at);
-} where
-  split : (i j : ℕ) → i ≤ j → (i < j) ⊎ (i ≡ j)
-  split i j h = search (Rattle.std.proofs.Common.rules, arith)
+use Rattle.ck_facts.specs.PageUses.{uses_between}
+use Rattle.ck_alloc.specs.Held.{holds_use}
+use Rattle.spec_check.specs.Members.{cons_here, cons_there, map_from, map_in, filter_from, filter_in, none_there, some_there, sorted_map}
 
 -- of one page, they stand in the order of objects and places
 less_of_page : (a b : ℕ) (o : Ordering) → a ≡ b → ordering_then (nat_cmp a b) o ≡ Less → o ≡ Less

@@ -1,23 +1,17 @@
 -- What the rules of extents and pages say of the maps of a file.
-use Rattle.std.specs.Prelude.{◌⊎◌, ℕ, ◌+◌, ◌*◌, false, List, length, replicate, slice_index, slice_index_or}
+use Rattle.std.specs.Prelude.{◌⊎◌, ℕ, ◌+◌, ◌*◌, List, length, slice_index}
 use Rattle.spec_file.specs.Roles.{role_of, is_system_extent}
 use Rattle.spec_check.specs.declared.report.CheckError.{CheckError}
 use Rattle.ck_error.specs.Gathered.{Below}
 use Rattle.ck_facts.specs.declared.map.AllocMap.{AllocMap}
-use Rattle.ck_facts.specs.declared.map.ExtentMap.{ExtentMap}
 use Rattle.ck_facts.specs.declared.map.PageUse.{PageUse}
+use Rattle.ck_facts.specs.MapOf.{extent_at, ids_of}
+use Rattle.ck_facts.specs.PageUses.{uses_between}
 use Rattle.ck_alloc.specs.declared.extents.ExtentState.{ExtentState}
 use Rattle.ck_alloc.specs.declared.pages.PageState.{PageState}
-use Rattle.ck_alloc.specs.Held.{holds_use, uses_between, ids_of, marked_ids}
+use Rattle.ck_alloc.specs.Held.{holds_use, marked_ids}
 use Rattle.ck_alloc.specs.ExtentRules.{ExtentSays}
 use Rattle.ck_alloc.specs.PageRules.{PageSays}
-
--- what stands for the map of an extent past the file's end
-abbrev pub no_extent : ExtentMap
-no_extent = record { free = false; mixed = false; marks = replicate 16 0 }
-
-abbrev pub extent_at : AllocMap → ℕ → ExtentMap
-extent_at m e = slice_index_or m.extents.items e no_extent
 
 abbrev pub extent_state : AllocMap → ℕ → ExtentState
 extent_state m e = record {

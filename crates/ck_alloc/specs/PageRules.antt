@@ -1,21 +1,16 @@
 -- What the rules of uses and PFS bytes say of one page, by what the maps hold of it.
 use Rattle.std.specs.Prelude.{◌≡◌, ◌⊎◌, ℕ, ◌/◌, ◌%◌, ◌==◌, ◌&&◌, Bool, true, false, not, nat_lt, IsTrue, if◌then◌else◌, List, length, map, Option, Some, None}
-use Rattle.std.specs.Int.{bit_at}
 use Rattle.spec_file.specs.declared.pfs.PfsKind.{PfsKind}
 use Rattle.spec_file.specs.declared.pfs.PfsKind.TheVariants as kinds
 use Rattle.spec_file.specs.Iam.{slot_count}
-use Rattle.spec_file.specs.Pfs.{expected}
-use Rattle.spec_chain.specs.Chains.{is_for_objects}
+use Rattle.spec_file.specs.Pfs.{expected, is_allocated_byte}
+use Rattle.spec_file.specs.Roles.{is_for_objects}
 use Rattle.spec_check.specs.declared.report.CheckError.{CheckError}
 use Rattle.spec_check.specs.Pages.{lost_page, GivesTwoUses, kind_of_role, wrong_byte}
 use Rattle.ck_error.specs.Gathered.{Each}
 use Rattle.ck_facts.specs.declared.map.PageUse.{PageUse}
 use Rattle.ck_facts.specs.Maps.{use_of}
 use Rattle.ck_alloc.specs.declared.pages.PageState.{PageState}
-
--- a PFS byte tells that its page is allocated
-abbrev pub is_allocated_byte : ℕ → Bool
-is_allocated_byte byte = bit_at byte 6 == 1
 
 -- an ordinary page is allocated, and nobody owns it
 abbrev pub is_lost_page : PageState → List PageUse → List ℕ → Bool

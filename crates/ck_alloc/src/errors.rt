@@ -4,7 +4,8 @@ ghost use Rattle.spec_file.specs.Image.{Image};
 ghost use Rattle.spec_check.specs.Errors.{Lists};
 ghost use Rattle.spec_check.specs.Allocation.{IsAllocationError};
 ghost use Rattle.ck_error.specs.Gathered.{Adds, Below};
-ghost use Rattle.ck_facts.specs.MapOf.{IsMapOf};
+ghost use Rattle.ck_facts.specs.MapOf.{IsMapOf, extent_at};
+ghost use Rattle.ck_facts.specs.PageUses.{IsByPage};
 ghost use Rattle.ck_alloc.specs.Held as held;
 ghost use Rattle.ck_alloc.specs.MapRules as rules_of;
 ghost use Rattle.ck_alloc.specs.ExtentRules.{ExtentSays};
@@ -13,9 +14,8 @@ ghost use Rattle.ck_alloc.specs.PageRules.{PageSays};
 use crate::extents::{ExtentState, add_extent_errors};
 use crate::markers::{Markers, markers_of};
 use crate::pages::{PageState, add_page_errors};
-use crate::runs::uses_between;
 use ck_error::{CheckError, in_order};
-use ck_facts::{AllocMap, ExtentMap, PageUse};
+use ck_facts::{AllocMap, ExtentMap, PageUse, uses_between};
 use pg_base::{ExtentNo, PageNo};
 use pg_geom::{is_system, role_of};
 use spec_file::NoMemory;
@@ -24,7 +24,7 @@ use std::alloc::Global;
 fn extent_at(map: &AllocMap, e: u32) -> ExtentMap
     requires sound { map.now.system.items ≡ [] }
     requires inside { 8 * e < map.now.pages }
-    ensures { result ≡ rules_of.extent_at map.now e }
+    ensures { result ≡ extent_at map.now e }
 {
     map.extents[e as usize]
 }
@@ -32,7 +32,7 @@ fn extent_at(map: &AllocMap, e: u32) -> ExtentMap
 // Whether a page of the extent has a use, or is the boot page.
 fn holds_use(uses: &[PageUse], e: u32) -> bool
     requires { e < 65536 }
-    ensures { held.IsByPage uses.now → result ≡ held.holds_use uses.now e }
+    ensures { IsByPage uses.now → result ≡ held.holds_use uses.now e }
 {
     let used = uses_between(uses, 8 * e, 8 * e + 8);
     !used.is_empty() || e == 1
@@ -41,7 +41,7 @@ fn holds_use(uses: &[PageUse], e: u32) -> bool
 fn extent_state(map: &AllocMap, e: u32) -> ExtentState
     requires sound { map.now.system.items ≡ [] }
     requires inside { 8 * e < map.now.pages }
-    ensures state { held.IsByPage map.now.uses.items → result ≡ rules_of.extent_state map.now e }
+    ensures state { IsByPage map.now.uses.items → result ≡ rules_of.extent_state map.now e }
     ensures bound { result.extent < 65536 }
 {
     let extent = extent_at(map, e);
@@ -84,7 +84,7 @@ fn add_page(
 ) -> Result<(), NoMemory>
     requires sound { map.now.system.items ≡ [] }
     requires inside { p < map.now.pages }
-    ensures { OnOk result (held.IsByPage map.now.uses.items
+    ensures { OnOk result (IsByPage map.now.uses.items
         → Adds errors.old.items errors.new.items (PageSays (rules_of.page_state map.now p) (rules_of.uses_at map.now p) markers.now)) }
 {
     let state = page_state(map, p);
@@ -102,7 +102,7 @@ fn add_pages(
 ) -> Result<(), NoMemory>
     requires sound { map.now.system.items ≡ [] }
     requires inside { 8 * e < map.now.pages }
-    ensures { OnOk result (held.IsByPage map.now.uses.items
+    ensures { OnOk result (IsByPage map.now.uses.items
         → Adds errors.old.items errors.new.items
         (Below 8 (λ k. PageSays (rules_of.page_state map.now (8 * e + k)) (rules_of.uses_at map.now (8 * e + k)) markers.now))) }
 {
@@ -120,7 +120,7 @@ fn add_extent(
 ) -> Result<(), NoMemory>
     requires sound { map.now.system.items ≡ [] }
     requires inside { 8 * e < map.now.pages }
-    ensures { OnOk result (held.IsByPage map.now.uses.items
+    ensures { OnOk result (IsByPage map.now.uses.items
         → Adds errors.old.items errors.new.items (ExtentSays (rules_of.extent_state map.now e) markers.now)) }
 {
     let state = extent_state(map, e);
@@ -132,7 +132,7 @@ fn add_extent(
 fn add_part(errors: &mut Vec<CheckError>, map: &AllocMap, e: u32) -> Result<(), NoMemory>
     requires sound { map.now.system.items ≡ [] }
     requires inside { 8 * e < map.now.pages }
-    ensures { OnOk result (held.IsByPage map.now.uses.items
+    ensures { OnOk result (IsByPage map.now.uses.items
         → Adds errors.old.items errors.new.items (rules_of.PartOfMapSays map.now e)) }
 {
     let markers = markers_at(map, e);
@@ -144,7 +144,7 @@ fn add_part(errors: &mut Vec<CheckError>, map: &AllocMap, e: u32) -> Result<(), 
 // Adds the errors of all extents and pages.
 fn add_parts(errors: &mut Vec<CheckError>, map: &AllocMap) -> Result<(), NoMemory>
     requires { map.now.system.items ≡ [] }
-    ensures { OnOk result (held.IsByPage map.now.uses.items
+    ensures { OnOk result (IsByPage map.now.uses.items
         → Adds errors.old.items errors.new.items (Below (map.now.pages / 8) (rules_of.PartOfMapSays map.now))) }
 {
     for e in 0..map.extents() {
@@ -156,7 +156,7 @@ fn add_parts(errors: &mut Vec<CheckError>, map: &AllocMap) -> Result<(), NoMemor
 // The errors of chains, and those of all extents and pages.
 fn gathered(alloc: Global, map: &AllocMap) -> Result<Vec<CheckError>, NoMemory>
     requires { map.now.system.items ≡ [] }
-    ensures { IfOk result (λ errors. held.IsByPage map.now.uses.items
+    ensures { IfOk result (λ errors. IsByPage map.now.uses.items
         → Adds map.now.chains.items errors.items (Below (map.now.pages / 8) (rules_of.PartOfMapSays map.now))) }
 {
     let mut errors = Vec::from_slice(alloc, &map.chains)?;

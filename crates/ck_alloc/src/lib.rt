@@ -10,7 +10,6 @@ mod objects;
 mod pages;
 mod places;
 mod read;
-mod runs;
 mod system_maps;
 mod system_pages;
 mod wrong;
@@ -18,7 +17,6 @@ mod wrong;
 pub use errors::alloc_errors;
 pub use read::read_maps;
 pub use spec_check::{CheckError, CheckReport, TableLine};
-pub use wrong::is_page_of;
 
 #[cfg(test)]
 mod object_tests;

@@ -1,20 +1,13 @@
 // The objects that mark an extent.
 ghost use Rattle.std.specs.Prelude.{◌≡◌, ◌≤◌, ◌<◌, length};
-ghost use Rattle.ck_alloc.specs.Held.{ids_of, marked_ids};
-ghost use Rattle.ck_facts.specs.Maps.{has_mark};
+ghost use Rattle.ck_facts.specs.MapOf.{ids_of};
+ghost use Rattle.ck_alloc.specs.Held.{marked_ids};
 
 use arrayvec::ArrayVec;
 use ck_facts::{CatRow, ExtentMap};
 
 /// Ids of objects; a catalog has at most 128.
 pub type Markers = ArrayVec<u32, 128>;
-
-fn has_mark(extent: &ExtentMap, i: usize) -> bool
-    requires { i < 128 }
-    ensures { result ≡ has_mark extent.now i }
-{
-    (extent.marks[i / 8] >> (i % 8)) & 1 == 1
-}
 
 /// The ids of the objects that mark the extent, in the order of the objects.
 pub fn markers_of(objects: &[CatRow], extent: &ExtentMap) -> Markers
@@ -23,7 +16,7 @@ pub fn markers_of(objects: &[CatRow], extent: &ExtentMap) -> Markers
 {
     let mut ids = Markers::new();
     for i in 0..objects.len() {
-        if has_mark(extent, i) {
+        if extent.has_mark(i) {
             ids.push(objects[i].id.0);
         }
     }

@@ -1,6 +1,5 @@
 // The rules of uses and of PFS bytes.
 ghost use Rattle.std.specs.Prelude.{◌≡◌, ◌==◌, ◌&&◌, length, map, OnOk};
-ghost use Rattle.spec_chain.specs.Chains.{is_for_objects};
 ghost use Rattle.spec_check.specs.Pages as spec;
 ghost use Rattle.ck_error.specs.Gathered.{Adds, Each};
 ghost use Rattle.ck_facts.specs.Maps.{use_of};
@@ -9,7 +8,7 @@ ghost use Rattle.ck_alloc.specs.PageRules as rules_of;
 use ck_error::{CheckError, push_if};
 use ck_facts::PageUse;
 use pg_base::Role;
-use pg_pfs::{PfsKind, expected};
+use pg_pfs::{PfsKind, expected, is_allocated};
 use spec_file::NoMemory;
 
 /// What a page is for by its number, and its PFS byte.
@@ -18,18 +17,6 @@ pub struct PageState {
     pub page: u32,
     pub role: Role,
     pub byte: u8,
-}
-
-fn is_allocated(byte: u8) -> bool
-    ensures { result ≡ rules_of.is_allocated_byte byte }
-{
-    (byte >> 6) & 1 == 1
-}
-
-fn is_ordinary(role: Role) -> bool
-    ensures { result ≡ is_for_objects role }
-{
-    matches!(role, Role::Ordinary)
 }
 
 // Nobody uses the page, and nobody marks its extent.
@@ -42,7 +29,7 @@ fn is_unowned(uses: &[PageUse], markers: &[u32]) -> bool
 fn is_lost_page(state: &PageState, uses: &[PageUse], markers: &[u32]) -> bool
     ensures { result ≡ rules_of.is_lost_page state.now uses.now markers.now }
 {
-    is_ordinary(state.role) && is_allocated(state.byte) && is_unowned(uses, markers)
+    state.role.is_for_objects() && is_allocated(state.byte) && is_unowned(uses, markers)
 }
 
 fn lost_page_error(state: &PageState) -> CheckError

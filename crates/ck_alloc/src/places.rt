@@ -1,7 +1,6 @@
 // Where the system places of a file stand, and how many it has.
 ghost use Rattle.std.specs.Prelude.{◌≡◌, ◌*◌, ◌<◌};
-ghost use Rattle.spec_file.specs.Places.{page_limit};
-ghost use Rattle.ck_facts.specs.Maps.{HasShape};
+ghost use Rattle.spec_file.specs.Places.{page_limit, HasShape};
 ghost use Rattle.ck_alloc.specs.SystemPlaces as spec;
 
 use pg_base::{ExtentNo, Geometry, PageNo};

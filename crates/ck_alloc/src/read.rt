@@ -1,14 +1,13 @@
 // The maps of a file, read through a snapshot.
-ghost use Rattle.std.specs.Prelude.{◌≡◌, ◌↔◌, ◌<◌, ◌≤◌, ◌/◌, [], IsTrue, IfOk, IfSome, OnOk, Contains, List, length, vec_len, slice_get, Some};
+ghost use Rattle.std.specs.Prelude.{◌≡◌, ◌↔◌, ◌<◌, ◌≤◌, ◌/◌, [], IsTrue, IfOk, IfSome, OnOk, Contains, length, vec_len, slice_get, Some};
 ghost use Rattle.spec_file.specs.CatalogRows.{CatalogRow};
 ghost use Rattle.std.specs.Option.{ForSome};
 ghost use Rattle.std.specs.List.Sorted.{IsStrictlySortedBy};
-ghost use Rattle.spec_file.specs.Image.{Image};
 ghost use Rattle.pg_base.specs.Reading.{StopHasCause};
-ghost use Rattle.ck_facts.specs.Maps.{HasShape, page_use_cmp, AreObjects, rows_of_objects, AreExtents};
+ghost use Rattle.spec_file.specs.Places.{HasShape};
+ghost use Rattle.ck_facts.specs.Maps.{page_use_cmp, rows_of_objects};
 ghost use Rattle.ck_facts.specs.MapOf.{IsMapOf};
 ghost use Rattle.ck_facts.specs.declared.map.PageUse.{PageUse};
-ghost use Rattle.ck_alloc.specs.SystemMaps.{AreSystemMaps, HaveSizes};
 ghost use Rattle.ck_alloc.specs.ChainsRead.{AreChainsRead, AreBare, IsFoundIn};
 
 use crate::objects::objects_of;

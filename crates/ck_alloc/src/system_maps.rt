@@ -1,8 +1,8 @@
 // From the system pages of a file to what they say.
 ghost use Rattle.spec_file.specs.Catalog.{PassesCatalog};
-ghost use Rattle.std.specs.Prelude.{◌≡◌, ◌≤◌, [], ℕ, IfOk, IfSome, IsTrue};
+ghost use Rattle.std.specs.Prelude.{◌≡◌, ◌≤◌, [], IfOk, IfSome, IsTrue};
 ghost use Rattle.pg_base.specs.Reading.{StopHasCause};
-ghost use Rattle.ck_facts.specs.Maps.{HasShape};
+ghost use Rattle.spec_file.specs.Places.{HasShape};
 ghost use Rattle.ck_alloc.specs.SystemMaps.{AreSystemMaps, HaveSizes};
 
 use crate::places::SystemKind;

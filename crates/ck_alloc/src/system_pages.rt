@@ -1,12 +1,9 @@
 // The system places of a file, each read once into one page.
-ghost use Rattle.std.specs.Prelude.{◌≡◌, ◌≢◌, ◌+◌, ◌-◌, ◌*◌, ◌/◌, ◌≤◌, ◌<◌, ◌++◌, IfOk, IfSome, OnOk, IsTrue, min, map};
-ghost use Rattle.std.specs.List.{range_with_len};
-ghost use Rattle.spec_file.specs.Image.{bit, page as image_page};
+ghost use Rattle.std.specs.Prelude.{◌≡◌, ◌≢◌, ◌-◌, ◌*◌, ◌/◌, ◌≤◌, ◌<◌, IfOk, IfSome, OnOk, IsTrue, min};
+ghost use Rattle.spec_file.specs.Image.{page as image_page};
 ghost use Rattle.pg_base.specs.Reading.{StopHasCause};
-ghost use Rattle.spec_file.specs.Places.{interval_size as size_of, pfs_span as pfs_span_of, page_limit};
-ghost use Rattle.spec_file.specs.declared.geometry.Geometry.TheVariants.{Standard};
+ghost use Rattle.spec_file.specs.Places.{page_limit, HasShape};
 ghost use Rattle.ck_error.specs.Gathered.{Adds};
-ghost use Rattle.ck_facts.specs.Maps.{HasShape};
 ghost use Rattle.ck_alloc.specs.SystemPlaces as spec;
 ghost use Rattle.ck_alloc.specs.declared.places.SystemKind.TheVariants.{Pfs};
 ghost use Rattle.ck_alloc.specs.SystemMaps.{GivesError, SaysValues};

@@ -1,6 +1,5 @@
 // The errors of the system places and of the boot page.
 ghost use Rattle.std.specs.Prelude.{◌≡◌, ◌↔◌, ◌<◌, ◌/◌, ◌*◌, IsTrue, OnOk};
-ghost use Rattle.spec_file.specs.Header.{says};
 ghost use Rattle.spec_file.specs.Places as places;
 ghost use Rattle.spec_file.specs.Roles.{system_type};
 ghost use Rattle.spec_check.specs.System.{HasWrongHeader, IsWrong, IsErrorOf, wrong_page, wrong_interval};
@@ -8,17 +7,9 @@ ghost use Rattle.ck_error.specs.Gathered.{Adds};
 ghost use Rattle.ck_alloc.specs.SystemMaps.{GivesError};
 
 use db_cat::catalog_passes;
-use pg_base::{Geometry, NoMemory, Page, PageNo, Role, read_header};
+use pg_base::{Geometry, NoMemory, Page, PageNo, Role, is_page_of};
 use pg_geom::{interval_pages, role_of};
 use spec_check::CheckError;
-
-/// Whether a page has this type, and this number as its own.
-pub fn is_page_of(page: &Page, page_type: u8, p: u32) -> bool
-    ensures { result ≡ says page_type p page.now.bytes }
-{
-    let header = read_header(page);
-    header.page_type == page_type && header.page_id.0 == p
-}
 
 // The type that a page of this role must have.
 fn type_of(role: Role) -> Option<u8>
@@ -38,7 +29,7 @@ fn has_wrong_header(g: Geometry, p: PageNo, page: &Page) -> bool
     ensures { IsTrue result ↔ HasWrongHeader g p.0 page.now.bytes }
 {
     match type_of(role_of(g, p)) {
-        Some(page_type) => !is_page_of(page, page_type, p.0),
+        Some(page_type) => !is_page_of(page, page_type, p),
         None => false,
     }
 }

@@ -1,28 +1,26 @@
 -- What one page more, and the end of a chain, add to what was found.
-use Rattle.std.proofs.Common.{◌≡◌, ◌≢◌, ◌⊎◌, ◌↔◌, ℕ, zero, suc, ◌+◌, ◌*◌, ◌-◌, ◌/◌, ◌%◌, ◌<◌, ◌≤◌, ◌==◌, Bool, true, false, IsTrue, List, Option, Some, None, length, set, get_or, arith, rules, sym, subst, ap, inl, inr, ⊎_elim, refl, ◌∙◌}
+use Rattle.std.proofs.Common.{◌≡◌, ◌⊎◌, ℕ, ◌+◌, ◌*◌, ◌/◌, ◌%◌, ◌<◌, ◌≤◌, IsTrue, List, Option, Some, length, get_or, arith, rules, sym, subst, ap, inl, inr, ⊎_elim, refl, ◌∙◌}
 use Rattle.std.proofs.lemmas.Bool.{cases_order}
 use Rattle.spec_file.specs.declared.geometry.Geometry.{Geometry}
 use Rattle.spec_file.specs.declared.geometry.Geometry.TheVariants.{Standard, Small}
 use Rattle.spec_file.specs.Image.{Image, page}
-use Rattle.spec_file.specs.Places.{interval_size, extent_count}
+use Rattle.spec_file.specs.Places.{interval_size, is_inside}
 use Rattle.spec_file.specs.CatalogRows.{CatalogRow}
 use Rattle.spec_file.specs.Iam.{iam_interval, iam_mark, iam_slot}
-use Rattle.spec_chain.specs.Chains.{pointer, holder, is_inside, GoesOn, HasPages, HasLength, IsChainPage}
+use Rattle.spec_chain.specs.Chains.{pointer, holder, GoesOn, HasPages, HasLength, IsChainPage}
 use Rattle.spec_chain.specs.ChainLaws.{chain_has_one_length, page_below, below_page}
-use Rattle.spec_chain.specs.Marks.{IsMarked}
 use Rattle.spec_check.specs.declared.report.CheckError.{CheckError}
-use Rattle.spec_check.specs.Chains.{before, interval_at, error, error_of_end, end_error, IsFirstOf, IsErrorAt, IsErrorOfChain, RepeatsInterval, MarksOutside}
+use Rattle.spec_check.specs.Chains.{before, interval_at, error, end_error, IsFirstOf, IsErrorOfChain, RepeatsInterval}
 use Rattle.ck_error.specs.Gathered.{Adds, Below}
 use Rattle.ck_error.specs.GatheringLaws.{adds_as, adds_both, adds_below_none, adds_below_more}
 use Rattle.ck_facts.specs.declared.map.PageUse.{PageUse}
-use Rattle.ck_facts.specs.declared.map.ExtentMap.{ExtentMap}
 use Rattle.ck_chain.specs.declared.walk.Walk.{Walk}
 use Rattle.ck_chain.specs.declared.walk.Link.{Link}
 use Rattle.ck_chain.specs.declared.walk.Owner.{Owner}
 use Rattle.ck_chain.specs.declared.found.Found.{Found}
-use Rattle.ck_chain.specs.Marking.{AreMarkedAs, MarksFront}
-use Rattle.ck_chain.specs.Pages.{IntervalRepeats, MarksBehind}
-use Rattle.ck_chain.specs.Walks.{IsWalk, IsFirstBefore, TakesPage, PageGives, PageTells, GivesAt, UseAt, MarksOf, IsFound, IsUseOf, IsChainRead, inside_count}
+use Rattle.ck_chain.specs.Marking.{MarksFront}
+use Rattle.ck_chain.specs.Pages.{IntervalRepeats}
+use Rattle.ck_chain.specs.Walks.{IsFirstBefore, TakesPage, PageGives, GivesAt, UseAt, MarksOf, IsFound, IsUseOf, IsChainRead, inside_count}
 use Rattle.ck_chain.proofs.Markings.{marked_none, marked_as, marked_both}
 use Rattle.ck_chain.proofs.Looking.{IsOwner}
 

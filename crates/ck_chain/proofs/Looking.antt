@@ -1,11 +1,13 @@
 -- What a look at the next page of a walk says of the chain.
-use Rattle.std.proofs.Common.{◌≡◌, ◌⊎◌, ◌↔◌, ℕ, ◌<◌, Bool, true, false, not, IsTrue, if◌then◌else◌, List, Option, Some, None, length, get_or, arith, sym, subst, ap, inl, inr, ⊎_elim, refl, ◌∙◌}
+use Rattle.std.proofs.Common.{◌≡◌, ◌⊎◌, ℕ, ◌<◌, Bool, true, false, not, IsTrue, if◌then◌else◌, List, Option, Some, None, length, get_or, arith, sym, subst, ap, inl, inr, ⊎_elim, refl, ◌∙◌}
 use Rattle.std.proofs.lemmas.Option.{same_Some}
 use Rattle.spec_file.specs.Image.{Image, page}
 use Rattle.spec_file.specs.CatalogRows.{CatalogRow}
 use Rattle.spec_chain.specs.declared.end.ChainEnd.{ChainEnd}
 use Rattle.spec_chain.specs.declared.end.ChainEnd.TheVariants as end
-use Rattle.spec_chain.specs.Chains.{pointer, holder, IsMet, GoesOn, or_else, first_fault, fault_of_number, fault_of_bytes, end_at, is_inside, is_last, is_ordinary}
+use Rattle.spec_file.specs.Roles.{is_ordinary}
+use Rattle.spec_file.specs.Places.{is_inside}
+use Rattle.spec_chain.specs.Chains.{pointer, holder, IsMet, GoesOn, or_else, first_fault, fault_of_number, fault_of_bytes, end_at, is_last}
 use Rattle.spec_check.specs.Chains.{error_of_end, end_error}
 use Rattle.ck_chain.specs.declared.walk.Walk.{Walk}
 use Rattle.ck_chain.specs.declared.walk.Owner.{Owner}

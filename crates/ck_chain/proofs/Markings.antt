@@ -1,11 +1,10 @@
 -- Marks that one object gets besides.
-use Rattle.std.proofs.Common.{◌≡◌, ◌≢◌, ◌⊎◌, ℕ, ◌+◌, ◌<◌, Bool, rules, IsTrue, List, length, set, get_or, Some, arith, sym, subst, ap, inl, inr, ⊎_elim, refl, ◌∙◌}
+use Rattle.std.proofs.Common.{◌≡◌, ◌≢◌, ◌⊎◌, ℕ, ◌+◌, ◌<◌, Bool, rules, IsTrue, List, length, set, get_or, Some, arith, sym, subst, inl, inr, ⊎_elim, refl, ◌∙◌}
 use Rattle.std.proofs.lemmas.Bool.{cases_eq}
 use Rattle.std.proofs.lemmas.List.{get_or-set_other, get_or-set_same, length-set}
 use Rattle.std.proofs.lemmas.Option.{get_or_from_slice_get, slice_get_read, slice_get_within, slice_get-get_or, same_Some}
 use Rattle.std.specs.List.{slice_get}
 use Rattle.ck_facts.specs.declared.map.ExtentMap.{ExtentMap}
-use Rattle.ck_facts.specs.Maps.{has_mark}
 use Rattle.spec_file.specs.Iam.{iam_mark}
 use Rattle.ck_chain.specs.Marking.{IsMarkedAs, AreMarkedAs, MarksFront}
 

@@ -1,27 +1,15 @@
 -- A walk goes on by one page of the chain.
-use Rattle.std.proofs.Common.{◌≡◌, ◌≢◌, ◌⊎◌, ◌↔◌, ℕ, zero, suc, ◌+◌, ◌*◌, ◌-◌, ◌/◌, ◌%◌, ◌<◌, ◌≤◌, ◌==◌, Bool, true, false, IsTrue, if◌then◌else◌, List, Option, Some, None, length, set, get_or, arith, rules, sym, subst, ap, inl, inr, ⊎_elim, refl, ◌∙◌}
-use Rattle.std.proofs.lemmas.Bool.{cases_eq, cases_order, ne_eqb, eqb-true}
+use Rattle.std.proofs.Common.{◌≡◌, ◌≢◌, ◌⊎◌, ◌↔◌, ℕ, suc, ◌+◌, ◌-◌, ◌<◌, ◌==◌, true, false, IsTrue, if◌then◌else◌, List, length, set, get_or, arith, rules, sym, subst, ap, inl, inr, ⊎_elim, refl, ◌∙◌}
+use Rattle.std.proofs.lemmas.Bool.{cases_eq, ne_eqb}
 use Rattle.std.proofs.lemmas.List.{get_or-set_other, get_or-set_same, length-set}
-use Rattle.spec_file.specs.declared.geometry.Geometry.{Geometry}
-use Rattle.spec_file.specs.declared.geometry.Geometry.TheVariants.{Standard, Small}
 use Rattle.spec_file.specs.Image.{Image, page}
-use Rattle.spec_file.specs.Places.{interval_size, extent_count}
 use Rattle.spec_file.specs.CatalogRows.{CatalogRow}
-use Rattle.spec_file.specs.Iam.{iam_interval, iam_mark}
-use Rattle.spec_chain.specs.Chains.{pointer, holder, next_of, IsMet, GoesOn}
-use Rattle.spec_check.specs.declared.report.CheckError.{CheckError}
-use Rattle.spec_check.specs.Chains.{before, interval_at, error, IsFirstOf, IsErrorAt, RepeatsInterval}
-use Rattle.ck_error.specs.Gathered.{Adds, Below}
-use Rattle.ck_error.specs.GatheringLaws.{adds_as, adds_below_more}
-use Rattle.ck_facts.specs.Maps.{HasShape}
-use Rattle.ck_facts.specs.declared.map.PageUse.{PageUse}
+use Rattle.spec_file.specs.Iam.{iam_interval}
+use Rattle.spec_chain.specs.Chains.{pointer, holder, next_of, IsMet}
+use Rattle.spec_check.specs.Chains.{before, interval_at}
 use Rattle.ck_chain.specs.declared.walk.Walk.{Walk}
 use Rattle.ck_chain.specs.declared.walk.Owner.{Owner}
-use Rattle.ck_chain.specs.declared.found.Found.{Found}
-use Rattle.ck_chain.specs.Marking.{AreMarkedAs, MarksFront}
-use Rattle.ck_chain.specs.Pages.{IntervalRepeats}
-use Rattle.ck_chain.specs.Walks.{IsWalk, IsFirstBefore, GoesOnBehind, TakesPage, PageGives, PageTells, GivesAt, UseAt, MarksOf, IsFound, inside_count}
-use Rattle.ck_chain.proofs.Markings.{marked_as, marked_both}
+use Rattle.ck_chain.specs.Walks.{IsWalk, IsFirstBefore, GoesOnBehind}
 use Rattle.ck_chain.proofs.Looking.{IsOwner}
 
 upto : (j k : ℕ) → j < k + 1 → (j < k) ⊎ (j ≡ k)

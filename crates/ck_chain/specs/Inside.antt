@@ -1,16 +1,15 @@
 -- A pointer that goes on names a page of the file.
-use Rattle.std.specs.Prelude.{◌≡◌, ◌≢◌, ℕ, ◌*◌, ◌/◌, ◌<◌, ◌≤◌, ◌==◌, ◌&&◌, Bool, true, false, not, nat_lt, IsTrue, if◌then◌else◌, List, Option, Some, None}
+use Rattle.std.specs.Prelude.{◌≡◌, ◌≢◌, ℕ, ◌*◌, ◌/◌, ◌<◌, ◌≤◌, ◌==◌, ◌&&◌, Bool, true, false, not, nat_lt, IsTrue, if◌then◌else◌, List, Some, None}
 use Rattle.std.proofs.Common.{refl, subst, arith}
 use Rattle.std.proofs.lemmas.Bool.{and_parts, ltb-true}
 use Rattle.spec_file.specs.declared.geometry.Geometry.{Geometry}
-use Rattle.spec_chain.specs.declared.end.ChainEnd.{ChainEnd}
 use Rattle.spec_chain.specs.declared.end.ChainEnd.TheVariants as end
 use Rattle.spec_file.specs.declared.geometry.Geometry.TheVariants.{Standard, Small}
 use Rattle.spec_file.specs.Header.{says}
-use Rattle.spec_file.specs.Places.{interval_size}
+use Rattle.spec_file.specs.Places.{interval_size, is_inside, HasShape}
 use Rattle.spec_file.specs.Iam.{iam_interval, has_interval, is_iam_page}
-use Rattle.spec_chain.specs.Chains.{object_of, is_inside, is_last, is_ordinary, fault_of_number, fault_of_bytes}
-use Rattle.ck_facts.specs.Maps.{HasShape}
+use Rattle.spec_file.specs.Roles.{is_ordinary}
+use Rattle.spec_chain.specs.Chains.{object_of, is_last, fault_of_number, fault_of_bytes}
 
 no_fault : (inside last ordinary : Bool)
     → (if not inside then Some (if last then end.Whole else end.Outside) else (if not ordinary then Some end.NotIam else None)) ≡ None

@@ -1,9 +1,9 @@
 -- What one page of a chain gives, by its bytes.
-use Rattle.std.specs.Prelude.{◌≡◌, ◌≢◌, ◌⊎◌, ℕ, ◌+◌, ◌*◌, ◌<◌, ◌≤◌, IsTrue, List}
+use Rattle.std.specs.Prelude.{◌≡◌, ◌≢◌, ℕ, ◌+◌, ◌*◌, ◌≤◌, IsTrue, List}
 use Rattle.spec_file.specs.declared.geometry.Geometry.{Geometry}
-use Rattle.spec_file.specs.Places.{interval_size}
+use Rattle.spec_file.specs.Places.{interval_size, is_inside}
 use Rattle.spec_file.specs.Iam.{iam_interval, iam_sequence, iam_mark, iam_slot}
-use Rattle.spec_chain.specs.Chains.{prev_of, is_inside}
+use Rattle.spec_chain.specs.Chains.{prev_of}
 use Rattle.spec_check.specs.declared.report.CheckError.{CheckError}
 use Rattle.spec_check.specs.Chains.{error}
 use Rattle.ck_facts.specs.declared.map.PageUse.{PageUse}

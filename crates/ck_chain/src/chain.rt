@@ -1,12 +1,12 @@
 // The walk along a chain, page by page.
-ghost use Rattle.std.specs.Prelude.{◌≡◌, ◌+◌, ◌*◌, ◌/◌, ◌<◌, ◌≤◌, IsTrue, None, OnOk, IfOk, IfSome, length, vec_len, slice_index_or, false};
+ghost use Rattle.std.specs.Prelude.{◌≡◌, ◌*◌, ◌/◌, ◌<◌, ◌≤◌, IsTrue, None, OnOk, IfOk, IfSome, length, vec_len, slice_index_or, false};
 ghost use Rattle.spec_file.specs.Image.{page as image_page};
 ghost use Rattle.spec_file.specs.Iam.{iam_interval, has_interval};
 ghost use Rattle.pg_iam.specs.Views.{bytes_of, Views};
 ghost use Rattle.spec_file.specs.CatalogRows.{CatalogRow};
-ghost use Rattle.spec_chain.specs.Chains.{fault_of_number as number_fault, fault_of_bytes, next_of};
+ghost use Rattle.spec_chain.specs.Chains.{fault_of_number as number_fault};
 ghost use Rattle.pg_base.specs.Reading.{StopHasCause};
-ghost use Rattle.ck_facts.specs.Maps.{HasShape};
+ghost use Rattle.spec_file.specs.Places.{HasShape};
 ghost use Rattle.ck_chain.specs.Walks.{looked_at, met_end, inside_count, TakesPage, GoesOnBehind, IsChainRead};
 ghost use Rattle.std.specs.Option.{ForSome};
 

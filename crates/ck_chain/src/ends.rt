@@ -1,38 +1,16 @@
 // How a chain ends.
-ghost use Rattle.std.specs.Prelude.{◌≡◌, ◌<◌, ◌≤◌, ◌&&◌, ◌==◌, not, if◌then◌else◌, nat_lt, OnOk, Some};
+ghost use Rattle.std.specs.Prelude.{◌≡◌, ◌<◌, ◌≤◌, ◌&&◌, ◌==◌, if◌then◌else◌, OnOk, Some};
 ghost use Rattle.spec_file.specs.Places.{page_limit};
-ghost use Rattle.spec_file.specs.Header.{says};
-ghost use Rattle.spec_file.specs.Iam as spec;
 ghost use Rattle.spec_chain.specs.Chains as chains;
 ghost use Rattle.spec_chain.specs.declared.end.ChainEnd.TheVariants as end;
 ghost use Rattle.spec_check.specs.Chains.{error_of_end};
 ghost use Rattle.ck_error.specs.Gathered.{Adds};
 
 use ck_error::{CheckError, push_some};
-use pg_base::{Geometry, NoMemory, Page, PageNo, Role, read_header, u32_at};
-use pg_geom::{interval_pages, role_of};
+use pg_base::{Geometry, NoMemory, Page, PageNo, is_page_of, u32_at};
+use pg_geom::{is_inside, is_ordinary};
+use pg_iam::has_interval;
 use spec_chain::ChainEnd;
-
-pub(crate) fn is_inside(pages: u32, q: u32) -> bool
-    ensures { result ≡ chains.is_inside pages q }
-{
-    q != 0 && q < pages
-}
-
-fn is_ordinary(g: Geometry, q: u32) -> bool
-    requires { q < page_limit g }
-    ensures { result ≡ chains.is_ordinary g q }
-{
-    match role_of(g, PageNo(q)) {
-        Role::Ordinary => true,
-        Role::FileHeader => false,
-        Role::Pfs => false,
-        Role::Gam => false,
-        Role::Sgam => false,
-        Role::Reserved => false,
-        Role::Boot => false,
-    }
-}
 
 // What a pointer that is no page of the file is, behind so many pages of the chain.
 fn outside(count: u32, q: u32) -> ChainEnd
@@ -50,39 +28,26 @@ pub fn fault_of_number(g: Geometry, pages: u32, count: u32, q: u32) -> Option<Ch
     requires { pages ≤ page_limit g }
     ensures { result ≡ chains.fault_of_number g pages count q }
 {
-    if !is_inside(pages, q) {
+    if !is_inside(pages, PageNo(q)) {
         return Some(outside(count, q));
     }
-    if !is_ordinary(g, q) {
+    if !is_ordinary(g, PageNo(q)) {
         return Some(ChainEnd::NotIam);
     }
     None
-}
-
-fn is_iam_type(page: &Page, q: u32) -> bool
-    ensures { result ≡ says 10 q page.now.bytes }
-{
-    let header = read_header(page);
-    header.page_type == 10 && header.page_id.0 == q
-}
-
-fn has_interval(g: Geometry, pages: u32, page: &Page) -> bool
-    ensures { result ≡ spec.has_interval g pages (spec.iam_interval page.now.bytes) }
-{
-    interval_pages(g) as u64 * (u32_at(&page.bytes, 96) as u64) < pages as u64
 }
 
 /// What is wrong with page q of an object's chain, by its bytes.
 pub fn fault_of_page(g: Geometry, pages: u32, id: u32, q: u32, page: &Page) -> Option<ChainEnd>
     ensures { result ≡ chains.fault_of_bytes g pages id q page.now.bytes }
 {
-    if !is_iam_type(page, q) {
+    if !is_page_of(page, 10, PageNo(q)) {
         return Some(ChainEnd::NotIam);
     }
     if u32_at(&page.bytes, 8) != id {
         return Some(ChainEnd::OtherObject);
     }
-    if !has_interval(g, pages, page) {
+    if !has_interval(g, pages, u32_at(&page.bytes, 96)) {
         return Some(ChainEnd::WrongInterval);
     }
     None

@@ -1,9 +1,8 @@
 // What the pages of a chain give.
-ghost use Rattle.std.specs.Prelude.{◌≡◌, ◌⊎◌, ◌+◌, ◌*◌, ◌-◌, ◌/◌, ◌<◌, ◌≤◌, IsTrue, OnOk, vec_len, min, slice_index_or};
+ghost use Rattle.std.specs.Prelude.{◌≡◌, ◌+◌, ◌*◌, ◌-◌, ◌/◌, ◌<◌, ◌≤◌, OnOk, vec_len};
 ghost use Rattle.spec_file.specs.Places as places;
 ghost use Rattle.spec_file.specs.Iam as spec;
 ghost use Rattle.ck_error.specs.Gathered.{Adds, Below};
-ghost use Rattle.ck_facts.specs.Maps.{HasShape};
 ghost use Rattle.pg_iam.specs.Views.{bytes_of, Views};
 ghost use Rattle.ck_chain.specs.Pages.{SlotBehind, SlotHolds};
 ghost use Rattle.ck_chain.specs.Walks.{PageGives, PageTells, TakesPage};

@@ -1,5 +1,5 @@
 // The extents that an object marks.
-ghost use Rattle.std.specs.Prelude.{◌≡◌, ◌+◌, ◌*◌, ◌<◌, ◌≤◌, vec_len, IsTrue, ⊤};
+ghost use Rattle.std.specs.Prelude.{◌≡◌, ◌+◌, ◌<◌, ◌≤◌, vec_len, IsTrue, ⊤};
 ghost use Rattle.pg_iam.specs.Views.{bytes_of, Views};
 ghost use Rattle.ck_chain.specs.Marking.{IsMarkedAs, AreMarkedAs, MarksFront};
 

@@ -1,5 +1,5 @@
 // The errors of one page of a chain.
-ghost use Rattle.std.specs.Prelude.{◌≡◌, ◌≢◌, ◌⊎◌, ◌↔◌, ◌+◌, ◌*◌, ◌<◌, ◌≤◌, IsTrue, OnOk};
+ghost use Rattle.std.specs.Prelude.{◌≢◌, ◌⊎◌, ◌↔◌, ◌+◌, ◌*◌, ◌<◌, ◌≤◌, IsTrue, OnOk};
 ghost use Rattle.spec_file.specs.Places as places;
 ghost use Rattle.spec_file.specs.Iam as spec;
 ghost use Rattle.ck_error.specs.Gathered.{Adds, Below};

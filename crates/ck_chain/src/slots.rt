@@ -1,15 +1,15 @@
 // The single-page slots of an object: those of its chain's first page.
 ghost use Rattle.std.specs.Prelude.{◌≡◌, ◌<◌, ◌≤◌, ◌↔◌, IsTrue, OnOk};
 ghost use Rattle.spec_file.specs.Iam as spec;
-ghost use Rattle.spec_chain.specs.Chains.{is_inside as inside};
+ghost use Rattle.spec_file.specs.Places as places;
 ghost use Rattle.ck_error.specs.Gathered.{Adds, Below};
 ghost use Rattle.pg_iam.specs.Views.{bytes_of};
 ghost use Rattle.ck_chain.specs.Pages.{SlotBehind, SlotHolds};
 
-use crate::ends::is_inside;
 use ck_error::{CheckError, push_if};
 use ck_facts::PageUse;
-use pg_base::NoMemory;
+use pg_base::{NoMemory, PageNo};
+use pg_geom::is_inside;
 use pg_iam::IamView;
 
 // The page in slot i, 0 for none.
@@ -84,7 +84,7 @@ fn take_slot(
     ensures { OnOk result (Adds uses.old.items uses.new.items (SlotHolds pages id (bytes_of iam.now) i)) }
 {
     let page = slot_at(iam, i);
-    if !is_inside(pages, page) {
+    if !is_inside(pages, PageNo(page)) {
         return Ok(());
     }
     uses.push(PageUse {

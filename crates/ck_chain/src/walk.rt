@@ -1,5 +1,5 @@
 // Where a walk along a chain stands.
-ghost use Rattle.std.specs.Prelude.{◌≡◌, ◌≢◌, ◌<◌, ◌+◌, ◌==◌, IfOk, length, vec_len, slice_index_or, if◌then◌else◌, ℕ, true, false};
+ghost use Rattle.std.specs.Prelude.{◌≡◌, ◌<◌, ◌+◌, ◌==◌, IfOk, vec_len, slice_index_or, if◌then◌else◌, ℕ, true, false};
 ghost use Rattle.std.proofs.Math.ListN.{set};
 
 use pg_base::{Geometry, NoMemory};

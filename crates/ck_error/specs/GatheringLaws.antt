@@ -1,14 +1,14 @@
 -- How lists of errors grow: by one rule after another, and by one number or member after another.
-use Rattle.std.specs.Prelude.{◌≡◌, ◌⊎◌, ◌↔◌, ℕ, ◌+◌, ◌<◌, Bool, true, false, IsTrue, List, [], ◌∷◌, ◌++◌, length, take, slice_index_or, Contains}
-use Rattle.std.proofs.Common.{arith, rules, sym, refl, subst, inl, inr, ⊎_elim, ◌∙◌, get_or}
+use Rattle.std.specs.Prelude.{◌≡◌, ◌⊎◌, ◌↔◌, ℕ, ◌+◌, ◌<◌, ◌≤◌, Bool, IsTrue, List, [], ◌∷◌, ◌++◌, length, take, Contains}
+use Rattle.std.proofs.Common.{arith, rules, sym, ap, subst, inl, inr, ⊎_elim, ◌∙◌, get_or}
+use Rattle.std.proofs.lemmas.List.{take_more}
+use Rattle.std.proofs.Math.Seq.{take-length}
 use Rattle.std.proofs.lemmas.List.Elements.{Contains-push, Contains-push_cases, Contains-append_left}
 use Rattle.spec_check.specs.declared.report.CheckError.{CheckError}
 use Rattle.spec_check.specs.Errors.{Lists, error_cmp}
 use Rattle.std.specs.List.Sorted.{IsStrictlySortedBy}
+use Rattle.spec_check.specs.Members.{nothing_there}
 use Rattle.ck_error.specs.Gathered.{Gathers, Adds, Below, Each}
-
-nobody : {T : Type 0} (x : T) → Contains {X = T} [] x → ⊥
-nobody x h = omega (arith, h.1)
 
 -- one error more
 pub adds_push : {Z : Type 0} (xs : List Z) (y : Z) → Adds xs (xs ++ y ∷ []) (λ x. x ≡ y)
@@ -67,7 +67,7 @@ adds_below_more {Z} xs ys zs n R a b = adds_as xs zs (λ x. Below n R x ⊎ R n 
 
 -- no list has no member
 pub adds_each_none : {T Z : Type 0} (xs : List Z) (R : T → Z → Type 0) → Adds xs xs (Each [] R)
-adds_each_none {T} {Z} xs R = adds_none xs (Each [] R) (λ x s. nobody s.0 s.1)
+adds_each_none {T} {Z} xs R = adds_none xs (Each [] R) (λ x s. nothing_there s.0 s.1)
 
 -- one member more
 pub adds_each_more : {T Z : Type 0} (xs ys zs : List Z) (ms : List T) (m : T) (R : T → Z → Type 0)
@@ -77,10 +77,23 @@ adds_each_more {T} {Z} xs ys zs ms m R a b = adds_as xs zs (λ x. Each ms R x �
     (λ x s. ⊎_elim (λ old. inl (s.0, old, s.2)) (λ same. inr (subst (λ k. R k x) (sym same) s.2)) (Contains-push_cases ms m s.0 s.1))
     (adds_both xs ys zs (Each ms R) (R m) a b)
 
+-- one member more of those before place i
+pub adds_each_next : {T Z : Type 0} (xs ys zs : List Z) (ms : List T) (i : ℕ) (d : T) (R : T → Z → Type 0) → i < length ms
+    → Adds xs ys (Each (take i ms) R) → Adds ys zs (R (get_or ms i d)) → Adds xs zs (Each (take (i + 1) ms) R)
+adds_each_next {T} {Z} xs ys zs ms i d R below a b =
+    subst (λ l. Adds xs zs (Each l R)) (sym (take_more ms i d below)) (adds_each_more xs ys zs (take i ms) (get_or ms i d) R a b)
+
+-- those before the end are all
+pub adds_each_all : {T Z : Type 0} (xs ys : List Z) (ms : List T) (i : ℕ) (R : T → Z → Type 0) → length ms ≤ i → i ≤ length ms
+    → Adds xs ys (Each (take i ms) R) → Adds xs ys (Each ms R)
+adds_each_all {T} {Z} xs ys ms i R past within a =
+    let end : i ≡ length ms = omega arith in
+    subst (λ l. Adds xs ys (Each l R)) (ap (λ j. take j ms) end ∙ take-length ms) a
+
 -- a list that was empty has the rule's errors
 pub gathers_first : {Z : Type 0} (xs : List Z) (P : Z → Type 0) → Adds [] xs P → Gathers xs P
 gathers_first {Z} xs P a = record {
-  sound = λ x c. ⊎_elim (λ old. absurd (nobody x old)) (λ new. new) (a.sound x c);
+  sound = λ x c. ⊎_elim (λ old. absurd (nothing_there x old)) (λ new. new) (a.sound x c);
   complete = λ x s. a.complete x s;
 }
 

@@ -1,32 +1,9 @@
 -- The uses of a page are found among those of its extent.
-use Rattle.std.proofs.Common.{◌≡◌, ◌⊎◌, ℕ, ◌+◌, ◌<◌, ◌≤◌, ◌&&◌, Bool, true, false, not, nat_lt, List, [], ◌∷◌, filter, arith, rules, sym, subst, ap, ◌∙◌, refl, ⊎_elim, Ordering}
-use Rattle.std.specs.Ordering.{nat_cmp, ordering_then}
-use Rattle.std.specs.List.Sorted.{IsStrictlySortedBy}
-use Rattle.std.specs.declared.cmp.Ordering.TheVariants.{Less, Greater}
+use Rattle.std.proofs.Common.{◌≡◌, ℕ, ◌+◌, ◌<◌, ◌≤◌, ◌&&◌, Bool, true, false, not, nat_lt, List, [], ◌∷◌, filter, arith, sym, ap, ◌∙◌, refl}
 use Rattle.std.proofs.lemmas.Bool.{ltb-true, ltb-false, lt-ltb, le-ltb, not-true, and_parts}
-use Rattle.std.proofs.lemmas.Cmp.{ranked, by_ranked}
 use Rattle.std.proofs.lemmas.List.Kept.{IsNonDecreasingBy-filter}
-use Rattle.std.proofs.lemmas.Map.Keys.{Less-from_sorted}
 use Rattle.ck_facts.specs.declared.map.PageUse.{PageUse}
-use Rattle.ck_facts.specs.Maps.{page_use_cmp}
 use Rattle.ck_facts.specs.PageUses.{IsByPage, uses_between}
-
--- in the order of uses no page falls
-then_greater : (o : Ordering) → ordering_then Greater o ≡ Less → ⊥
-then_greater o h = cc
-
-page_rises : (a b : ℕ) (o : Ordering) → ordering_then (nat_cmp a b) o ≡ Less → a ≤ b
-page_rises a b o h = by_ranked (a < b) (a ≡ b) (b < a) (nat_cmp a b) (ranked a b (nat_cmp a b) refl)
-    (λ is less. omega arith) (λ is same. omega arith)
-    (λ is more. absurd (then_greater o (subst (λ t. ordering_then t o ≡ Less) is h)))
-
-pub by_page : (uses : List PageUse) → IsStrictlySortedBy page_use_cmp uses → IsByPage uses
-by_page uses sorted = record {
-  rises = λ i j d at below. ⊎_elim (λ less. page_rises _ _ _ (Less-from_sorted page_use_cmp uses i j d sorted less below))
-      (λ same. rw same (omega arith)) (split i j at);
-} where
-  split : (i j : ℕ) → i ≤ j → (i < j) ⊎ (i ≡ j)
-  split i j h = search (rules, arith)
 
 pub between_by_page : (low high : ℕ) (uses : List PageUse) → IsByPage uses → IsByPage (uses_between low high uses)
 between_by_page low high uses h = record {

@@ -4,4 +4,3 @@ pub mod Filtering
 pub mod OwnerLists
 pub mod OwnerLaws
 pub mod Between
-pub mod Members

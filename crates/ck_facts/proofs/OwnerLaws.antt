@@ -13,11 +13,12 @@ use Rattle.std.proofs.lemmas.Bool.{ltb-true, ltb-false, lt-ltb, le-ltb, not-true
 use Rattle.std.proofs.lemmas.Cmp.{nat_cmp_total, tied_itself}
 use Rattle.std.proofs.lemmas.List.FromFn.{get_or-map-range_with_len, get_or-range_with_len, length-range_with_len}
 use Rattle.std.proofs.lemmas.Map.Keys.{sorted_tail}
-use Rattle.std.proofs.lemmas.Option.{slice_get-get_or, slice_get-map, slice_get_cases, slice_get_within, get_or_from_slice_get, same_Some}
+use Rattle.std.proofs.lemmas.Option.{slice_get-map, slice_get_cases, slice_get_within, get_or_from_slice_get, same_Some}
 use Rattle.std.proofs.lemmas.List.{get_or_default, get_or-replicate, get_or_past, length-replicate}
 use Rattle.std.proofs.lemmas.Nat.Bits.{bit_at-zero}
 use Rattle.spec_file.specs.declared.geometry.Geometry.{Geometry}
 use Rattle.spec_file.specs.Image.{Image}
+use Rattle.spec_file.specs.Pfs.{is_allocated_byte}
 use Rattle.spec_file.specs.CatalogRows.{CatalogRow}
 use Rattle.spec_chain.specs.Chains.{IsObject}
 use Rattle.spec_chain.specs.Marks.{IsMarked}
@@ -27,14 +28,15 @@ use Rattle.db_cat.specs.Rows.{row_of}
 use Rattle.ck_facts.specs.declared.map.AllocMap.{AllocMap}
 use Rattle.ck_facts.specs.declared.map.ExtentMap.{ExtentMap}
 use Rattle.ck_facts.specs.declared.map.PageUse.{PageUse}
-use Rattle.ck_facts.specs.MapOf.{IsMapOf}
-use Rattle.ck_facts.specs.Maps.{has_mark, AreObjects, AreAllUses, IsExtentOf, use_of, rows_of_objects}
+use Rattle.ck_facts.specs.MapOf.{IsMapOf, no_extent, extent_at, ids_of}
+use Rattle.ck_facts.specs.MapLaws.{extent_of}
+use Rattle.ck_facts.specs.Maps.{has_mark, AreObjects, AreAllUses, use_of, rows_of_objects}
 use Rattle.ck_facts.specs.Owners.{IsObjectAt, AreOwnersIn}
-use Rattle.ck_facts.specs.OwnedBy.{no_extent, extent_at, has_allocated_bit, is_marked, is_single, is_held, ids_of, is_owned_by, owned_at, owners_of, IsUnowned}
+use Rattle.ck_facts.specs.OwnedBy.{is_marked, is_single, is_held, is_owned_by, owned_at, owners_of, IsUnowned}
 use Rattle.ck_facts.specs.PageUses.{IsByPage, uses_between}
 use Rattle.ck_facts.specs.declared.owners.OwnedPage.{OwnedPage}
-use Rattle.ck_facts.proofs.Members.{nothing_there, cons_cases, cons_here, cons_there, filter_from, filter_in, below}
-use Rattle.ck_facts.proofs.Between.{by_page, between_by_page, page_in_extent}
+use Rattle.spec_check.specs.Members.{nothing_there, cons_cases, cons_here, cons_there, filter_from, filter_in, below}
+use Rattle.ck_facts.proofs.Between.{between_by_page, page_in_extent}
 use Rattle.ck_facts.proofs.OwnerLists.{AreOwnersUpTo}
 
 pub empty_list : {X : Type 0} (xs : List X) → length xs ≡ 0 → xs ≡ []
@@ -132,18 +134,14 @@ marked_same : (image : Image) (m : AllocMap) (i p : ℕ) (row : CatalogRow) → 
     → IsObjectAt m i row → p < m.pages
     → IsTrue (is_marked m i p) ↔ (IsMarked m.geometry image row (p / 8) × IsTrue (is_allocated m.geometry image p))
 marked_same image m i p row of sound at low =
-    let kept : m.extents.len ≡ m.pages / 8 = (m.sizes sound).extents in
-    let long : m.extents.len ≡ length m.extents.items = m.extents.ok.0 in
-    let inside = extent_inside m.pages p m.shape.whole low in
     let x : ExtentMap = extent_at m (p / 8) in
-    let is : IsExtentOf m.geometry image (rows_of_objects m.objects.items) (p / 8) x = (of.whole sound).extents.each (p / 8) x
-    (slice_get-get_or m.extents.items (p / 8) no_extent (omega (arith, inside, kept, long))) in
+    let is = extent_of image m of sound (p / 8) (extent_inside m.pages p m.shape.whole low) in
     let byte : slice_index m.pfs.items p ≡ pfs_byte m.geometry image p = ap (λ (l : List ℕ). slice_index l p) (of.whole sound).pfs
     ∙ get_or-map-range_with_len (pfs_byte m.geometry image) 0 m.pages p p 0 low (omega arith) in
-    let bit : has_allocated_bit (slice_index m.pfs.items p) ≡ is_allocated m.geometry image p = ap has_allocated_bit byte in (
-      λ h. let parts = both (has_mark x i) (has_allocated_bit (slice_index m.pfs.items p)) h in
+    let bit : is_allocated_byte (slice_index m.pfs.items p) ≡ is_allocated m.geometry image p = ap is_allocated_byte byte in (
+      λ h. let parts = both (has_mark x i) (is_allocated_byte (slice_index m.pfs.items p)) h in
           ((is.marks i row at).0 parts.0, subst (λ b. IsTrue b) bit parts.1),
-      λ h. and_from (has_mark x i) (has_allocated_bit (slice_index m.pfs.items p)) ((is.marks i row at).1 h.0) (subst (λ b. IsTrue b) (sym bit) h.1),
+      λ h. and_from (has_mark x i) (is_allocated_byte (slice_index m.pfs.items p)) ((is.marks i row at).1 h.0) (subst (λ b. IsTrue b) (sym bit) h.1),
     )
 
 row_there : (rows : List CatalogRow) (i : ℕ) (row : CatalogRow) → slice_get rows i ≡ Some row → Contains rows row
@@ -232,7 +230,7 @@ owners_are image m e n owned of sound count inside h = record {
 -- nobody owns a page of an extent that nobody marks and whose pages have no use
 unmarked_here : (m : AllocMap) (p i : ℕ) → has_mark (extent_at m (p / 8)) i ≡ false → IsTrue (is_marked m i p) → ⊥
 unmarked_here m p i none h =
-    let marked = (both (has_mark (extent_at m (p / 8)) i) (has_allocated_bit (slice_index m.pfs.items p)) h).0 in
+    let marked = (both (has_mark (extent_at m (p / 8)) i) (is_allocated_byte (slice_index m.pfs.items p)) h).0 in
     let no_ : false ≡ true = sym none ∙ marked in cc
 
 pub never_owned : (m : AllocMap) (e : ℕ) (uses : List PageUse) → IsUnowned m e uses → uses ≡ uses_between (8 * e) (8 * e + 8) m.uses.items
@@ -253,9 +251,6 @@ uses_found m low p found here sorted first second from below_end =
     let is = first sorted in
     second (subst IsByPage (sym is) (between_by_page low (low + 8) m.uses.items sorted))
     ∙ (ap (uses_between p (p + 1)) is ∙ page_in_extent p low (low + 8) m.uses.items from below_end)
-
-pub sorted_uses : (image : Image) (m : AllocMap) → IsMapOf image m → m.system.items ≡ [] → IsByPage m.uses.items
-sorted_uses image m of sound = by_page m.uses.items (of.whole sound).uses.sorted
 
 -- what holds of each owner of a page
 each_place : (n k : ℕ) → k < n → slice_index (range_with_len 0 n) k < n

@@ -1,16 +1,16 @@
 -- Lists of owned pages that grow page by page, and object by object.
 use Rattle.std.proofs.Common.{◌≡◌, ◌⊎◌, ℕ, zero, suc, ◌+◌, ◌<◌, ◌≤◌, Bool, true, false, IsTrue, List, [], ◌∷◌, ◌++◌, Contains, cond, arith, rules, sym, subst, ap, ◌∙◌, refl, inl, inr, ⊎_elim, append-nil, append_assoc}
-use Rattle.std.specs.List.{AllByRecursion}
 use Rattle.std.specs.List.Sorted.{IsStrictlySortedBy}
 use Rattle.std.specs.Ordering.{nat_cmp, ordering_then}
 use Rattle.std.specs.declared.cmp.Ordering.{Ordering}
 use Rattle.std.specs.declared.cmp.Ordering.TheVariants.{Less, Equal}
 use Rattle.std.proofs.lemmas.Cmp.{nat_cmp_total, tied_itself, ranked, by_ranked}
-use Rattle.std.proofs.lemmas.List.Elements.{Contains-push, Contains-push_cases, Contains-append_left, Contains-append_right}
+use Rattle.std.proofs.lemmas.List.Elements.{Contains-push, Contains-push_cases, Contains-append_left}
 use Rattle.std.proofs.lemmas.List.FromFn.{filter_of_map_range_with_len_more}
 use Rattle.ck_facts.specs.declared.map.AllocMap.{AllocMap}
 use Rattle.ck_facts.specs.declared.map.PageUse.{PageUse}
 use Rattle.ck_facts.specs.declared.owners.OwnedPage.{OwnedPage}
+use Rattle.spec_check.specs.Members.{nothing_there, sorted_none, sorted_push}
 use Rattle.ck_facts.specs.Owners.{owned_cmp}
 use Rattle.ck_facts.specs.OwnedBy.{is_owned_by, owned_at, owners_of}
 
@@ -42,48 +42,22 @@ below_next p i u h = ⊎_elim (λ less. less_first (nat_cmp u.page.0 p) (nat_cmp
     (λ same. less_second (nat_cmp u.page.0 p) (nat_cmp u.owner i)
     (subst (λ n. nat_cmp u.page.0 n ≡ Equal) same.0 (tied_itself nat_cmp_total u.page.0)) (less_of u.owner i same.1)) h
 
-all_push : {K : Type 0} (P : K → Type 0) (xs : List K) (z : K) → AllByRecursion P xs → P z → AllByRecursion P (xs ++ z ∷ [])
-all_push P [] z h at = (at, tt)
-all_push P (x ∷ xs) z h at = (h.0, all_push P xs z h.1 at)
-
-cons_here : {X : Type 0} (x : X) (xs : List X) → Contains (x ∷ xs) x
-cons_here x xs = Contains-append_left (x ∷ []) xs x (Contains-push [] x)
-
-cons_there : {X : Type 0} (x : X) (xs : List X) (y : X) → Contains xs y → Contains (x ∷ xs) y
-cons_there x xs y h = Contains-append_right (x ∷ []) xs y h
-
-sorted_push : {K : Type 0} (R : K → K → Ordering) (xs : List K) (z : K) → IsStrictlySortedBy R xs → ((y : K) → Contains xs y → R y z ≡ Less)
-    → IsStrictlySortedBy R (xs ++ z ∷ [])
-unfolding IsStrictlySortedBy
-sorted_push R [] z s below = (tt, tt)
-sorted_push R (x ∷ xs) z s below = (
-  all_push (λ y. R x y ≡ Less) xs z s.0 (below x (cons_here x xs)),
-  sorted_push R xs z s.1 (λ y c. below y (cons_there x xs y c)),
-)
-
-sorted_none : IsStrictlySortedBy owned_cmp []
-unfolding IsStrictlySortedBy
-sorted_none = tt
-
-nobody : (u : OwnedPage) → Contains {X = OwnedPage} [] u → ⊥
-nobody u h = omega (arith, h.1)
-
 upto : (a b : ℕ) → a < b + 1 → (a < b) ⊎ (a ≡ b)
 upto a b h = search (rules, arith)
 
 -- no page is passed
 pub owners_none : (owns : ℕ → ℕ → Bool) (n low : ℕ) → AreOwnersUpTo owns n low low 0 []
 owners_none owns n low = record {
-  sorted = sorted_none;
-  sound = λ u c. absurd (nobody u c);
+  sorted = sorted_none owned_cmp;
+  sound = λ u c. absurd (nothing_there u c);
   complete = λ u h. absurd (⊎_elim (λ less. let from = h.from in omega (arith, from, less)) (λ same. let none = same.1 in omega (arith, none)) h.before);
 }
 
 -- nobody owns a page
 pub owners_nowhere : (owns : ℕ → ℕ → Bool) (n low p : ℕ) → ((q i : ℕ) → low ≤ q → q < p → IsTrue (owns q i) → ⊥) → AreOwnersUpTo owns n low p 0 []
 owners_nowhere owns n low p never = record {
-  sorted = sorted_none;
-  sound = λ u c. absurd (nobody u c);
+  sorted = sorted_none owned_cmp;
+  sound = λ u c. absurd (nothing_there u c);
   complete = λ u h is. absurd (⊎_elim (λ less. never u.page.0 u.owner h.from less is) (λ same. let none = same.1 in omega (arith, none)) h.before);
 }
 

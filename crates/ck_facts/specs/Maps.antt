@@ -6,7 +6,7 @@ use Rattle.std.specs.Ordering.{nat_cmp, on, then_cmp}
 use Rattle.std.specs.declared.cmp.Ordering.{Ordering}
 use Rattle.spec_file.specs.declared.geometry.Geometry.{Geometry}
 use Rattle.spec_file.specs.Image.{Image}
-use Rattle.spec_file.specs.Places.{page_limit, is_free, is_mixed}
+use Rattle.spec_file.specs.Places.{is_free, is_mixed}
 use Rattle.spec_file.specs.CatalogRows.{CatalogRow}
 use Rattle.spec_chain.specs.Chains.{IsObject}
 use Rattle.spec_chain.specs.Marks.{IsMarked}
@@ -15,12 +15,6 @@ use Rattle.db_cat.specs.declared.rows.CatRow.{CatRow}
 use Rattle.db_cat.specs.Rows.{row_of}
 use Rattle.ck_facts.specs.declared.map.PageUse.{PageUse}
 use Rattle.ck_facts.specs.declared.map.ExtentMap.{ExtentMap}
-
--- a file of so many pages: whole extents, inside the geometry's limits
-pub record HasShape (g : Geometry) (pages : ℕ) : Type 0 where
-  pub low : 16 ≤ pages
-  pub high : pages ≤ page_limit g
-  pub whole : pages % 8 ≡ 0
 
 -- the catalog has at most 128 objects, and each extent and page of the file has its place
 pub record HasSizes (pages object_count extent_count byte_count : ℕ) : Type 0 where

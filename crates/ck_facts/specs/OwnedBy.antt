@@ -1,28 +1,16 @@
 -- Which pages objects own, as the maps tell it.
-use Rattle.std.specs.Prelude.{◌≡◌, ℕ, ◌/◌, ◌==◌, ◌&&◌, ◌||◌, Bool, false, nat_lt, List, [], map, filter, replicate, slice_index, slice_index_or}
+use Rattle.std.specs.Prelude.{◌≡◌, ℕ, ◌/◌, ◌==◌, ◌&&◌, ◌||◌, Bool, false, nat_lt, List, [], map, filter, slice_index}
 use Rattle.std.specs.List.{list_any, range_with_len}
-use Rattle.std.specs.Int.{bit_at}
-use Rattle.db_cat.specs.declared.rows.CatRow.{CatRow}
+use Rattle.spec_file.specs.Pfs.{is_allocated_byte}
 use Rattle.ck_facts.specs.declared.map.AllocMap.{AllocMap}
-use Rattle.ck_facts.specs.declared.map.ExtentMap.{ExtentMap}
 use Rattle.ck_facts.specs.declared.map.PageUse.{PageUse}
 use Rattle.ck_facts.specs.declared.owners.OwnedPage.{OwnedPage}
 use Rattle.ck_facts.specs.Maps.{has_mark}
-
--- what stands for the map of an extent past the file's end
-abbrev pub no_extent : ExtentMap
-no_extent = record { free = false; mixed = false; marks = replicate 16 0 }
-
-abbrev pub extent_at : AllocMap → ℕ → ExtentMap
-extent_at m e = slice_index_or m.extents.items e no_extent
-
--- a PFS byte says that its page is allocated
-abbrev pub has_allocated_bit : ℕ → Bool
-has_allocated_bit byte = bit_at byte 6 == 1
+use Rattle.ck_facts.specs.MapOf.{extent_at, ids_of}
 
 -- the i-th object marks the extent of page p, and the page is allocated
 abbrev pub is_marked : AllocMap → ℕ → ℕ → Bool
-is_marked m i p = has_mark (extent_at m (p / 8)) i && has_allocated_bit (slice_index m.pfs.items p)
+is_marked m i p = has_mark (extent_at m (p / 8)) i && is_allocated_byte (slice_index m.pfs.items p)
 
 -- the use is that of a single-page slot of the object
 abbrev pub is_single : ℕ → PageUse → Bool
@@ -31,10 +19,6 @@ is_single id u = (u.object == id) && nat_lt u.place 8
 -- one of the uses is that of a single-page slot of the object
 abbrev pub is_held : ℕ → List PageUse → Bool
 is_held id uses = list_any (is_single id) uses
-
--- the ids of the objects
-abbrev pub ids_of : List CatRow → List ℕ
-ids_of objects = map (λ row. row.id.0) objects
 
 -- the i-th object owns page p, which has these uses
 abbrev pub is_owned_by : AllocMap → List PageUse → ℕ → ℕ → Bool

@@ -1,11 +1,12 @@
 // The maps of a file.
-ghost use Rattle.std.specs.Prelude.{◌≡◌, ◌<◌, ◌≤◌, ◌*◌, ◌/◌, [], length, vec_len, slice_index};
-ghost use Rattle.spec_chain.specs.Chains.{is_ordinary};
-ghost use Rattle.ck_facts.specs.Maps.{HasShape, HasSizes};
+ghost use Rattle.std.specs.Prelude.{◌≡◌, ◌<◌, ◌/◌, [], vec_len, slice_index};
+ghost use Rattle.spec_file.specs.Roles as roles;
+ghost use Rattle.spec_file.specs.Places.{HasShape};
+ghost use Rattle.ck_facts.specs.Maps.{HasSizes};
 
 use crate::CatRow;
-use pg_base::{ExtentNo, Geometry, PageNo, Role};
-use pg_geom::role_of;
+use pg_base::{ExtentNo, Geometry, PageNo};
+use pg_geom::is_ordinary;
 use spec_check::CheckError;
 
 /// A use of a page: by a single-page slot of an object, or as a page of its IAM chain.
@@ -52,6 +53,18 @@ pub struct AllocMap {
     ghost sizes: { system.items ≡ [] → HasSizes pages (vec_len objects) (vec_len extents) (vec_len pfs) },
 }
 
+impl ExtentMap {
+    ghost use Rattle.ck_facts.specs.Maps.{has_mark};
+
+    /// Whether the i-th object marks the extent.
+    pub fn has_mark(&self, i: usize) -> bool
+        requires { i < 128 }
+        ensures { result ≡ has_mark self.now i }
+    {
+        (self.marks[i / 8] >> (i % 8)) & 1 == 1
+    }
+}
+
 impl AllocMap {
     /// The errors of system pages, in order.
     pub fn system_errors(&self) -> &[CheckError]
@@ -86,8 +99,8 @@ impl AllocMap {
     /// Whether a page is one that an object may own, by its number.
     pub fn ordinary(&self, p: PageNo) -> bool
         requires { p.0 < self.now.pages }
-        ensures { result ≡ is_ordinary self.now.geometry p.0 }
+        ensures { result ≡ roles.is_ordinary self.now.geometry p.0 }
     {
-        matches!(role_of(self.geometry, p), Role::Ordinary)
+        is_ordinary(self.geometry, p)
     }
 }

@@ -1,14 +1,14 @@
 // Which pages objects own.
 ghost use Rattle.std.specs.Prelude.{◌≡◌, ◌++◌, ◌<◌, ◌/◌, ◌||◌, [], IfOk, OnOk, IsTrue, All, vec_len};
 ghost use Rattle.spec_file.specs.Image.{Image};
-ghost use Rattle.ck_facts.specs.Maps as maps;
 ghost use Rattle.ck_facts.specs.MapOf.{IsMapOf};
 ghost use Rattle.ck_facts.specs.OwnedBy as spec;
 ghost use Rattle.ck_facts.specs.Owners.{AreOwnersIn};
 
 use crate::runs::uses_between;
-use crate::{AllocMap, ExtentMap, PageUse};
+use crate::{AllocMap, PageUse};
 use pg_base::{ExtentNo, NoMemory, PageNo};
+use pg_pfs::is_allocated;
 use std::alloc::Global;
 
 /// A page, and an object that it is allocated to.
@@ -17,19 +17,6 @@ pub struct OwnedPage {
     pub page: PageNo,
     /// The object's place among the objects of the map, which stand by id.
     pub owner: usize,
-}
-
-fn has_mark(extent: &ExtentMap, i: usize) -> bool
-    requires { i < 128 }
-    ensures { result ≡ maps.has_mark extent.now i }
-{
-    (extent.marks[i / 8] >> (i % 8)) & 1 == 1
-}
-
-fn is_allocated(byte: u8) -> bool
-    ensures { result ≡ spec.has_allocated_bit byte }
-{
-    (byte >> 6) & 1 == 1
 }
 
 // Whether one of the uses is that of a single-page slot of the object.
@@ -48,7 +35,7 @@ impl AllocMap {
         ensures { result ≡ spec.is_marked self.now i p.0 }
     {
         let extent = &self.extents[(p.0 / 8) as usize];
-        has_mark(extent, i) && is_allocated(self.pfs(p))
+        extent.has_mark(i) && is_allocated(self.pfs(p))
     }
 
     // Whether the i-th object owns page p, which has these uses.

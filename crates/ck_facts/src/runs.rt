@@ -21,7 +21,7 @@ fn below_page(uses: &[PageUse], high: u32) -> &[PageUse]
 }
 
 /// The uses of the pages from `low` up to `high`.
-pub(crate) fn uses_between(uses: &[PageUse], low: u32, high: u32) -> &[PageUse]
+pub fn uses_between(uses: &[PageUse], low: u32, high: u32) -> &[PageUse]
     ensures { IsByPage uses.now → result.now ≡ uses_between low high uses.now }
 {
     below_page(from_page(uses, low), high)

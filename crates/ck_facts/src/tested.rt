@@ -2,7 +2,7 @@
 ghost use Rattle.std.specs.Prelude.{◌≡◌, ◌+◌, ◌<◌, ◌≤◌, IsTrue, length};
 ghost use Rattle.spec_file.specs.Image.{number_at};
 ghost use Rattle.spec_rows.specs.Rows as rows;
-ghost use Rattle.spec_rows.specs.Slots.{slot_count, has_index_rows, page_row};
+ghost use Rattle.spec_rows.specs.Slots.{slot_count, has_index_rows};
 ghost use Rattle.spec_tables.specs.Heads as heads;
 ghost use Rattle.spec_tables.specs.PageRules as rules_of;
 ghost use Rattle.spec_tables.specs.Seen as seen;

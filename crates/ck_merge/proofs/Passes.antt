@@ -3,6 +3,7 @@ use Rattle.std.proofs.Common.{◌≡◌, ◌≢◌, ◌⊎◌, ℕ, ◌+◌, ◌
 use Rattle.std.proofs.lemmas.List.{get_or_default, get_or-set_same, get_or-set_other}
 use Rattle.std.proofs.lemmas.List.Elements.{Contains-push_cases}
 use Rattle.std.proofs.lemmas.Bool.{cases_lt}
+use Rattle.spec_check.specs.Members.{nothing_there}
 use Rattle.ck_facts.specs.declared.facts.Fact.{Fact}
 use Rattle.ck_merge.specs.declared.bucket.Bucket.{Bucket}
 use Rattle.ck_merge.specs.Filing.{Files, IsOf, IsEmpty, AddsTo, JoinsTo, KeepsFiles}
@@ -119,9 +120,6 @@ all_sorted n i old new past h = record { each = λ b u inside at. h.done b u (om
 
 nothing : {X : Type 0} (xs : List X) (x : X) → xs ≡ [] → Contains xs x → ⊥
 nothing xs x e h = let f : length xs ≡ 0 = ap length e in omega (arith, h.1)
-
-nothing_there : {X : Type 0} (x : X) → Contains {X = X} [] x → ⊥
-nothing_there x h = omega (arith, h.1)
 
 empty_files : (n b : ℕ) (u : Bucket) → IsEmpty u → Files n b [] u
 empty_files n b u e = record {

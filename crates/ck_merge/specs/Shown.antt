@@ -1,5 +1,5 @@
 -- What one link, one index row or one page shows of the rules between neighbours.
-use Rattle.std.specs.Prelude.{◌≡◌, ◌≢◌, ◌⊎◌, ℕ, ◌<◌, List, Contains}
+use Rattle.std.specs.Prelude.{◌≡◌, ◌≢◌, ◌⊎◌, ℕ, ◌<◌, Bool, true, false, List, Contains, Option, Some, None}
 use Rattle.spec_check.specs.declared.report.CheckError.{CheckError}
 use Rattle.spec_tree.specs.declared.known.Root.{Root}
 use Rattle.spec_tree.specs.declared.known.PageHead.{PageHead}
@@ -82,6 +82,13 @@ IsNamed rows r s = (s.page.0 ≡ r) ⊎ NamesPage rows s.object.0 s.page.0
 -- the page that s names as prev doesn't name s as next
 abbrev pub LacksPrev : List Link → PageHead → Type 0
 LacksPrev links s = (s.prev.0 ≢ 0) × (LinksPages links s.object.0 s.prev.0 s.page.0 → ⊥)
+
+-- the error of page s, by whether it has a parent and whether it has no prev
+abbrev pub place_error : PageHead → Bool → Bool → Option CheckError
+place_error s false true = Some (tree_error 8979 s.object.0 s.page.0 s.prev.0 0 0)
+place_error s false false = Some (tree_error 8977 s.object.0 s.page.0 0 0 0)
+place_error s true true = Some (tree_error 8978 s.object.0 s.page.0 s.prev.0 0 0)
+place_error s true false = None
 
 -- 8979, 8977 and 8978 of page s of a tree with root r
 abbrev pub LacksPlace : List IndexRow → List Link → ℕ → PageHead → CheckError → Type 0

@@ -1,5 +1,5 @@
-// Errors of trees, and tests of two tests.
-ghost use Rattle.std.specs.Prelude.{◌≡◌, ◌↔◌, IsTrue};
+// Errors of trees.
+ghost use Rattle.std.specs.Prelude.{◌≡◌};
 ghost use Rattle.spec_tree.specs.ParentRules as rules;
 
 use crate::ObjId;
@@ -33,22 +33,4 @@ pub fn row_error(number: u32, c: &IndexRow, value: u64) -> CheckError
         slot: c.slot as u32,
         value,
     }
-}
-
-pub fn both(a: bool, b: bool) -> bool
-    ensures { IsTrue result ↔ (IsTrue a × IsTrue b) }
-{
-    a && b
-}
-
-pub fn only_second(a: bool, b: bool) -> bool
-    ensures { IsTrue result ↔ ((IsTrue a → ⊥) × IsTrue b) }
-{
-    !a && b
-}
-
-pub fn neither(a: bool, b: bool) -> bool
-    ensures { IsTrue result ↔ ((IsTrue a → ⊥) × (IsTrue b → ⊥)) }
-{
-    !a && !b
 }

@@ -1,5 +1,5 @@
 // The errors between the pages of a bucket and their parents.
-ghost use Rattle.std.specs.Prelude.{◌≡◌, ◌↔◌, ◌%◌, ◌<◌, List, OnOk, Some};
+ghost use Rattle.std.specs.Prelude.{◌≡◌, ◌↔◌, ◌<◌, List, OnOk, Some};
 ghost use Rattle.spec_check.specs.declared.report.CheckError.{CheckError};
 ghost use Rattle.spec_tree.specs.declared.known.Root.{Root};
 ghost use Rattle.ck_error.specs.Gathered.{Adds, Each};

@@ -35,7 +35,7 @@ fn empty_buckets(alloc: Global, count: u32) -> Result<Vec<Bucket>, NoMemory>
 }
 
 impl Parts {
-    ghost use Rattle.std.specs.Prelude.{◌++◌, [], List, OnOk, Contains};
+    ghost use Rattle.std.specs.Prelude.{◌++◌, [], List, OnOk};
     ghost use Rattle.spec_check.specs.Errors.{Lists};
     ghost use Rattle.spec_tree.specs.Trees.{IsTreeError};
     ghost use Rattle.ck_error.specs.Gathered.{Gathers, Below};

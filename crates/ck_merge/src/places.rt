@@ -4,12 +4,12 @@ ghost use Rattle.ck_error.specs.Gathered.{Adds, Each};
 ghost use Rattle.spec_tree.specs.NeighbourRules.{HasNoPlace};
 ghost use Rattle.ck_merge.specs.Filing.{known_in, InBucket};
 ghost use Rattle.ck_merge.specs.Runs.{IsByNext, IsByChild, IsSorted};
-ghost use Rattle.ck_merge.specs.Shown.{IsNamed, LacksPrev, LacksPlace, LacksPlaceIn};
+ghost use Rattle.ck_merge.specs.Shown.{IsNamed, LacksPrev, LacksPlace, LacksPlaceIn, place_error};
 
 use crate::bucket::{Bucket, is_of};
-use crate::found::{both, neither, only_second, tree_error};
+use crate::found::tree_error;
 use crate::runs::{has_link_from, has_row};
-use ck_error::push_if;
+use ck_error::push_some;
 use ck_facts::CheckError;
 use pg_base::{NoMemory, PageNo};
 use spec_tree::{IndexRow, Link, PageHead, Root};
@@ -28,6 +28,18 @@ fn lacks_prev(links: &[Link], s: &PageHead) -> bool
     s.prev.0 != 0 && !has_link_from(links, s.object, s.prev, s.page)
 }
 
+// The error of a page, by whether it has a parent and whether it has no prev.
+fn place_error(s: &PageHead, named: bool, alone: bool) -> Option<CheckError>
+    ensures { result ≡ place_error s.now named alone }
+{
+    match (named, alone) {
+        (false, true) => Some(tree_error(8979, s.object, s.page, s.prev, 0)),
+        (false, false) => Some(tree_error(8977, s.object, s.page, PageNo(0), 0)),
+        (true, true) => Some(tree_error(8978, s.object, s.page, s.prev, 0)),
+        (true, false) => None,
+    }
+}
+
 fn unplaced(
     u: &Bucket,
     root: PageNo,
@@ -39,21 +51,7 @@ fn unplaced(
 {
     let named = is_named(&u.rows, root, s);
     let alone = lacks_prev(&u.links, s);
-    push_if(
-        errors,
-        only_second(named, alone),
-        tree_error(8979, s.object, s.page, s.prev, 0),
-    )?;
-    push_if(
-        errors,
-        neither(named, alone),
-        tree_error(8977, s.object, s.page, PageNo(0), 0),
-    )?;
-    push_if(
-        errors,
-        both(named, alone),
-        tree_error(8978, s.object, s.page, s.prev, 0),
-    )?;
+    push_some(errors, place_error(s, named, alone))?;
     Ok(())
 }
 

@@ -8,17 +8,6 @@ use std::alloc::Global;
 use std::test::Fail;
 use vol_dev::MemSink;
 
-fn refused(alloc: Global, number: u16) -> Refusal {
-    Refusal {
-        number,
-        name: Name::empty(alloc),
-        key: 0,
-        page: PageNo(0),
-        resource: None,
-        by: Tran(0),
-    }
-}
-
 // The text of the reply to statement 3 of session 2.
 fn text_of(alloc: Global, reply: &Reply) -> Result<Vec<u8>, Fail> {
     let mut out = MemSink::of(alloc, None);
@@ -30,33 +19,36 @@ fn text_of(alloc: Global, reply: &Reply) -> Result<Vec<u8>, Fail> {
 
 #[test]
 fn refusals_say_what_was_in_the_way(rt: HostRuntime) -> Result<(), Fail> {
-    let mut held = refused(rt.alloc(), 1222);
+    let mut held = Refusal::plain(rt.alloc(), 1222);
     held.resource = Some(Resource::Extent(ExtentNo(2)));
     held.by = Tran(38);
     assert_eq!(rt;
         text_of(rt.alloc(), &Reply::Refused(held))?[..],
         *b"2.3 MSG 1222 EXTENT 2 TRAN 38\n".as_slice()
     );
-    let mut unknown = refused(rt.alloc(), 208);
+    let mut unknown = Refusal::plain(rt.alloc(), 208);
     unknown.name = Name::copied(rt.alloc(), "t")?;
     assert_eq!(rt;
         text_of(rt.alloc(), &Reply::Refused(unknown))?[..],
         *b"2.3 MSG 208 t\n".as_slice()
     );
-    let mut twice = refused(rt.alloc(), 2627);
+    let mut twice = Refusal::plain(rt.alloc(), 2627);
     twice.key = 1;
     assert_eq!(rt;
         text_of(rt.alloc(), &Reply::Refused(twice))?[..],
         *b"2.3 MSG 2627 1\n".as_slice()
     );
-    let mut bad = refused(rt.alloc(), 824);
+    let mut bad = Refusal::plain(rt.alloc(), 824);
     bad.page = PageNo(11);
     assert_eq!(rt;
         text_of(rt.alloc(), &Reply::Refused(bad))?[..],
         *b"2.3 MSG 824 PAGE 11\n".as_slice()
     );
     assert_eq!(rt;
-        text_of(rt.alloc(), &Reply::Refused(refused(rt.alloc(), 1105)))?[..],
+        text_of(
+            rt.alloc(),
+            &Reply::Refused(Refusal::plain(rt.alloc(), 1105))
+        )?[..],
         *b"2.3 MSG 1105\n".as_slice()
     );
     let damaged = Reply::Terminated(Cause::Damaged(PageNo(10)));

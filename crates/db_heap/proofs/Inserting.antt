@@ -2,12 +2,11 @@
 use Rattle.std.proofs.Common.{◌≡◌, refl, ℕ, ◌+◌, ◌*◌, ◌≤◌, true, false, Bool, List, [], ◌∷◌, ◌++◌, length, IsTrue, arith, ap, ◌∙◌}
 use Rattle.std.specs.Prelude.{◌==◌, ◌&&◌, if◌then◌else◌}
 use Rattle.std.proofs.lemmas.Bool.{eqb-true, leb-true}
-use Rattle.spec_file.specs.declared.data.Kind.TheVariants.{Heap}
 use Rattle.spec_file.specs.declared.data.Resource.{Resource}
 use Rattle.spec_file.specs.declared.data.Resource.TheVariants as resource
 use Rattle.spec_file.specs.Image.{page}
 use Rattle.spec_file.specs.CatalogRows.{CatalogRow}
-use Rattle.spec_chain.specs.Chains.{is_ordinary}
+use Rattle.spec_file.specs.Roles.{is_ordinary}
 use Rattle.spec_rows.specs.Slots.{slot_count, rows_size}
 use Rattle.spec_plan.specs.Rows.{passes_page, has_room_for, free_count}
 use Rattle.spec_plan.specs.Sight.{Sight, Outcome, Writes}

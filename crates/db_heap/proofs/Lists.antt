@@ -1,15 +1,14 @@
 -- Lists of pages and of rows.
-use Rattle.std.proofs.Common.{◌≡◌, refl, ℕ, suc, ◌+◌, ◌<◌, true, false, Bool, List, [], ◌∷◌, length, get_or, drop, map, ◌≤◌, ◌++◌, subst, All, bytes_eq, ap, sym, ◌∙◌, arith, add-one, drop-cons, Option, Some, None, if◌then◌else◌, take, filter, Vec, Global, vec_len, ◌||◌, ◌&&◌}
+use Rattle.std.proofs.Common.{◌≡◌, refl, ℕ, suc, ◌+◌, ◌<◌, true, false, Bool, List, [], ◌∷◌, length, get_or, drop, map, ◌≤◌, ◌++◌, subst, All, bytes_eq, ap, sym, ◌∙◌, arith, add-one, drop-cons, Some, None, if◌then◌else◌, take, filter, Vec, Global, vec_len, ◌||◌, ◌&&◌}
 use Rattle.std.proofs.lemmas.List.{get_or_default, drop_all, take_more, take_all, length-map, map-append}
 use Rattle.std.proofs.Math.ListN.{get_or-map}
-use Rattle.std.proofs.lemmas.List.FromFn.{length-range_with_len, get_or-range_with_len, map-range_with_len_more}
+use Rattle.std.proofs.lemmas.List.FromFn.{length-range_with_len, get_or-range_with_len}
 use Rattle.std.proofs.lemmas.List.Elements.{All-append, All-cons, All-filter, filter-append}
 use Rattle.std.specs.List.{list_any, range_with_len}
 use Rattle.spec_file.specs.declared.data.PageNo.{PageNo}
 use Rattle.spec_file.specs.declared.geometry.Geometry.{Geometry}
 use Rattle.spec_file.specs.declared.geometry.Geometry.TheVariants.{Standard, Small}
 use Rattle.spec_file.specs.Places.{page_limit}
-use Rattle.spec_file.specs.CatalogRows.{CatalogRow}
 use Rattle.spec_plan.specs.Reading.{named_among}
 use Rattle.db_heap.specs.Heaps.{numbers}
 use Rattle.db_cat.specs.Rows.{row_of}
@@ -75,13 +74,6 @@ pub filter_more : (f : ℕ → Bool) (xs ys : List ℕ) (x : ℕ) (b : Bool) (ke
 filter_more f xs ys x b kept more e is h m =
     m ∙ ap (λ ks. ks ++ (if b then x ∷ [] else [])) h ∙ ap (λ ks. filter f xs ++ ks) (sym (filter_one f x b (sym is)))
     ∙ sym (filter-append f xs (x ∷ [])) ∙ ap (filter f) (sym e)
-
-map_same : (xs : List ℕ) → map (λ (k : ℕ). k) xs ≡ xs
-map_same [] = refl
-map_same (x ∷ xs) = ap (λ ks. x ∷ ks) (map_same xs)
-
-pub range_more : (n : ℕ) → range_with_len 0 (n + 1) ≡ range_with_len 0 n ++ n ∷ []
-range_more n = sym (map_same (range_with_len 0 (n + 1))) ∙ map-range_with_len_more (λ (k : ℕ). k) 0 n n (omega arith) ∙ ap (λ ks. ks ++ n ∷ []) (map_same (range_with_len 0 n))
 
 pub all_range : (n : ℕ) → All (λ p. p < n) (range_with_len 0 n)
 all_range n k d lt =

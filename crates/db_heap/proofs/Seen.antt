@@ -5,7 +5,9 @@ use Rattle.std.specs.List.{list_any}
 use Rattle.spec_file.specs.declared.data.Resource.TheVariants as resource
 use Rattle.spec_file.specs.Image.{Image, page}
 use Rattle.spec_file.specs.CatalogRows.{CatalogRow}
-use Rattle.spec_chain.specs.Chains.{is_ordinary, is_inside, fault_of_bytes}
+use Rattle.spec_file.specs.Roles.{is_ordinary}
+use Rattle.spec_file.specs.Places.{is_inside}
+use Rattle.spec_chain.specs.Chains.{fault_of_bytes}
 use Rattle.spec_file.specs.Iam.{is_iam_page}
 use Rattle.spec_plan.specs.Sight.{Sight}
 use Rattle.spec_plan.specs.Shown.{IsShown}

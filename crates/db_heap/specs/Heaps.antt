@@ -5,10 +5,11 @@ use Rattle.spec_file.specs.declared.data.Resource.TheVariants as resource
 use Rattle.spec_file.specs.declared.geometry.Geometry.{Geometry}
 use Rattle.spec_file.specs.Image.{Image, page}
 use Rattle.spec_file.specs.Header.{says}
-use Rattle.spec_file.specs.Places.{pfs_page, interval_size, interval_of_page}
+use Rattle.spec_file.specs.Places.{pfs_page, interval_size, interval_of_page, is_inside}
 use Rattle.spec_file.specs.Iam.{is_iam_page, iam_interval, iam_mark}
 use Rattle.spec_file.specs.CatalogRows.{CatalogRow, rows_of}
-use Rattle.spec_chain.specs.Chains.{is_inside, is_ordinary, next_of}
+use Rattle.spec_file.specs.Roles.{is_ordinary}
+use Rattle.spec_chain.specs.Chains.{next_of}
 use Rattle.spec_chain.specs.Uses.{is_allocated}
 use Rattle.spec_plan.specs.Sight.{Sight, Outcome, unless_held, where_good}
 use Rattle.spec_plan.specs.Rows.{passes_page}

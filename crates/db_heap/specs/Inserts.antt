@@ -1,11 +1,10 @@
 -- Where an insert puts its row.
-use Rattle.std.specs.Prelude.{ℕ, Bool, false, ◌==◌, ◌&&◌, ◌≤◌, ◌+◌, IsTrue, if◌then◌else◌}
+use Rattle.std.specs.Prelude.{ℕ, Bool, false, ◌==◌, ◌&&◌, IsTrue, if◌then◌else◌}
 use Rattle.spec_file.specs.Image.{Image, page}
 use Rattle.spec_file.specs.CatalogRows.{CatalogRow}
-use Rattle.spec_chain.specs.Chains.{is_ordinary}
-use Rattle.spec_rows.specs.Slots.{slot_count}
+use Rattle.spec_file.specs.Roles.{is_ordinary}
 use Rattle.spec_plan.specs.Sight.{Sight, Outcome}
-use Rattle.spec_plan.specs.Rows.{has_room_for, free_count}
+use Rattle.spec_plan.specs.Rows.{has_room_for}
 use Rattle.spec_plan.specs.Statements.{fullness_at}
 use Rattle.db_heap.specs.Heaps.{IsSeenHeap, IsByteFree, heap_page_read}
 

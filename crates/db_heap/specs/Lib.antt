@@ -1,4 +1,3 @@
-pub mod Sizes
 pub mod Reads
 pub mod ReadsLaws
 pub mod Heaps

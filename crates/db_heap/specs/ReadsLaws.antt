@@ -1,5 +1,5 @@
 -- How what reading answers is put together.
-use Rattle.std.specs.Prelude.{◌≡◌, Bool, ℕ, Result, Ok, Err, IsErrAnd}
+use Rattle.std.specs.Prelude.{◌≡◌, Bool, ℕ, Result, Err, IsErrAnd}
 use Rattle.std.proofs.Common.{subst, sym, ap, ◌∙◌}
 use Rattle.std.proofs.lemmas.Result.{err_from_is_err_and}
 use Rattle.spec_plan.specs.Sight.{Outcome, where_good}

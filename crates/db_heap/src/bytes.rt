@@ -1,5 +1,5 @@
 // PFS bytes.
-ghost use Rattle.std.specs.Prelude.{◌≡◌, ◌<◌, OnOk, None, length, All};
+ghost use Rattle.std.specs.Prelude.{◌≡◌, ◌<◌, OnOk, length, All};
 ghost use Rattle.spec_chain.specs.Uses as uses;
 ghost use Rattle.spec_plan.specs.Reading as spec;
 ghost use Rattle.spec_file.specs.Header as header;
@@ -9,9 +9,8 @@ ghost use Rattle.db_heap.specs.Reads.{Passes};
 ghost use Rattle.db_heap.specs.Heaps.{numbers, byte_read, IsByteFree};
 
 use crate::reading::{unless_held, where_good};
-use crate::table::says;
 use crate::{PlanView, Stop};
-use pg_base::{PageNo, Resource};
+use pg_base::{PageNo, Resource, is_page_of};
 use pg_geom::pfs_of;
 use std::alloc::Global;
 
@@ -30,7 +29,7 @@ fn has_pfs_page<V: PlanView>(view: &V, p: PageNo) -> bool
     ensures { result ≡ header.says 11 (pfs_page (V.sight view.now).geometry p.0) (page (V.sight view.now).view (pfs_page (V.sight view.now).geometry p.0)) }
 {
     let (page, _) = pfs_of(view.geometry(), p);
-    says(view.page(page), 11, page)
+    is_page_of(view.page(page), 11, page)
 }
 
 // Reads the PFS byte of page p.

@@ -1,9 +1,8 @@
 // The IAM chain of an object.
-ghost use Rattle.std.specs.Prelude.{◌≡◌, ◌<◌, ◌≤◌, ◌==◌, ◌||◌, ℕ, IsTrue, IfOk, OnOk, None, is_none, nat_lt, not, length, vec_len, All};
-ghost use Rattle.std.specs.List.{list_any, list_all};
+ghost use Rattle.std.specs.Prelude.{◌≡◌, ◌<◌, ◌≤◌, ◌==◌, ◌||◌, IsTrue, IfOk, OnOk, None, is_none, nat_lt, not, length, vec_len, All};
+ghost use Rattle.std.specs.List.{list_all};
 ghost use Rattle.spec_file.specs.declared.data.Resource.TheVariants as resource;
 ghost use Rattle.spec_file.specs.Image.{page};
-ghost use Rattle.spec_file.specs.Places.{page_limit};
 ghost use Rattle.spec_file.specs.Iam as iam;
 ghost use Rattle.spec_chain.specs.Chains as chains;
 ghost use Rattle.spec_plan.specs.Reading as spec;
@@ -18,32 +17,10 @@ use crate::stop::bad_page;
 use crate::{PlanView, Stop};
 use arrayvec::ArrayVec;
 use db_cat::CatRow;
-use pg_base::{Geometry, ObjId, PageNo, Resource, Role, read_header};
-use pg_geom::role_of;
+use pg_base::{Geometry, ObjId, PageNo, Resource, read_header};
+use pg_geom::{is_inside, is_ordinary};
 use pg_iam::{IamView, test_iam};
 use std::alloc::Global;
-
-/// Whether an object may own page p.
-pub(crate) fn is_ordinary(g: Geometry, p: PageNo) -> bool
-    requires { p.0 < page_limit g }
-    ensures { result ≡ chains.is_ordinary g p.0 }
-{
-    match role_of(g, p) {
-        Role::Ordinary => true,
-        Role::FileHeader => false,
-        Role::Pfs => false,
-        Role::Gam => false,
-        Role::Sgam => false,
-        Role::Reserved => false,
-        Role::Boot => false,
-    }
-}
-
-fn is_inside(pages: u32, p: PageNo) -> bool
-    ensures { result ≡ chains.is_inside pages p.0 }
-{
-    p.0 != 0 && p.0 < pages
-}
 
 fn is_last(met: usize, p: PageNo) -> bool
     ensures { result ≡ chains.is_last met p.0 }

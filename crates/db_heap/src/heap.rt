@@ -1,5 +1,5 @@
 // What every statement on a heap reads before the object's pages.
-ghost use Rattle.std.specs.Prelude.{◌≡◌, ◌≤◌, List, ℕ, IfOk, vec_len, All};
+ghost use Rattle.std.specs.Prelude.{◌≤◌, List, ℕ, IfOk, vec_len, All};
 ghost use Rattle.spec_file.specs.CatalogRows.{CatalogRow};
 ghost use Rattle.spec_plan.specs.Sight.{Outcome};
 ghost use Rattle.spec_plan.specs.Reading as spec;

@@ -7,11 +7,11 @@ ghost use Rattle.db_cat.specs.Rows.{row_of};
 ghost use Rattle.db_heap.specs.Reads.{Passes};
 ghost use Rattle.db_heap.specs.Heaps.{heap_page_read, IsSeenHeap};
 
-use crate::chain::is_ordinary;
 use crate::reading::{unless_held, where_good};
 use crate::{PlanView, Stop};
 use db_cat::CatRow;
 use pg_base::{Page, PageNo, Resource, read_header};
+use pg_geom::is_ordinary;
 use std::alloc::Global;
 
 // Page p, which nobody else holds, is an ordinary page that passes its test as one of the object's.

@@ -1,7 +1,6 @@
 // INSERT.
-ghost use Rattle.std.specs.Prelude.{◌≡◌, ◌&&◌, ◌==◌, ◌≤◌, List, ℕ, IsTrue, IfOk, length, All};
-ghost use Rattle.spec_file.specs.CatalogRows.{CatalogRow};
-ghost use Rattle.spec_chain.specs.Chains as chains;
+ghost use Rattle.std.specs.Prelude.{◌≡◌, ◌&&◌, ◌==◌, ◌≤◌, IsTrue, IfOk, length, All};
+ghost use Rattle.spec_file.specs.Roles as roles;
 ghost use Rattle.spec_rows.specs.Rows.{is_data_row};
 ghost use Rattle.spec_plan.specs.Reading.{heap_read};
 ghost use Rattle.spec_plan.specs.Statements as spec;
@@ -12,7 +11,6 @@ ghost use Rattle.db_heap.specs.Heaps.{numbers, IsByteFree};
 ghost use Rattle.db_heap.specs.Inserts.{room_read, TakesRow};
 
 use crate::bytes::pfs_byte;
-use crate::chain::is_ordinary;
 use crate::heap::read_heap;
 use crate::heap_pages::read_heap_page;
 use crate::stop::no_room;
@@ -21,13 +19,14 @@ use crate::{Plan, PlanView, Stop};
 use db_cat::CatRow;
 use heap_page::{has_room, heap_row};
 use pg_base::{NoMemory, PageNo};
+use pg_geom::is_ordinary;
 use spec_script::Name;
 use std::alloc::Global;
 
 // The PFS byte of page p says that it is full, so that it is passed over.
 fn is_full<V: PlanView>(view: &V, p: PageNo) -> bool
     requires { IsByteFree (V.sight view.now) (V.file view.now) p.0 }
-    ensures { result ≡ (chains.is_ordinary (V.sight view.now).geometry p.0 && (spec.fullness_at (V.sight view.now) p.0 == 4)) }
+    ensures { result ≡ (roles.is_ordinary (V.sight view.now).geometry p.0 && (spec.fullness_at (V.sight view.now) p.0 == 4)) }
 {
     is_ordinary(view.geometry(), p) && pfs_byte(view, p) % 8 == 4
 }

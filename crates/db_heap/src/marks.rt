@@ -3,9 +3,7 @@
 ghost use Rattle.std.specs.Prelude.{◌≡◌, ◌<◌, ◌≤◌, ◌/◌, ◌%◌, ◌==◌, ◌&&◌, IfOk, not, length, vec_len, All};
 ghost use Rattle.std.specs.List.{list_any};
 ghost use Rattle.spec_file.specs.Image.{page};
-ghost use Rattle.spec_file.specs.Places.{page_limit, interval_size as spec_size, interval_of_page};
 ghost use Rattle.spec_file.specs.Iam as iam;
-ghost use Rattle.spec_chain.specs.Uses as uses;
 ghost use Rattle.spec_plan.specs.Reading as spec;
 ghost use Rattle.db_heap.specs.Heaps.{numbers, marks as spec_marks, has_byte as spec_has_byte, is_of_object as spec_is_of_object, IsSeenIam, IsByteFree};
 
@@ -16,6 +14,7 @@ use crate::pages::{has_page, push_if};
 use arrayvec::ArrayVec;
 use pg_base::{NoMemory, PageNo};
 use pg_geom::{interval_pages, interval_size};
+use pg_pfs::is_allocated;
 use std::alloc::Global;
 
 // One of these slots holds page p.
@@ -87,14 +86,6 @@ pub(crate) fn byte_pages<V: PlanView>(
     Ok(pages)
 }
 
-// The PFS byte of page p says that it is allocated.
-fn is_allocated<V: PlanView>(view: &V, p: PageNo) -> bool
-    requires { IsByteFree (V.sight view.now) (V.file view.now) p.0 }
-    ensures { result ≡ uses.is_allocated (V.sight view.now).geometry (V.sight view.now).view p.0 }
-{
-    (pfs_byte(view, p) >> 6) & 1 == 1
-}
-
 // A page whose PFS byte was read is the object's: it is in one of these slots, which are the chain's, or
 // allocated.
 fn is_of_object<V: PlanView>(view: &V, slots: &[PageNo], chain: &[PageNo], p: PageNo) -> bool
@@ -102,7 +93,7 @@ fn is_of_object<V: PlanView>(view: &V, slots: &[PageNo], chain: &[PageNo], p: Pa
     requires free { IsByteFree (V.sight view.now) (V.file view.now) p.0 }
     ensures { result ≡ spec_is_of_object (V.sight view.now) (numbers chain.now) p.0 }
 {
-    is_single(slots, p) || is_allocated(view, p)
+    is_single(slots, p) || is_allocated(pfs_byte(view, p))
 }
 
 /// Those of the pages whose PFS bytes were read that are allocated to the object.

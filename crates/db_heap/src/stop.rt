@@ -24,26 +24,13 @@ impl From<NoMemory> for Stop {
     }
 }
 
-fn plain_refusal(alloc: Global, number: u16) -> Refusal
-    ensures { result ≡ spec.plain_refusal number }
-{
-    Refusal {
-        number,
-        name: Name::empty(alloc),
-        key: 0,
-        page: PageNo(0),
-        resource: None,
-        by: Tran(0),
-    }
-}
-
 /// No object has the name.
 pub(crate) fn no_table(alloc: Global, name: &Name) -> Result<Refusal, NoMemory>
     ensures { IfOk result (λ refusal. refusal ≡ spec.no_table name.now) }
 {
     Ok(Refusal {
         name: Name::copied(alloc, name.as_str())?,
-        ..plain_refusal(alloc, 208)
+        ..Refusal::plain(alloc, 208)
     })
 }
 
@@ -54,7 +41,7 @@ pub(crate) fn held_by(alloc: Global, r: Resource, t: Tran) -> Refusal
     Refusal {
         resource: Some(r),
         by: t,
-        ..plain_refusal(alloc, 1222)
+        ..Refusal::plain(alloc, 1222)
     }
 }
 
@@ -64,7 +51,7 @@ pub(crate) fn bad_page(alloc: Global, p: PageNo) -> Refusal
 {
     Refusal {
         page: p,
-        ..plain_refusal(alloc, 824)
+        ..Refusal::plain(alloc, 824)
     }
 }
 
@@ -72,5 +59,5 @@ pub(crate) fn bad_page(alloc: Global, p: PageNo) -> Refusal
 pub(crate) fn no_room(alloc: Global) -> Refusal
     ensures { result ≡ spec.no_room }
 {
-    plain_refusal(alloc, 1105)
+    Refusal::plain(alloc, 1105)
 }

@@ -1,7 +1,6 @@
 // Page 9 and the object of a name.
-ghost use Rattle.std.specs.Prelude.{◌≡◌, ◌<◌, length, map, bytes_eq, string_bytes, Some};
+ghost use Rattle.std.specs.Prelude.{◌≡◌, ◌<◌, map, bytes_eq, string_bytes, Some};
 ghost use Rattle.std.specs.Option.{option_map};
-ghost use Rattle.spec_file.specs.Header as header;
 ghost use Rattle.spec_plan.specs.Reading as spec;
 ghost use Rattle.db_cat.specs.Rows.{row_of};
 ghost use Rattle.db_heap.specs.Reads.{Reads};
@@ -12,24 +11,16 @@ use crate::stop::{bad_page, no_table};
 use crate::{PlanView, Stop};
 use db_cat::{CatRow, CatStop, read_catalog};
 use law_rows::row_laws;
-use pg_base::{Page, PageNo, Resource, read_header};
+use pg_base::{Page, PageNo, Resource, is_page_of};
 use spec_script::Name;
 use std::alloc::Global;
-
-/// Whether the page has this type and says this number.
-pub(crate) fn says(page: &Page, kind: u8, p: PageNo) -> bool
-    ensures { result ≡ header.says kind p.0 page.now.bytes }
-{
-    let header = read_header(page);
-    header.page_type == kind && header.page_id.0 == p.0
-}
 
 // The objects of page 9; 824 where it isn't a catalog.
 fn read_rows(alloc: Global, boot: &Page) -> Result<Vec<CatRow>, Stop>
     ensures { Reads (catalog_read boot.now.bytes) (λ rows. map row_of rows.items) result }
 {
     row_laws();
-    if !says(boot, 13, PageNo(9)) {
+    if !is_page_of(boot, 13, PageNo(9)) {
         return Err(Stop::Refused(bad_page(alloc, PageNo(9))));
     }
     match read_catalog(alloc, boot) {

@@ -1,8 +1,8 @@
-ghost use Rattle.std.specs.Prelude.{◌≡◌, ◌==◌, ◌&&◌, IfOk, length, map, All};
+ghost use Rattle.std.specs.Prelude.{◌≡◌, ◌==◌, ◌&&◌, IfOk, length, map};
 ghost use Rattle.spec_file.specs.declared.geometry.Geometry.TheVariants.{Small};
 ghost use Rattle.spec_log.specs.Cells.{HasWholePages};
 ghost use Rattle.spec_log.specs.Items as items;
-ghost use Rattle.db_heap.specs.Sizes.{HasSize};
+ghost use Rattle.spec_file.specs.Places.{HasShape};
 
 use super::*;
 use pg_base::{
@@ -27,7 +27,7 @@ struct MemView {
     pages: Vec<Page>,
     held: Option<Held>,
     own: Option<Resource>,
-    ghost size: { HasSize Small (length (map (λ p. p.bytes) pages.items)) },
+    ghost size: { HasShape Small (length (map (λ p. p.bytes) pages.items)) },
     ghost whole: { HasWholePages (map (λ p. p.bytes) pages.items) },
 }
 
@@ -62,7 +62,7 @@ fn same(r: Resource, s: Resource) -> bool
 }
 
 impl PlanView for MemView {
-    ghost use Rattle.std.specs.Prelude.{Some, None, true, false, refl, map, length, if◌then◌else◌};
+    ghost use Rattle.std.specs.Prelude.{Some, None, false, refl, map, length, if◌then◌else◌};
     ghost use Rattle.std.specs.Option.{option_and_then, option_map_or};
     ghost use Rattle.spec_file.specs.declared.geometry.Geometry.TheVariants.{Small};
     ghost use Rattle.spec_log.specs.Items.{is_same};

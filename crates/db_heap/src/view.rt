@@ -1,9 +1,9 @@
-ghost use Rattle.std.specs.Prelude.{◌≡◌, ℕ, ◌<◌, length};
+ghost use Rattle.std.specs.Prelude.{◌≡◌, ◌<◌, length};
 ghost use Rattle.std.specs.Option.{option_map};
 ghost use Rattle.spec_file.specs.Image.{Image, page};
 ghost use Rattle.spec_plan.specs.Sight.{Sight};
 ghost use Rattle.spec_plan.specs.Shown.{IsShown};
-ghost use Rattle.db_heap.specs.Sizes.{HasSize};
+ghost use Rattle.spec_file.specs.Places.{HasShape};
 
 use pg_base::{Geometry, Page, PageNo, Resource, Tran};
 
@@ -39,5 +39,5 @@ pub trait PlanView {
     /// Where nobody else holds a page or a PFS byte, the file has there what the transaction sees.
     ghost shown: { (v : Self) → IsShown (sight v) (file v) };
 
-    ghost size: { (v : Self) → HasSize (sight v).geometry (length (file v)) };
+    ghost size: { (v : Self) → HasShape (sight v).geometry (length (file v)) };
 }

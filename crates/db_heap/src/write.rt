@@ -11,7 +11,6 @@ ghost use Rattle.spec_plan.specs.Changes as changes;
 ghost use Rattle.spec_plan.specs.Statements as spec;
 ghost use Rattle.db_cat.specs.Rows.{row_of};
 ghost use Rattle.db_heap.specs.Plans.{outcome_of};
-ghost use Rattle.db_heap.specs.Heaps.{IsByteFree};
 ghost use Rattle.db_heap.specs.Inserts.{TakesRow};
 
 use crate::bytes::pfs_byte;

@@ -1,10 +1,9 @@
 ghost use Rattle.std.specs.Prelude.{◌≡◌, ◌+◌, ◌≤◌, IsTrue, length, take};
 ghost use Rattle.spec_rows.specs.Rows.{is_data_row};
 ghost use Rattle.spec_plan.specs.Rows as spec;
-ghost use Rattle.law_rows.specs.Parts.{AreBytes};
 ghost use Rattle.heap_page.specs.Pages.{IsHeapPage, KeepsTest};
 
-use pg_base::{Kind, ObjId, Page, PageNo, read_header};
+use pg_base::{Kind, ObjId, Page, PageNo, is_whole, read_header};
 use pg_row::{Row, write_row};
 use pg_slots::{insert_at, test_page};
 
@@ -30,18 +29,10 @@ pub fn put_row(page: &mut Page, row: &[u8])
     ensures row { page.new.bytes ≡ spec.with_row page.old.bytes row.now }
     ensures test { KeepsTest page.old.bytes page.new.bytes }
 {
-    holds_bytes(page);
+    is_whole(page);
     let last = read_header(page).slots;
     let _put = insert_at(page, last, row);
-    holds_bytes(page);
-}
-
-// A page has as many bytes as any.
-fn holds_bytes(page: &Page)
-    ensures long { length page.now.bytes ≡ 8192 }
-    ensures bytes { AreBytes page.now.bytes }
-{
-    let _first = page.bytes[0];
+    is_whole(page);
 }
 
 /// The bytes of a heap's row, and how many they are.

@@ -10,9 +10,8 @@ use Rattle.spec_file.specs.declared.role.Role.{Role}
 use Rattle.spec_file.specs.declared.role.Role.TheVariants as role
 use Rattle.spec_file.specs.Image.{maps_start}
 use Rattle.spec_file.specs.Places.{pfs_span, pfs_place, pfs_page}
-use Rattle.spec_file.specs.Roles.{role_of}
+use Rattle.spec_file.specs.Roles.{role_of, is_for_objects, is_ordinary}
 use Rattle.spec_log.specs.Cover.{bit_guard, bit_guard_by, byte_guard, byte_guard_by, pfs_guard, paged_at}
-use Rattle.spec_chain.specs.Chains.{is_for_objects, is_ordinary}
 use Rattle.law_cover.specs.Places.{pages_guard_bytes}
 
 -- every byte of a page that objects may own is guarded by that Page

@@ -10,7 +10,8 @@ use Rattle.spec_rows.specs.SlotLaws.{rows_room}
 use Rattle.spec_rows.specs.PartLaws.{part_stays_in}
 use Rattle.spec_rows.specs.Changes.{Stays, FitsBehind, IsCompacted, IsPlaced, IsInserted, AtEnd, Compacted}
 use Rattle.spec_plan.specs.Rows.{free_count, rows_bytes, compacted, with_row_at, fits_behind, with_row}
-use Rattle.law_rows.specs.Parts.{AreBytes, part_length, slots_spelled}
+use Rattle.spec_file.specs.Image.{AreBytes}
+use Rattle.law_rows.specs.Parts.{part_length, slots_spelled}
 use Rattle.law_rows.specs.Packed.{packed_parts, rows_spelled}
 use Rattle.law_rows.specs.Placed.{HasParts, placed_by_parts}
 

@@ -8,7 +8,7 @@ use Rattle.spec_rows.specs.PageTest.{HoldsRows, PassesTest}
 use Rattle.spec_rows.specs.Changes.{IsInserted}
 use Rattle.spec_plan.specs.Reading.{passes_catalog}
 use Rattle.spec_plan.specs.Rows.{passes_page, with_row}
-use Rattle.law_rows.specs.Parts.{AreBytes}
+use Rattle.spec_file.specs.Image.{AreBytes}
 
 -- the catalog passes the test of a plan exactly where it passes that of page 9
 abbrev pub CatalogPasses : Type 0

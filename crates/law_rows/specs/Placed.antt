@@ -3,10 +3,10 @@ use Rattle.std.proofs.Common.{◌≡◌, ℕ, ◌+◌, ◌-◌, ◌*◌, ◌≤�
 use Rattle.std.specs.Prelude.{slice_range}
 use Rattle.std.proofs.lemmas.List.{take-append-drop, append_assoc}
 use Rattle.byteorder.specs.Endian.{little_bytes}
-use Rattle.spec_file.specs.Image.{number_at}
+use Rattle.spec_file.specs.Image.{number_at, AreBytes}
 use Rattle.spec_rows.specs.Changes.{Stays}
 use Rattle.spec_plan.specs.Rows.{with_row_at}
-use Rattle.law_rows.specs.Parts.{AreBytes, part_then, number_then}
+use Rattle.law_rows.specs.Parts.{part_then, number_then}
 
 -- what stands where on the page `new`, which is the page `base` with one row more
 pub record HasParts (base new : List ℕ) (slots free end : ℕ) (row : List ℕ) : Type 0 where

@@ -137,7 +137,7 @@ work_tran run log s p = by_due p.due
     by_due (x ∷ due) = refl
 
 -- the open transaction behind an item of the session
-own_tran : (run : Setting) (log : List Record) (s : ℕ) (x : Record) → session_of log x ≡ s → (progress_of run s (x ∷ log)).tran ≡ open_after (progress_of run s log).tran x
+pub own_tran : (run : Setting) (log : List Record) (s : ℕ) (x : Record) → session_of log x ≡ s → (progress_of run s (x ∷ log)).tran ≡ open_after (progress_of run s log).tran x
 own_tran run log s x belongs =
     let p = progress_of run s log in
     let w = at_work run log s p p.due in

@@ -21,7 +21,8 @@ use Rattle.spec_plan.specs.declared.plan.Planned.{Planned}
 use Rattle.spec_plan.specs.Planned.{planned_size}
 use Rattle.spec_run.specs.Shapes.{tran_to_write}
 use Rattle.spec_run.specs.Begun.{Setting, sight_of}
-use Rattle.law_run.specs.Fresh.{not_started_above, none_ended}
+use Rattle.law_undo.specs.Law.{zero_open}
+use Rattle.law_run.specs.Fresh.{not_started_above}
 use Rattle.law_run.specs.Plans.{find_same}
 use Rattle.law_run.specs.Doing.{Owns, Opens, ArePlannedIn}
 use Rattle.law_run.specs.Shows.{view_shows}
@@ -60,7 +61,7 @@ writer_free g t u r (inr w) free v held = free v held ∙ sym w.1
 pub ongoing : (run : Setting) (log : List Record) (s t : ℕ) → IsSoundIn run log → Opens run log s t → IsOngoing run.opened log t
 ongoing run log s t sound (inl none) = (
   ap (is_old run.opened) none,
-  ap (has_ended (log ++ run.opened)) none ∙ none_ended run.geometry (length run.image) (log ++ run.opened) (sound_rules run.geometry (length run.image) run.opened run.image log sound),
+  ap (has_ended (log ++ run.opened)) none ∙ zero_open run.geometry (length run.image) (log ++ run.opened) (sound_rules run.geometry (length run.image) run.opened run.image log sound),
 )
 ongoing run log s t sound (inr o) = (o.0.is_new, not_true (has_ended (log ++ run.opened) t) (unfinished_parts (log ++ run.opened) t o.0.unfinished).not_ended)
 

@@ -15,7 +15,8 @@ use Rattle.law_undo.specs.Atoms.{Atom, read, has_atom, bit_in, turned, named_on,
 use Rattle.law_undo.specs.Holders.{unfinished_parts, one_holder, quiet_without_take}
 use Rattle.law_undo.specs.LawAtAtom.{not_true}
 use Rattle.law_undo.specs.Reading.{IsInside, SameShape, shape_trans, inside_shape}
-use Rattle.law_undo.specs.ReadLogs.{cell_form, FormOf, form_at, read_applied, read_take_back, shape_applied, shape_take_back, older_forms}
+use Rattle.spec_log.specs.RulesLaws.{older_rules, older_forms}
+use Rattle.law_undo.specs.ReadLogs.{cell_form, FormOf, form_at, read_applied, read_take_back, shape_applied, shape_take_back}
 use Rattle.law_undo.specs.Guards.{atom, guard_of, rules_at, follows_at}
 use Rattle.law_undo.specs.Views.{sound_rules, sound_forms, writer_holds}
 use Rattle.law_undo.specs.CellAtoms.{same_cell}
@@ -272,7 +273,3 @@ damage_is_old g opened log b whole s =
           ∙ ap (taken_part_at now k opened log) (read_applied (λ t. true) opened log b k forms here ∙ (part_unwritten g opened log b p i j writer.tran s writer.chosen taken (λ t. true) (read b k) (read b k)).0)
           ∙ (part_unwritten g opened log b p i j writer.tran s writer.chosen taken now (read b k) (read b k)).1)
     ])
-  where
-    older_rules : (g : Geometry) (pages : ℕ) (log opened : List Record) → KeepsRules g pages (log ++ opened) → KeepsRules g pages opened
-    older_rules g pages [] opened r = r
-    older_rules g pages (x ∷ log) opened r = older_rules g pages log opened r.1

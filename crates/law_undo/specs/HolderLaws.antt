@@ -8,21 +8,11 @@ use Rattle.spec_file.specs.declared.geometry.Geometry.{Geometry}
 use Rattle.spec_log.specs.declared.item.Record.{Record}
 use Rattle.spec_log.specs.declared.item.Record.TheVariants.{Start, Change, Undo, Commit, Abort, Snap, Failed, CheckEnd}
 use Rattle.spec_log.specs.Items.{tran_of, is_same}
+use Rattle.spec_log.specs.ItemLaws.{starts_tran}
 use Rattle.spec_log.specs.Log.{starts, takes_it, has_started, holds, IsFreeFor, holder_among, holder_of}
 use Rattle.spec_log.specs.Rules.{Follows}
 use Rattle.law_undo.specs.Holders.{holds_parts, taken_started, holds_older}
 use Rattle.law_undo.specs.Laws.{HolderIsOther, HoldersAreOne}
-
--- the item that starts a transaction is of it
-started_by : (u : ℕ) (x : Record) → starts u x ≡ true → tran_of x ≡ u
-started_by u (Start session index tran number changes size takes) h = eqb-true tran.0 u h
-started_by u (Change tran cell before after) h = absurd (false≢true h)
-started_by u (Undo tran change) h = absurd (false≢true h)
-started_by u (Commit tran) h = absurd (false≢true h)
-started_by u (Abort tran) h = absurd (false≢true h)
-started_by u (Snap session index) h = absurd (false≢true h)
-started_by u (Failed session index failed) h = absurd (false≢true h)
-started_by u (CheckEnd session index outcome) h = absurd (false≢true h)
 
 abbrev pub IsOther : List Record → Resource → ℕ → ℕ → Type 0
 IsOther log r t u = (holds log u r ≡ true) × (u ≢ t)
@@ -47,7 +37,7 @@ found log (x ∷ part) r t =
 
     by_rest : (rest : Option ℕ) → (holds log (tran_of x) r && not (eqb (tran_of x) t)) ≡ false → Found log part r t rest → Found log (x ∷ part) r t rest
     by_rest None e none = λ u h held. elim (or_cases (starts u x) (has_started part u) h) [
-      | inl here ↦ subst (λ w. holds log w r ≡ true → w ≡ t) (started_by u x here) (own e) held
+      | inl here ↦ subst (λ w. holds log w r ≡ true → w ≡ t) (starts_tran u x here) (own e) held
       | inr there ↦ none u there held
     ]
     by_rest (Some u) e some = some

@@ -170,7 +170,7 @@ undos_bring_back g opened log b t s new open_now none_left =
     ])
 
 -- transaction 0 holds nothing, and never ends
-zero_open : (g : Geometry) (pages : ℕ) (log : List Record) → KeepsRules g pages log → has_ended log 0 ≡ false
+pub zero_open : (g : Geometry) (pages : ℕ) (log : List Record) → KeepsRules g pages log → has_ended log 0 ≡ false
 zero_open g pages [] r = refl
 zero_open g pages (Start session index tran number changes size takes ∷ log) r = zero_open g pages log r.1
 zero_open g pages (Change tran cell before after ∷ log) r = zero_open g pages log r.1

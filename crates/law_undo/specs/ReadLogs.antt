@@ -12,6 +12,7 @@ use Rattle.spec_log.specs.declared.item.Record.TheVariants.{Start, Change, Undo,
 use Rattle.spec_log.specs.Items.{tran_of, has_form, has_cell_form}
 use Rattle.spec_log.specs.Log.{is_unfinished, item_at}
 use Rattle.spec_log.specs.Rules.{HaveForm}
+use Rattle.spec_log.specs.RulesLaws.{older_forms}
 use Rattle.spec_log.specs.Cells.{put}
 use Rattle.spec_log.specs.Images.{put_before, put_after, apply, take_back, applied, taken_back, start_image}
 use Rattle.law_undo.specs.Atoms.{Atom, read, has_atom, bit_in, turned, named_on, write_on, over, under, applied_at, taken_back_at}
@@ -186,11 +187,6 @@ shape_taken_back c (x ∷ log) b =
     shape_trans b next (taken_back c log next)
     (cond_both (c (tran_of x)) (take_back log x b) b (SameShape b) (λ e. shape_take_back log x b) (λ e. shape_refl b))
     (shape_taken_back c log next)
-
--- reading after the items of a log
-pub older_forms : (log opened : List Record) → HaveForm (log ++ opened) → HaveForm opened
-older_forms [] opened f = f
-older_forms (x ∷ log) opened f = older_forms log opened f.1
 
 pub read_applied : (c : ℕ → Bool) (opened log : List Record) (b : Image) (k : Atom) → HaveForm (log ++ opened) → IsInside k b →
     read (applied c opened log b) k ≡ applied_at c k opened log (read b k)

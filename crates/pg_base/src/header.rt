@@ -1,6 +1,6 @@
-ghost use Rattle.std.specs.Prelude.{◌≡◌, ◌+◌, ◌≤◌, length, take, drop, slice_index};
+ghost use Rattle.std.specs.Prelude.{◌≡◌, take, drop, slice_index};
 ghost use Rattle.spec_file.specs.Image.{number_at};
-ghost use Rattle.spec_file.specs.Header.{header_of, header_version};
+ghost use Rattle.spec_file.specs.Header.{header_of, header_version, says};
 
 use crate::numbers::{put_u16, put_u32, u16_at, u32_at};
 use crate::{Header, ObjId, Page, PageNo};
@@ -22,6 +22,14 @@ pub fn read_header(page: &Page) -> Header
         free_from: u16_at(bytes, 24),
         ghosts: u16_at(bytes, 26),
     }
+}
+
+/// Whether a page says that it has this type, and this number.
+pub fn is_page_of(page: &Page, page_type: u8, p: PageNo) -> bool
+    ensures { result ≡ says page_type p.0 page.now.bytes }
+{
+    let header = read_header(page);
+    header.page_type == page_type && header.page_id == p
 }
 
 /// Makes the page say this of itself, in header version 1 (this project's own). Byte 3, bytes 28 to 95

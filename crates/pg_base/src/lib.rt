@@ -8,9 +8,9 @@ mod page;
 mod reader;
 mod words;
 
-pub use header::{read_header, write_header};
+pub use header::{is_page_of, read_header, write_header};
 pub use numbers::{put_u16, put_u32, u16_at, u32_at};
-pub use page::{PAGE_SIZE, Page};
+pub use page::{PAGE_SIZE, Page, is_whole};
 pub use reader::{ReadStop, SnapReader, read_page};
 pub use spec_file::{
     ExtentNo, Geometry, Header, Kind, Lsn, NoMemory, ObjId, PageNo, Resource, Role, Tran,

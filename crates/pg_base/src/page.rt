@@ -1,4 +1,5 @@
-ghost use Rattle.std.specs.Prelude.{◌≡◌, IfOk};
+ghost use Rattle.std.specs.Prelude.{◌≡◌, IfOk, length};
+ghost use Rattle.spec_file.specs.Image.{AreBytes};
 ghost use Rattle.pg_base.specs.Zeros.{zero_page};
 
 use crate::NoMemory;
@@ -20,4 +21,12 @@ impl Page {
     {
         Ok(Box::new(alloc, Page { bytes: [0; 8192] })?)
     }
+}
+
+/// A page has as many bytes as any, each below 256.
+pub fn is_whole(page: &Page)
+    ensures long { length page.now.bytes ≡ 8192 }
+    ensures bytes { AreBytes page.now.bytes }
+{
+    let _first = page.bytes[0];
 }

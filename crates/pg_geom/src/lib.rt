@@ -9,7 +9,7 @@ mod spans;
 
 pub use laws::places_apart;
 pub use places::{gam_of, interval_of, pfs_of, sgam_of};
-pub use roles::{is_system, role_of};
+pub use roles::{is_inside, is_ordinary, is_system, role_of};
 pub use spans::{interval_pages, interval_size, page_limit, pfs_span};
 
 #[cfg(test)]

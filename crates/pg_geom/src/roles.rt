@@ -29,6 +29,21 @@ pub fn role_of(g: Geometry, p: PageNo) -> Role
     }
 }
 
+/// Whether an object may own page p, by its number.
+pub fn is_ordinary(g: Geometry, p: PageNo) -> bool
+    requires { p.0 < places.page_limit g }
+    ensures { result ≡ spec.is_ordinary g p.0 }
+{
+    role_of(g, p).is_for_objects()
+}
+
+/// Whether the number is that of a page of a file of so many pages; 0 stands for none.
+pub fn is_inside(pages: u32, p: PageNo) -> bool
+    ensures { result ≡ places.is_inside pages p.0 }
+{
+    p.0 != 0 && p.0 < pages
+}
+
 /// Whether an extent holds page 0 or a PFS, GAM or SGAM page.
 pub fn is_system(g: Geometry, e: ExtentNo) -> bool
     requires { 8 * e.0 < places.page_limit g }

@@ -5,7 +5,7 @@
 mod view;
 mod write;
 
-pub use view::{IamView, test_iam};
+pub use view::{IamView, has_interval, test_iam};
 pub use write::{make_iam, set_mark, set_slot};
 
 #[cfg(test)]

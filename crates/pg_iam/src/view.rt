@@ -40,8 +40,8 @@ pub fn test_iam(page: &Page, p: PageNo, g: Geometry, pages: u32) -> Option<IamVi
     })
 }
 
-// A file of so many pages has this interval.
-fn has_interval(g: Geometry, pages: u32, interval: u32) -> bool
+/// Whether a file of so many pages has this interval.
+pub fn has_interval(g: Geometry, pages: u32, interval: u32) -> bool
     ensures { result ≡ spec.has_interval g pages interval }
 {
     interval_pages(g) as u64 * (interval as u64) < pages as u64

@@ -1,4 +1,4 @@
-ghost use Rattle.std.specs.Prelude.{◌≡◌, ◌≢◌, ◌+◌, ◌*◌, ◌/◌, ◌<◌, ◌≤◌, ℕ, drop, take, slice_index};
+ghost use Rattle.std.specs.Prelude.{◌≡◌, ◌≢◌, ◌+◌, ◌*◌, ◌/◌, ◌<◌, ℕ, drop, take, slice_index};
 ghost use Rattle.spec_file.specs.Header.{header_of, header_version};
 ghost use Rattle.spec_file.specs.Iam as spec;
 ghost use Rattle.pg_base.specs.Numbers.{PutsNumber};

@@ -15,6 +15,13 @@ const IAM: u8 = 0x10;
 
 const FULL: u8 = 4;
 
+/// Whether a PFS byte tells that its page is allocated.
+pub fn is_allocated(byte: u8) -> bool
+    ensures { result ≡ spec.is_allocated_byte byte }
+{
+    (byte >> 6) & 1 == 1
+}
+
 /// Bits 0 to 2 of a PFS byte: how full a page with so many free bytes is. 0 is empty, 1 up to half
 /// full, 2 up to 80 percent, 3 up to 95 percent, 4 above.
 pub fn fullness_of(free: u16) -> u8

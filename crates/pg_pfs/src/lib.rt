@@ -4,7 +4,7 @@
 
 mod bytes;
 
-pub use bytes::{expected, fullness_of};
+pub use bytes::{expected, fullness_of, is_allocated};
 pub use spec_file::PfsKind;
 
 #[cfg(test)]

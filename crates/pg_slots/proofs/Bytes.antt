@@ -1,12 +1,11 @@
 -- Parts of a page that stay where others are put.
-use Rattle.std.proofs.Common.{◌≡◌, refl, ℕ, ◌+◌, ◌-◌, ◌*◌, ◌<◌, ◌≤◌, List, take, drop, ap, sym, ◌∙◌, arith, inl, inr}
+use Rattle.std.proofs.Common.{◌≡◌, ℕ, ◌+◌, ◌-◌, ◌*◌, ◌<◌, ◌≤◌, List, take, drop, ap, sym, ◌∙◌, arith, inl, inr}
 use Rattle.std.proofs.lemmas.List.{drop-take}
 use Rattle.std.proofs.lemmas.Bool.{cases_order}
-use Rattle.spec_file.specs.Header.{header_of}
 use Rattle.spec_rows.specs.Slots.{slot_at}
 use Rattle.spec_rows.specs.Changes.{Stays}
 use Rattle.pg_base.specs.Numbers.{PutsNumber}
-use Rattle.pg_base.specs.NumberLaws.{same_number, same_byte, same_number_behind, same_front, same_back, number_stays}
+use Rattle.pg_base.specs.NumberLaws.{same_number_behind, same_front, same_back, number_stays}
 use Rattle.pg_slots.specs.Puts.{PutsSlot}
 
 -- a part before a place is told by the bytes before it
@@ -23,22 +22,6 @@ stays_back a b n before now same within = ap (take (b - a)) (same_back a n now b
 
 pub slot_stays_back : (j n : ℕ) (before now : List ℕ) → drop n now ≡ drop n before → n ≤ 8190 - 2 * j → slot_at now j ≡ slot_at before j
 slot_stays_back j n before now same within = same_number_behind 2 (8190 - 2 * j) n now before same within
-
--- a header is told by the first 96 bytes
-pub same_header : (xs ys : List ℕ) → take 96 xs ≡ take 96 ys → header_of xs ≡ header_of ys
-same_header xs ys same =
-    rw (
-      same_byte 1 96 xs ys same (omega arith),
-      same_byte 2 96 xs ys same (omega arith),
-      same_number 4 4 96 xs ys same (omega arith),
-      same_number 4 8 96 xs ys same (omega arith),
-      same_number 4 12 96 xs ys same (omega arith),
-      same_number 4 16 96 xs ys same (omega arith),
-      same_number 2 20 96 xs ys same (omega arith),
-      same_number 2 22 96 xs ys same (omega arith),
-      same_number 2 24 96 xs ys same (omega arith),
-      same_number 2 26 96 xs ys same (omega arith),
-    ) refl
 
 pub puts_slot : (slot at : ℕ) (before now : List ℕ) → slot < 4048 → PutsNumber 2 (8190 - 2 * slot) at before now → PutsSlot slot at before now
 puts_slot slot at before now small puts = record {

@@ -6,9 +6,9 @@ ghost use Rattle.spec_rows.specs.PageTest.{HoldsRows};
 ghost use Rattle.spec_rows.specs.Changes as spec;
 
 use crate::pack::compact;
-use crate::puts::{close_slot, is_whole, open_slot, put_row, set_counts};
+use crate::puts::{close_slot, open_slot, put_row, set_counts};
 use crate::slot::{size_at, slot_at};
-use pg_base::{Header, Page, read_header};
+use pg_base::{Header, Page, is_whole, read_header};
 
 /// Removes row i. Its bytes stay; later slots close up.
 pub fn remove_at(page: &mut Page, i: u16)

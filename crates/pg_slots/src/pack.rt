@@ -4,9 +4,9 @@ ghost use Rattle.spec_rows.specs.PageTest.{HoldsRows};
 ghost use Rattle.spec_rows.specs.Changes.{IsCompacted, KeepsTest};
 ghost use Rattle.pg_slots.specs.Puts.{MovesRow, MovesRows};
 
-use crate::puts::{is_whole, put_row, put_slot, set_counts};
+use crate::puts::{put_row, put_slot, set_counts};
 use crate::rows::row_at;
-use pg_base::{Page, read_header};
+use pg_base::{Page, is_whole, read_header};
 
 /// Moves the rows together: they stand from 96 in the order of their slots, with zeros behind them up
 /// to the slots.

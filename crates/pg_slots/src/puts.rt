@@ -61,10 +61,3 @@ pub(crate) fn close_slot(page: &mut Page, i: u16, count: u16)
     }
     put_slot(page, count - 1, 0);
 }
-
-/// A page has as many bytes as any.
-pub(crate) fn is_whole(page: &Page)
-    ensures { length page.now.bytes ≡ 8192 }
-{
-    let _first = page.bytes[0];
-}

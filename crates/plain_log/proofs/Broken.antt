@@ -7,6 +7,7 @@ use Rattle.spec_file.specs.declared.data.Lsn.{Lsn}
 use Rattle.spec_file.specs.declared.geometry.Geometry.{Geometry}
 use Rattle.spec_log.specs.declared.item.Record.{Record}
 use Rattle.spec_log.specs.Rules.{Follows, KeepsRules, IsFirstBroken}
+use Rattle.spec_log.specs.RulesLaws.{older_rules}
 use Rattle.plain_log.proofs.Reverse.{reverse_take_at}
 use Rattle.plain_log.proofs.Named.{length_take}
 
@@ -17,13 +18,9 @@ tail_same : (x y : Record) (xs ys : List Record) → x ∷ xs ≡ y ∷ ys → x
 tail_same x y xs ys e = cc
 
 -- what keeps the rules has no item that breaks one
-keeps_part : (g : Geometry) (pages : ℕ) (newer rest : List Record) → KeepsRules g pages (newer ++ rest) → KeepsRules g pages rest
-keeps_part g pages [] rest kept = kept
-keeps_part g pages (x ∷ newer) rest kept = keeps_part g pages newer rest kept.1
-
 pub not_both : (g : Geometry) (pages : ℕ) (log : List Record) (lsn : ℕ) → KeepsRules g pages log → IsFirstBroken g pages log lsn → ⊥
 not_both g pages log lsn kept (newer, x, older, whole, place, before, broken) =
-    broken (keeps_part g pages newer (x ∷ older) (subst (KeepsRules g pages) whole kept)).0
+    broken (older_rules g pages newer (x ∷ older) (subst (KeepsRules g pages) whole kept)).0
 
 -- the item at i breaks a rule, and those before it keep them
 pub broken_at : (g : Geometry) (pages : ℕ) (items : List Record) (i : ℕ) (x : Record) → i < length items → x ≡ get_or items i x → KeepsRules g pages (reverse (take i items)) → (Follows g pages (reverse (take i items)) x → ⊥) →
@@ -40,9 +37,9 @@ one_place : (g : Geometry) (pages : ℕ) (newer other : List Record) (x y : Reco
     KeepsRules g pages rest → (Follows g pages rest y → ⊥) → length older ≡ length rest
 one_place g pages [] [] x y older rest e kept broken keeps breaks = ap length (tail_same x y older rest e)
 one_place g pages [] (z ∷ other) x y older rest e kept broken keeps breaks =
-    absurd (breaks (keeps_part g pages other (y ∷ rest) (subst (KeepsRules g pages) (tail_same x z older (other ++ y ∷ rest) e) kept)).0)
+    absurd (breaks (older_rules g pages other (y ∷ rest) (subst (KeepsRules g pages) (tail_same x z older (other ++ y ∷ rest) e) kept)).0)
 one_place g pages (z ∷ newer) [] x y older rest e kept broken keeps breaks =
-    absurd (broken (keeps_part g pages newer (x ∷ older) (subst (KeepsRules g pages) (sym (tail_same z y (newer ++ x ∷ older) rest e)) keeps)).0)
+    absurd (broken (older_rules g pages newer (x ∷ older) (subst (KeepsRules g pages) (sym (tail_same z y (newer ++ x ∷ older) rest e)) keeps)).0)
 one_place g pages (z ∷ newer) (w ∷ other) x y older rest e kept broken keeps breaks =
     one_place g pages newer other x y older rest (tail_same z w (newer ++ x ∷ older) (other ++ y ∷ rest) e) kept broken keeps breaks
 

@@ -7,6 +7,7 @@ use Rattle.spec_file.specs.declared.data.Resource.{Resource}
 use Rattle.spec_log.specs.declared.item.Record.{Record}
 use Rattle.spec_log.specs.declared.item.Record.TheVariants.{Start, Change, Undo, Commit, Abort, Snap, Failed, CheckEnd}
 use Rattle.spec_log.specs.Items.{grain_of, number_of, is_same, tran_of}
+use Rattle.spec_log.specs.ItemLaws.{starts_tran}
 use Rattle.spec_log.specs.Log.{starts, takes_it, has_started, has_ended, is_unfinished, has_taken, holds, IsFreeFor}
 use Rattle.spec_log.specs.Rules.{AreFreeFor}
 use Rattle.plain_log.proofs.Reverse.{any_one_more, any_stands, reverse_take_at}
@@ -16,16 +17,6 @@ abbrev pub FreeAmong : List Record → ℕ → Resource → List Record → Type
 FreeAmong log t r [] = Unit {0}
 FreeAmong log t r (x ∷ part) = (holds log (tran_of x) r ≡ true → tran_of x ≡ t) × FreeAmong log t r part
 
-starter : (u : ℕ) (x : Record) → starts u x ≡ true → tran_of x ≡ u
-starter u (Start session index tran number changes size takes) h = eqb-true tran.0 u h
-starter u (Change tran cell before after) h = absurd (false≢true h)
-starter u (Undo tran change) h = absurd (false≢true h)
-starter u (Commit tran) h = absurd (false≢true h)
-starter u (Abort tran) h = absurd (false≢true h)
-starter u (Snap session index) h = absurd (false≢true h)
-starter u (Failed session index failed) h = absurd (false≢true h)
-starter u (CheckEnd session index outcome) h = absurd (false≢true h)
-
 holder_started : (log : List Record) (u : ℕ) (r : Resource) → holds log u r ≡ true → has_started log u ≡ true
 holder_started log u r h =
     (and_parts (has_started log u) (not (has_ended log u)) (and_parts (ltb 0 u) (has_started log u && not (has_ended log u)) (and_parts (is_unfinished log u) (has_taken log u r) h).0).1).0
@@ -33,7 +24,7 @@ holder_started log u r h =
 free_by_start : (log part : List Record) (t u : ℕ) (r : Resource) → FreeAmong log t r part → holds log u r ≡ true → list_any (starts u) part ≡ true → u ≡ t
 free_by_start log [] t u r free h any = absurd (false≢true any)
 free_by_start log (x ∷ part) t u r free h any = elim (cases_Bool (starts u x)) [
-  | inl e ↦ let same : tran_of x ≡ u = starter u x e in sym same ∙ free.0 (subst (λ v. holds log v r ≡ true) (sym same) h)
+  | inl e ↦ let same : tran_of x ≡ u = starts_tran u x e in sym same ∙ free.0 (subst (λ v. holds log v r ≡ true) (sym same) h)
   | inr e ↦ free_by_start log part t u r free.1 h (ap (λ b. b || list_any (starts u) part) (sym e) ∙ any)
 ]
 

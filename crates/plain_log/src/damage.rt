@@ -1,5 +1,5 @@
 //! The damaged page of a file beside its log.
-ghost use Rattle.std.specs.Prelude.{◌≡◌, ◌+◌, ◌<◌, ◌^◌, ℕ, List, Some, take, reverse, length, slice_range, bytes_eq, option_map, IfOk};
+ghost use Rattle.std.specs.Prelude.{◌≡◌, ◌+◌, ◌<◌, ◌^◌, Some, reverse, length, slice_range, bytes_eq, option_map, IfOk};
 ghost use Rattle.spec_file.specs.Image.{page};
 ghost use Rattle.spec_log.specs.Cells.{read_cell, map_bit};
 ghost use Rattle.spec_log.specs.Log.{item_at};
@@ -7,9 +7,9 @@ ghost use Rattle.spec_log.specs.Images.{shows_before, shows, page_of_cell as cel
 
 use crate::PlainImage;
 use crate::images::{item_with, take_item_back};
-use crate::scan::{is_unfinished, tran_of_item};
+use crate::scan::is_unfinished;
 use spec_file::{Lsn, NoMemory, PageNo};
-use spec_log::{Cell, Record};
+use spec_log::{Cell, Record, tran_of_item};
 use std::alloc::Global;
 
 /// So many bytes of a page from an offset, as far as there are.

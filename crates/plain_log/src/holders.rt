@@ -5,9 +5,9 @@ ghost use Rattle.spec_log.specs.Items.{is_same as same_resource};
 ghost use Rattle.spec_log.specs.Log.{takes_it, IsFreeFor, has_taken as log_has_taken, holds as log_holds, greatest_of as log_greatest_of};
 ghost use Rattle.spec_log.specs.Rules.{MayStart, AreFreeFor};
 
-use crate::scan::{is_unfinished, tran_of_item};
+use crate::scan::is_unfinished;
 use spec_file::Resource;
-use spec_log::{Record, Values};
+use spec_log::{Record, Values, tran_of_item};
 
 /// Both are the same resource.
 fn is_same(r: Resource, s: Resource) -> bool

@@ -1,17 +1,16 @@
 //! The images of a file under a log. The items stand in the log's order, the oldest first.
-ghost use Rattle.std.specs.Prelude.{slice_get, ◌≡◌, ◌+◌, ◌<◌, ◌≤◌, ◌^◌, ℕ, Some, take, drop, reverse, length, IfOk, OnOk};
+ghost use Rattle.std.specs.Prelude.{slice_get, ◌≡◌, ◌+◌, ◌<◌, ◌≤◌, Some, take, drop, reverse, length, IfOk, OnOk};
 ghost use Rattle.std.specs.Option.{option_copied};
-ghost use Rattle.spec_file.specs.Image.{Image};
 ghost use Rattle.plain_log.specs.Steps.{with_committed};
-ghost use Rattle.spec_log.specs.Log.{item_at, is_unfinished as log_is_unfinished, has_committed as log_has_committed};
-ghost use Rattle.spec_log.specs.Images.{put_before, put_after, apply, take_back, taken_back, changed};
+ghost use Rattle.spec_log.specs.Log.{item_at, is_unfinished as log_is_unfinished};
+ghost use Rattle.spec_log.specs.Images.{put_before, put_after, apply, take_back, taken_back};
 ghost use Rattle.spec_log.specs.Images.{final_image as log_final_image, start_image as log_start_image, committed_image as log_committed_image};
 
 use crate::PlainImage;
 use crate::put::put;
-use crate::scan::{has_committed, is_unfinished, tran_of_item};
+use crate::scan::{has_committed, is_unfinished};
 use spec_file::{Lsn, NoMemory};
-use spec_log::Record;
+use spec_log::{Record, tran_of_item};
 use std::alloc::Global;
 
 /// The item with this LSN, none where there is none.

@@ -1,12 +1,11 @@
 //! The newest change of a transaction that isn't undone. The items stand in the log's order, the oldest
 //! first.
-ghost use Rattle.std.specs.Prelude.{◌≡◌, ◌↔◌, IsTrue, reverse};
+ghost use Rattle.std.specs.Prelude.{◌↔◌, IsTrue, reverse};
 ghost use Rattle.spec_log.specs.Rules.{IsLastLeft};
 ghost use Rattle.plain_log.specs.Steps.{IsNewestLeft};
 
-use crate::scan::tran_of_item;
 use spec_file::Lsn;
-use spec_log::Record;
+use spec_log::{Record, tran_of_item};
 
 /// The newest change of the transaction that isn't undone, none where all are.
 pub fn newest_left(items: &[Record], t: u64) -> Option<Lsn>

@@ -1,14 +1,11 @@
 //! Cells of an image.
-ghost use Rattle.std.specs.Prelude.{slice_index, slice_set, ◌≡◌, ◌+◌, ◌/◌, ◌%◌, ◌<◌, ◌≤◌, ◌^◌, reverse, length, IfOk, OnOk, OnErr};
-ghost use Rattle.std.specs.Option.{option_copied};
-ghost use Rattle.spec_log.specs.Log.{item_at};
+ghost use Rattle.std.specs.Prelude.{slice_index, slice_set, ◌≡◌, ◌+◌, ◌/◌, ◌%◌, ◌<◌, ◌^◌, length, IfOk, OnOk, OnErr};
 ghost use Rattle.spec_file.specs.Image.{page};
-ghost use Rattle.spec_log.specs.Cells.{with_bytes, with_bit, with_map_bit, put as image_with, byte_with};
-ghost use Rattle.spec_log.specs.Images.{put_before, put_after, apply, take_back};
+ghost use Rattle.spec_log.specs.Cells.{with_bytes, with_map_bit, put as image_with, byte_with};
 
 use crate::PlainImage;
 use spec_file::{Lsn, NoMemory};
-use spec_log::{Cell, Record, Values};
+use spec_log::{Cell, Record, Values, byte_with_bit};
 use std::alloc::Global;
 
 /// The page with these bytes put at an offset.
@@ -38,18 +35,6 @@ fn new_byte(old: &[u8], off: usize, bytes: &[u8], i: usize) -> u8
         bytes[i - off]
     } else {
         old[i]
-    }
-}
-
-/// The byte with bit i turned to v.
-fn byte_with_bit(byte: u8, i: u32, v: u8) -> u8
-    requires { i < 8 }
-    ensures { result ≡ with_bit byte i v }
-{
-    if (byte >> i) & 1 == v {
-        byte
-    } else {
-        byte ^ (1 << i)
     }
 }
 

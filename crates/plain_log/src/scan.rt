@@ -1,27 +1,10 @@
 //! What a log says of a transaction. The items stand in the log's order, the oldest first.
 ghost use Rattle.std.specs.Prelude.{◌≡◌, reverse};
-ghost use Rattle.spec_log.specs.Items.{tran_of};
 ghost use Rattle.spec_log.specs.Log.{starts, commits, ends};
 ghost use Rattle.spec_log.specs.Log.{has_started as log_has_started, has_committed as log_has_committed, has_ended as log_has_ended, is_unfinished as log_is_unfinished};
 
 use spec_file::Tran;
 use spec_log::Record;
-
-/// The transaction of an item, 0 where it has none.
-pub fn tran_of_item(item: &Record) -> u64
-    ensures { result ≡ tran_of item.now }
-{
-    match item {
-        Record::Start { tran, .. } => tran.0,
-        Record::Change { tran, .. } => tran.0,
-        Record::Undo { tran, .. } => tran.0,
-        Record::Commit { tran } => tran.0,
-        Record::Abort { tran } => tran.0,
-        Record::Snap { .. } => 0,
-        Record::Failed { .. } => 0,
-        Record::CheckEnd { .. } => 0,
-    }
-}
 
 fn item_starts(t: u64, item: &Record) -> bool
     ensures { result ≡ starts t item.now }

@@ -1,12 +1,11 @@
 -- The IAM chains of an image (Pages and Extents Architecture Guide; what ends a chain is this project's
 -- own).
-use Rattle.std.specs.Prelude.{◌≡◌, ℕ, zero, suc, ◌<◌, ◌==◌, ◌&&◌, Bool, true, false, not, nat_lt, if◌then◌else◌, Option, Some, None, unwrap_or, List, length, Contains}
+use Rattle.std.specs.Prelude.{◌≡◌, ℕ, zero, suc, ◌<◌, ◌==◌, ◌&&◌, Bool, not, if◌then◌else◌, Option, Some, None, unwrap_or, List, length, Contains}
 use Rattle.spec_file.specs.declared.geometry.Geometry.{Geometry}
-use Rattle.spec_file.specs.declared.role.Role.{Role}
-use Rattle.spec_file.specs.declared.role.Role.TheVariants as role
 use Rattle.spec_file.specs.Image.{Image, page, number_at}
 use Rattle.spec_file.specs.Header.{says}
-use Rattle.spec_file.specs.Roles.{role_of}
+use Rattle.spec_file.specs.Places.{is_inside}
+use Rattle.spec_file.specs.Roles.{is_ordinary}
 use Rattle.spec_file.specs.CatalogRows.{CatalogRow, rows_of}
 use Rattle.spec_file.specs.Iam.{iam_interval, has_interval}
 use Rattle.spec_chain.specs.declared.end.ChainEnd.{ChainEnd}
@@ -31,19 +30,6 @@ abbrev pub or_else : Option ChainEnd → Option ChainEnd → Option ChainEnd
 or_else (Some fault) other = Some fault
 or_else None other = other
 
-abbrev pub is_for_objects : Role → Bool
-is_for_objects role.Ordinary = true
-is_for_objects role.FileHeader = false
-is_for_objects role.Pfs = false
-is_for_objects role.Gam = false
-is_for_objects role.Sgam = false
-is_for_objects role.Reserved = false
-is_for_objects role.Boot = false
-
--- a page that an object may own
-abbrev pub is_ordinary : Geometry → ℕ → Bool
-is_ordinary g p = is_for_objects (role_of g p)
-
 -- the k-th pointer of an object's chain, from 0: the first stands in the catalog, each other in the page
 -- that the pointer before it names
 abbrev pub pointer : Image → CatalogRow → ℕ → ℕ
@@ -54,10 +40,6 @@ pointer image row (suc k) = next_of (page image (pointer image row k))
 abbrev pub holder : Image → CatalogRow → ℕ → ℕ
 holder image row zero = 9
 holder image row (suc k) = pointer image row k
-
--- a page of the file; 0 stands for none
-abbrev pub is_inside : ℕ → ℕ → Bool
-is_inside pages q = not (q == 0) && nat_lt q pages
 
 -- pointer 0 ends a chain of at least one page
 abbrev pub is_last : ℕ → ℕ → Bool

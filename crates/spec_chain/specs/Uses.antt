@@ -1,16 +1,16 @@
 -- Which objects use a page: by a single-page slot that holds it, or as a page of their chain (Pages and
 -- Extents Architecture Guide; the order of uses is this project's own).
-use Rattle.std.specs.Prelude.{◌≡◌, ◌⊎◌, ℕ, zero, ◌<◌, ◌/◌, ◌==◌, Bool, IsTrue, List, length, slice_index, Contains}
-use Rattle.std.specs.Int.{bit_at}
+use Rattle.std.specs.Prelude.{◌≡◌, ◌⊎◌, ℕ, zero, ◌<◌, ◌/◌, Bool, IsTrue, List, length, slice_index, Contains}
 use Rattle.std.specs.List.Sorted.{IsStrictlySortedBy}
 use Rattle.std.specs.Ordering.{nat_cmp, on, then_cmp}
 use Rattle.std.specs.declared.cmp.Ordering.{Ordering}
 use Rattle.spec_file.specs.declared.geometry.Geometry.{Geometry}
 use Rattle.spec_file.specs.Image.{Image, page}
-use Rattle.spec_file.specs.Places.{pfs_place}
+use Rattle.spec_file.specs.Places.{pfs_place, is_inside}
+use Rattle.spec_file.specs.Pfs.{is_allocated_byte}
 use Rattle.spec_file.specs.CatalogRows.{CatalogRow}
 use Rattle.spec_file.specs.Iam.{slot_count, iam_slot}
-use Rattle.spec_chain.specs.Chains.{IsObject, is_inside, pointer, IsChainPage, IsInChain}
+use Rattle.spec_chain.specs.Chains.{IsObject, pointer, IsChainPage, IsInChain}
 use Rattle.spec_chain.specs.Marks.{IsMarked}
 
 -- slot i of an object: only the slots of its chain's first page count
@@ -55,7 +55,7 @@ pfs_byte g image p = slice_index (page image (pfs_place g p).page) (pfs_place g 
 
 -- PFS: the page is allocated
 abbrev pub is_allocated : Geometry → Image → ℕ → Bool
-is_allocated g image p = bit_at (pfs_byte g image p) 6 == 1
+is_allocated g image p = is_allocated_byte (pfs_byte g image p)
 
 -- a page allocated to an object: one in a single-page slot, or an allocated page of an extent that the
 -- object marks

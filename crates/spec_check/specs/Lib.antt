@@ -5,3 +5,4 @@ pub mod Pages
 pub mod Chains
 pub mod Allocation
 pub mod Text
+pub mod Members

@@ -6,11 +6,9 @@ use Rattle.spec_file.specs.declared.role.Role.TheVariants as role
 use Rattle.spec_file.specs.declared.pfs.PfsKind.{PfsKind}
 use Rattle.spec_file.specs.declared.pfs.PfsKind.TheVariants as kinds
 use Rattle.spec_file.specs.Image.{Image}
-use Rattle.spec_file.specs.Roles.{role_of}
+use Rattle.spec_file.specs.Roles.{role_of, is_ordinary}
 use Rattle.spec_file.specs.Pfs.{expected}
 use Rattle.spec_file.specs.Iam.{slot_count}
-use Rattle.spec_file.specs.CatalogRows.{CatalogRow}
-use Rattle.spec_chain.specs.Chains.{IsObject, is_ordinary}
 use Rattle.spec_chain.specs.Marks.{IsMarker, HasMarker}
 use Rattle.spec_chain.specs.Uses.{Use, IsUse, AreUses, HasUse, pfs_byte, is_allocated}
 use Rattle.spec_check.specs.declared.report.CheckError.{CheckError}

@@ -60,7 +60,3 @@ pub record PassesCatalog (boot : List ℕ) : Type 0 where
       → entry_id (entry_at boot i) ≢ entry_id (entry_at boot j)
   pub names : (i j : ℕ) → j < i → i < entry_count → IsUsed boot i → IsUsed boot j
       → entry_name (entry_at boot i) ≢ entry_name (entry_at boot j)
-
--- the catalog has a table
-abbrev pub HasTable : List ℕ → Type 0
-HasTable boot = (i : ℕ) × (i < entry_count) × IsUsed boot i

@@ -1,12 +1,16 @@
 -- An image: a file as the list of its pages, each the list of its 8,192 bytes
 -- (Pages and Extents Architecture Guide).
-use Rattle.std.specs.Prelude.{ℕ, ◌+◌, ◌*◌, ◌/◌, ◌%◌, ◌==◌, Bool, List, [], length, take, drop, map, slice_index, slice_index_or}
+use Rattle.std.specs.Prelude.{ℕ, ◌+◌, ◌*◌, ◌/◌, ◌%◌, ◌==◌, ◌<◌, Bool, List, [], length, take, drop, map, slice_index, slice_index_or}
 use Rattle.std.specs.List.{range_with_len}
 use Rattle.std.specs.Int.{bit_at}
 use Rattle.byteorder.specs.Endian.{little_number}
 
 abbrev pub Image : Type 0
 Image = List (List ℕ)
+
+-- each is below 256
+abbrev pub AreBytes : List ℕ → Type 0
+AreBytes bytes = (i : ℕ) → slice_index bytes i < 256
 
 abbrev pub page_size : ℕ
 page_size = 8192

@@ -1,6 +1,7 @@
 -- What the PFS byte of a page should be (Pages and Extents Architecture Guide; the exact values are this
 -- project's own).
-use Rattle.std.specs.Prelude.{ℕ, ◌+◌, ◌-◌, ◌*◌, ◌==◌, nat_le, if◌then◌else◌}
+use Rattle.std.specs.Prelude.{ℕ, ◌+◌, ◌-◌, ◌*◌, ◌==◌, Bool, nat_le, if◌then◌else◌}
+use Rattle.std.specs.Int.{bit_at}
 use Rattle.spec_file.specs.declared.pfs.PfsKind.{PfsKind}
 use Rattle.spec_file.specs.declared.pfs.PfsKind.TheVariants.{System, Reserved, Boot, Iam, Single, Uniform, Unused}
 
@@ -27,6 +28,10 @@ mixed_flag = 32
 
 abbrev pub allocated_flag : ℕ
 allocated_flag = 64
+
+-- the byte tells that its page is allocated
+abbrev pub is_allocated_byte : ℕ → Bool
+is_allocated_byte byte = bit_at byte 6 == 1
 
 -- the byte that a page of this use should have; the fullness is that of a heap's page, else 0
 abbrev pub expected : PfsKind → ℕ → ℕ

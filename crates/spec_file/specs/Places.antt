@@ -1,7 +1,7 @@
 -- Where the map bits of an extent and the PFS byte of a page stand, in both geometries. The spans of
 -- the standard geometry are close to those of the Pages and Extents Architecture Guide; their exact
 -- numbers, and the small geometry, are this project's own.
-use Rattle.std.specs.Prelude.{ℕ, ◌+◌, ◌*◌, ◌/◌, ◌%◌, ◌==◌, length, if◌then◌else◌, Bool, Option, Some, None}
+use Rattle.std.specs.Prelude.{◌≡◌, ℕ, ◌+◌, ◌*◌, ◌/◌, ◌%◌, ◌≤◌, ◌==◌, ◌&&◌, not, nat_lt, length, if◌then◌else◌, Bool, Option, Some, None}
 use Rattle.spec_file.specs.declared.geometry.Geometry.{Geometry}
 use Rattle.spec_file.specs.declared.geometry.Geometry.TheVariants.{Standard, Small}
 use Rattle.spec_file.specs.Image.{Image, page, bit, maps_start}
@@ -77,3 +77,13 @@ is_mixed g image e = bit_of image (sgam_place g e)
 -- how many extents the image has
 abbrev pub extent_count : Image → ℕ
 extent_count image = length image / 8
+
+-- a page of the file; 0 stands for none
+abbrev pub is_inside : ℕ → ℕ → Bool
+is_inside pages q = not (q == 0) && nat_lt q pages
+
+-- a file of so many pages: whole extents, inside the geometry's limits
+pub record HasShape (g : Geometry) (pages : ℕ) : Type 0 where
+  pub low : 16 ≤ pages
+  pub high : pages ≤ page_limit g
+  pub whole : pages % 8 ≡ 0

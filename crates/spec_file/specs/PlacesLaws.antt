@@ -2,11 +2,11 @@
 -- PFS bytes too, and no page is of two kinds. It holds below the limit of each geometry, since there no
 -- beginning of an interval but the first is a beginning of a PFS span.
 use Rattle.std.specs.Prelude.{◌≡◌, ◌≢◌, ℕ, ◌+◌, ◌*◌, ◌/◌, ◌%◌, ◌<◌, ◌==◌, if◌then◌else◌, ◌⊎◌}
-use Rattle.std.proofs.Common.{refl, arith, inl, inr, ap, sym, ◌∙◌, eq-eqb}
-use Rattle.std.proofs.lemmas.Bool.{cases_Bool, cases_eq, ne_eqb}
+use Rattle.std.proofs.Common.{refl, arith, inl, inr, ap, eq-eqb}
+use Rattle.std.proofs.lemmas.Bool.{cases_eq, ne_eqb}
 use Rattle.spec_file.specs.declared.geometry.Geometry.{Geometry}
 use Rattle.spec_file.specs.declared.geometry.Geometry.TheVariants.{Standard, Small}
-use Rattle.spec_file.specs.Places.{Place, page_limit, pfs_span, gam_page, pfs_page, gam_place, sgam_place, pfs_place}
+use Rattle.spec_file.specs.Places.{Place, page_limit, gam_place, sgam_place, pfs_place}
 
 pub record PlacesApart (g : Geometry) : Type 0 where
   pub gam : (e f : ℕ) → 8 * e < page_limit g → 8 * f < page_limit g → gam_place g e ≡ gam_place g f → e ≡ f

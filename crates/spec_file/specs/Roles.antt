@@ -1,5 +1,5 @@
 -- What each page is for, by its number alone (Pages and Extents Architecture Guide).
-use Rattle.std.specs.Prelude.{ℕ, ◌*◌, ◌/◌, ◌==◌, ◌||◌, Bool, if◌then◌else◌, Option, Some, None}
+use Rattle.std.specs.Prelude.{ℕ, ◌*◌, ◌/◌, ◌==◌, ◌||◌, Bool, true, false, if◌then◌else◌, Option, Some, None}
 use Rattle.std.specs.List.{list_any, range_with_len}
 use Rattle.spec_file.specs.declared.geometry.Geometry.{Geometry}
 use Rattle.spec_file.specs.declared.role.Role.{Role}
@@ -40,3 +40,17 @@ system_type role.Boot = Some 13
 system_type role.FileHeader = None
 system_type role.Reserved = None
 system_type role.Ordinary = None
+
+-- an object may own pages of this role
+abbrev pub is_for_objects : Role → Bool
+is_for_objects role.Ordinary = true
+is_for_objects role.FileHeader = false
+is_for_objects role.Pfs = false
+is_for_objects role.Gam = false
+is_for_objects role.Sgam = false
+is_for_objects role.Reserved = false
+is_for_objects role.Boot = false
+
+-- a page that an object may own
+abbrev pub is_ordinary : Geometry → ℕ → Bool
+is_ordinary g p = is_for_objects (role_of g p)

@@ -1,3 +1,5 @@
+ghost use Rattle.std.specs.Prelude.{◌≡◌};
+
 /// What a page is for, by its number alone (Pages and Extents Architecture Guide).
 #[derive(Clone, Copy, Debug, PartialEq, Eq)]
 pub enum Role {
@@ -10,4 +12,15 @@ pub enum Role {
     Boot,
     /// A page that an object may own.
     Ordinary,
+}
+
+impl Role {
+    ghost use Rattle.spec_file.specs.Roles.{is_for_objects};
+
+    /// Whether an object may own pages of this role.
+    pub fn is_for_objects(self) -> bool
+        ensures { result ≡ is_for_objects self }
+    {
+        matches!(self, Role::Ordinary)
+    }
 }

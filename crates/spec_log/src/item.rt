@@ -1,3 +1,6 @@
+ghost use Rattle.std.specs.Prelude.{◌≡◌};
+ghost use Rattle.spec_log.specs.Items.{tran_of};
+
 use crate::Values;
 use spec_file::{Lsn, PageNo, Resource, Tran};
 
@@ -66,4 +69,20 @@ pub enum Record {
         index: u32,
         outcome: u8,
     },
+}
+
+/// The transaction of an item, 0 where it has none.
+pub fn tran_of_item(item: &Record) -> u64
+    ensures { result ≡ tran_of item.now }
+{
+    match item {
+        Record::Start { tran, .. } => tran.0,
+        Record::Change { tran, .. } => tran.0,
+        Record::Undo { tran, .. } => tran.0,
+        Record::Commit { tran } => tran.0,
+        Record::Abort { tran } => tran.0,
+        Record::Snap { .. } => 0,
+        Record::Failed { .. } => 0,
+        Record::CheckEnd { .. } => 0,
+    }
 }

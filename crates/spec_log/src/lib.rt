@@ -3,8 +3,10 @@
 //! a log. The log, its items and its rules are this project's own.
 #![tactic(auto)]
 
+mod bits;
 mod item;
 mod values;
 
-pub use item::{Cell, Record};
+pub use bits::byte_with_bit;
+pub use item::{Cell, Record, tran_of_item};
 pub use values::Values;

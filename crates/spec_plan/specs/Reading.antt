@@ -6,11 +6,12 @@ use Rattle.spec_file.specs.declared.data.Resource.TheVariants as resource
 use Rattle.spec_file.specs.declared.geometry.Geometry.{Geometry}
 use Rattle.spec_file.specs.Image.{Image, page}
 use Rattle.spec_file.specs.Header.{says}
-use Rattle.spec_file.specs.Places.{interval_size, interval_of_page, pfs_page}
+use Rattle.spec_file.specs.Places.{interval_size, interval_of_page, pfs_page, is_inside}
 use Rattle.spec_file.specs.Catalog.{entry_count, entry_at, entry_id, entry_name, is_zeros, is_row}
 use Rattle.spec_file.specs.CatalogRows.{CatalogRow, rows_of}
 use Rattle.spec_file.specs.Iam.{iam_interval, iam_slots, iam_mark}
-use Rattle.spec_chain.specs.Chains.{is_ordinary, is_inside, is_last, fault_of_bytes, next_of}
+use Rattle.spec_file.specs.Roles.{is_ordinary}
+use Rattle.spec_chain.specs.Chains.{is_last, fault_of_bytes, next_of}
 use Rattle.spec_chain.specs.Uses.{is_allocated}
 use Rattle.spec_plan.specs.Refusals.{bad_page, no_table}
 use Rattle.spec_plan.specs.Sight.{Sight, Outcome, Refuses, unless_held, where_good}

@@ -2,10 +2,7 @@
 use Rattle.std.specs.Prelude.{ℕ, List, [], Some, None}
 use Rattle.spec_file.specs.declared.data.Resource.{Resource}
 use Rattle.spec_script.specs.declared.reply.Refusal.{Refusal}
-
--- a refusal that names nothing
-abbrev pub plain_refusal : ℕ → Refusal
-plain_refusal n = record { number = n; name = []; key = 0; page = record { 0 = 0 }; resource = None; by = record { 0 = 0 } }
+use Rattle.spec_script.specs.Refusals.{plain_refusal}
 
 -- BEGIN where a transaction is open; COMMIT and ROLLBACK where none is
 abbrev pub is_open : Refusal

@@ -4,13 +4,14 @@ use Rattle.spec_file.specs.declared.data.Kind.TheVariants.{Heap}
 use Rattle.spec_file.specs.declared.geometry.Geometry.{Geometry}
 use Rattle.spec_file.specs.declared.geometry.Geometry.TheVariants.{Small}
 use Rattle.spec_file.specs.Image.{Image, page}
-use Rattle.spec_file.specs.Places.{interval_size}
+use Rattle.spec_file.specs.Places.{interval_size, is_inside}
 use Rattle.spec_file.specs.FileForm.{size_passes, header_passes, version_passes, geometry_of, count_passes}
 use Rattle.spec_file.specs.CatalogRows.{CatalogRow, rows_of}
 use Rattle.spec_file.specs.Iam.{slot_count, iam_interval, iam_slot, iam_mark}
 use Rattle.spec_log.specs.Cells.{HasWholePages}
 use Rattle.spec_check.specs.System.{IsSystemSound}
-use Rattle.spec_chain.specs.Chains.{is_inside, is_ordinary, fault_of_bytes, next_of}
+use Rattle.spec_file.specs.Roles.{is_ordinary}
+use Rattle.spec_chain.specs.Chains.{fault_of_bytes, next_of}
 
 -- a heap with one IAM page, which marks no extent, and whose slots hold pages of their own
 pub record IsReplayTable (g : Geometry) (image : Image) (row : CatalogRow) : Type 0 where

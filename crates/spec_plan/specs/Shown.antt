@@ -6,7 +6,7 @@ use Rattle.spec_file.specs.Header.{says}
 use Rattle.spec_file.specs.Image.{Image, page}
 use Rattle.spec_file.specs.Places.{pfs_page}
 use Rattle.spec_log.specs.Cells.{HasWholePages}
-use Rattle.spec_chain.specs.Chains.{is_ordinary}
+use Rattle.spec_file.specs.Roles.{is_ordinary}
 use Rattle.spec_chain.specs.Uses.{pfs_byte}
 use Rattle.spec_plan.specs.Sight.{Sight}
 

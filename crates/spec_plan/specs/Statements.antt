@@ -8,7 +8,7 @@ use Rattle.spec_file.specs.Places.{pfs_place}
 use Rattle.spec_file.specs.Pfs.{fullness_of}
 use Rattle.spec_file.specs.CatalogRows.{CatalogRow}
 use Rattle.spec_log.specs.declared.item.Cell.TheVariants.{Bytes}
-use Rattle.spec_chain.specs.Chains.{is_ordinary}
+use Rattle.spec_file.specs.Roles.{is_ordinary}
 use Rattle.spec_chain.specs.Uses.{pfs_byte}
 use Rattle.spec_rows.specs.Slots.{slot_count}
 use Rattle.spec_plan.specs.declared.plan.Planned.{Planned}

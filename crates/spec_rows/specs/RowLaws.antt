@@ -8,7 +8,7 @@ use Rattle.std.proofs.Math.Nat.{div-one, div-div-eq-div-mul, pow-suc}
 use Rattle.std.proofs.lemmas.Bool.{eq-eqb, eqb-true, le-leb, leb-true, and_from, and_parts}
 use Rattle.byteorder.specs.Endian.{little_bytes, little_number, little_from}
 use Rattle.byteorder.specs.Numbers.{little_number-reads_back}
-use Rattle.spec_file.specs.Image.{number_at}
+use Rattle.spec_file.specs.Image.{AreBytes, number_at}
 use Rattle.spec_rows.specs.Rows.{PageRow, DataRow, IndexRow, Fits, row_bytes, row_of, is_data_row, is_index_row}
 
 data_length : (key : ℕ) (payload : List ℕ) → length (row_bytes (DataRow key payload)) ≡ 11 + length payload
@@ -68,7 +68,7 @@ byte_at-pow zero x = ap (λ (y : ℕ). y % 256) (sym (div-one x))
 byte_at-pow (suc k) x = refl
 
 -- the bytes of the number that n bytes are read as are those bytes
-spells : (n i j y : ℕ) (xs : List ℕ) → y / 256 ^ j ≡ little_from i n xs → ((k : ℕ) → slice_index xs k < 256) → i + n ≤ length xs
+spells : (n i j y : ℕ) (xs : List ℕ) → y / 256 ^ j ≡ little_from i n xs → AreBytes xs → i + n ≤ length xs
     → bytes_low_first j n y ≡ take n (drop i xs)
 spells zero i j y xs same small within = refl
 spells (suc n) i j y xs same small within =
@@ -80,19 +80,19 @@ spells (suc n) i j y xs same small within =
     ap (λ (b : ℕ). b ∷ bytes_low_first (suc j) n y) low ∙ ap (λ (l : List ℕ). slice_index xs i ∷ l) rest
     ∙ ap (take (suc n)) (sym (drop-cons xs i 0 (omega arith)))
 
-small_behind : (at k : ℕ) (bytes : List ℕ) → ((i : ℕ) → slice_index bytes i < 256) → slice_index (drop at bytes) k < 256
-small_behind at k bytes small = rw (get_or-drop at bytes k 0) (small (at + k))
+small_behind : (at : ℕ) (bytes : List ℕ) → AreBytes bytes → AreBytes (drop at bytes)
+small_behind at bytes small k = rw (get_or-drop at bytes k 0) (small (at + k))
 
 -- the bytes of a number read at a place are those at the place
-spelled_at : (n at : ℕ) (bytes : List ℕ) → ((k : ℕ) → slice_index bytes k < 256) → at + n ≤ length bytes
+pub spelled_at : (n at : ℕ) (bytes : List ℕ) → AreBytes bytes → at + n ≤ length bytes
     → little_bytes n (number_at n at bytes) ≡ take n (drop at bytes)
 unfolding number_at
 spelled_at n at bytes small within =
     spells n 0 0 (little_number n (drop at bytes)) (drop at bytes) (div-one (little_number n (drop at bytes)))
-    (λ k. small_behind at k bytes small) (omega (arith, length-drop at bytes))
+    (small_behind at bytes small) (omega (arith, length-drop at bytes))
 
 -- a part and what stands behind it are what stands from the part
-join : (n at k : ℕ) (bytes : List ℕ) → at + n ≡ k → take n (drop at bytes) ++ drop k bytes ≡ drop at bytes
+pub join : (n at k : ℕ) (bytes : List ℕ) → at + n ≡ k → take n (drop at bytes) ++ drop k bytes ≡ drop at bytes
 join n at k bytes here =
     ap (λ (i : ℕ). take n (drop at bytes) ++ drop i bytes) (sym here) ∙ ap (λ (l : List ℕ). take n (drop at bytes) ++ l) (sym (drop-drop n at bytes))
     ∙ take-append-drop n (drop at bytes)
@@ -108,7 +108,7 @@ index_parts key child = refl
 first_byte : (bytes : List ℕ) (b : ℕ) → 0 < length bytes → slice_index bytes 0 ≡ b → b ∷ drop 1 bytes ≡ bytes
 first_byte bytes b some is = ap (λ (x : ℕ). x ∷ drop 1 bytes) (sym is) ∙ sym (drop-cons bytes 0 0 some)
 
-pub data_spelled : (bytes : List ℕ) → ((k : ℕ) → slice_index bytes k < 256) → is_data_row bytes ≡ true
+pub data_spelled : (bytes : List ℕ) → AreBytes bytes → is_data_row bytes ≡ true
     → row_bytes (DataRow (number_at 8 3 bytes) (drop 11 bytes)) ≡ bytes
 unfolding row_bytes
 data_spelled bytes small test =
@@ -127,7 +127,7 @@ data_spelled bytes small test =
     ∙ ap (λ (l : List ℕ). 16 ∷ l) (join 2 1 3 bytes refl)
     ∙ first_byte bytes 16 (omega arith) (eqb-true (slice_index bytes 0) 16 head.0)
 
-pub index_spelled : (bytes : List ℕ) → ((k : ℕ) → slice_index bytes k < 256) → is_index_row bytes ≡ true
+pub index_spelled : (bytes : List ℕ) → AreBytes bytes → is_index_row bytes ≡ true
     → row_bytes (IndexRow (number_at 8 1 bytes) (number_at 4 9 bytes)) ≡ bytes
 unfolding row_bytes
 index_spelled bytes small test =
@@ -144,7 +144,7 @@ index_spelled bytes small test =
     ∙ ap (λ (l : List ℕ). 6 ∷ l) (join 8 1 9 bytes refl)
     ∙ first_byte bytes 6 (omega arith) (eqb-true (slice_index bytes 0) 6 head.0)
 
-row_spelled : (bytes : List ℕ) (row : PageRow) (d i : Bool) → ((k : ℕ) → slice_index bytes k < 256)
+row_spelled : (bytes : List ℕ) (row : PageRow) (d i : Bool) → AreBytes bytes
     → is_data_row bytes ≡ d → is_index_row bytes ≡ i
     → (if d then Some (DataRow (number_at 8 3 bytes) (drop 11 bytes)) else (if i then Some (IndexRow (number_at 8 1 bytes) (number_at 4 9 bytes)) else None)) ≡ Some row
     → row_bytes row ≡ bytes
@@ -157,7 +157,7 @@ row_spelled bytes row false true small d_is i_is same =
 row_spelled bytes row false false small d_is i_is same = absurd (cc)
 
 -- what is read as a row are the bytes of that row
-pub spelled : (bytes : List ℕ) (row : PageRow) → ((k : ℕ) → slice_index bytes k < 256) → row_of bytes ≡ Some row → row_bytes row ≡ bytes
+pub spelled : (bytes : List ℕ) (row : PageRow) → AreBytes bytes → row_of bytes ≡ Some row → row_bytes row ≡ bytes
 spelled bytes row small same = row_spelled bytes row (is_data_row bytes) (is_index_row bytes) small refl refl same
 
 -- bytes that are read as no row are no row's

@@ -1,5 +1,6 @@
 pub mod Lines
 pub mod Texts
+pub mod Refusals
 pub mod Replies
 pub mod PageText
 pub mod Vectors

@@ -1,7 +1,10 @@
+ghost use Rattle.std.specs.Prelude.{◌≡◌};
+
 use crate::Name;
 use spec_check::CheckReport;
 use spec_file::{Lsn, PageNo, Resource, Tran};
 use spec_log::Values;
+use std::alloc::Global;
 
 /// What a statement answers (this project's own).
 #[derive(Debug, Drop)]
@@ -47,4 +50,22 @@ pub struct Refusal {
     /// What another transaction holds, and which.
     pub resource: Option<Resource>,
     pub by: Tran,
+}
+
+impl Refusal {
+    ghost use Rattle.spec_script.specs.Refusals.{plain_refusal};
+
+    /// A refusal that names nothing.
+    pub fn plain(alloc: Global, number: u16) -> Refusal
+        ensures { result ≡ plain_refusal number }
+    {
+        Refusal {
+            number,
+            name: Name::empty(alloc),
+            key: 0,
+            page: PageNo(0),
+            resource: None,
+            by: Tran(0),
+        }
+    }
 }

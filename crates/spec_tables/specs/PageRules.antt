@@ -1,5 +1,5 @@
 -- The rules that one page shows by itself, and those of its object's PFS byte that rest on its rows.
-use Rattle.std.specs.Prelude.{◌≡◌, ◌≢◌, ◌⊎◌, ℕ, ◌+◌, ◌%◌, ◌<◌, ◌≤◌, true, false, List, Some}
+use Rattle.std.specs.Prelude.{◌≡◌, ◌≢◌, ◌⊎◌, ℕ, ◌+◌, ◌%◌, ◌≤◌, true, false, List, Some}
 use Rattle.spec_file.specs.declared.geometry.Geometry.{Geometry}
 use Rattle.spec_file.specs.declared.data.Kind.{Kind}
 use Rattle.spec_file.specs.declared.data.Kind.TheVariants.{Heap, Clustered}
@@ -7,11 +7,11 @@ use Rattle.spec_file.specs.Image.{Image, page}
 use Rattle.spec_file.specs.Header.{header_of}
 use Rattle.spec_file.specs.Pfs.{fullness_of}
 use Rattle.spec_file.specs.CatalogRows.{CatalogRow}
-use Rattle.spec_chain.specs.Chains.{IsObject, is_ordinary}
+use Rattle.spec_file.specs.Roles.{is_ordinary}
+use Rattle.spec_chain.specs.Chains.{IsObject}
 use Rattle.spec_chain.specs.Uses.{IsAllocatedTo, pfs_byte}
 use Rattle.spec_rows.specs.declared.fault.SlotFault.{SlotFault}
 use Rattle.spec_rows.specs.PageTest.{PassesTest, IsFirstFault}
-use Rattle.spec_rows.specs.Slots.{slot_count}
 use Rattle.spec_check.specs.declared.report.CheckError.{CheckError}
 use Rattle.spec_check.specs.Pages.{wrong_byte}
 use Rattle.spec_tables.specs.Heads.{key_at}

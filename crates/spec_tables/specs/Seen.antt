@@ -7,7 +7,7 @@ use Rattle.spec_file.specs.declared.geometry.Geometry.{Geometry}
 use Rattle.spec_file.specs.Image.{Image, page}
 use Rattle.spec_file.specs.Header.{page_type}
 use Rattle.spec_file.specs.CatalogRows.{CatalogRow}
-use Rattle.spec_chain.specs.Chains.{is_ordinary}
+use Rattle.spec_file.specs.Roles.{is_ordinary}
 use Rattle.spec_chain.specs.Uses.{IsAllocatedTo}
 use Rattle.spec_rows.specs.Slots.{slot_count}
 use Rattle.spec_rows.specs.PageTest.{PassesTest}

@@ -1,7 +1,6 @@
 mod Figures
 mod FirstLines
 mod Fronts
-mod Names
 mod Numbers
 mod Printed
 mod Sentences

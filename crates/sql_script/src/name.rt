@@ -2,7 +2,6 @@
 ghost use Rattle.std.specs.Prelude.{◌≡◌};
 ghost use Rattle.std.specs.List.{list_all};
 ghost use Rattle.spec_file.specs.Catalog as spec;
-ghost use Rattle.sql_script.specs.Reading.{name_of};
 
 fn is_letter(b: u8) -> bool
     ensures { result ≡ spec.is_letter b }

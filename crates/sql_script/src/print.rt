@@ -1,7 +1,6 @@
 // Statements as lines.
 ghost use Rattle.std.specs.Prelude.{◌≡◌, ◌≤◌, ◌+◌, ◌++◌, IsTrue, codes, decimal, length, take, OnOk, OnErr};
 ghost use Rattle.arrayvec.specs.ArrayString.{array_string_len};
-ghost use Rattle.spec_file.specs.Catalog.{is_name};
 ghost use Rattle.spec_script.specs.Lines.{is_statement, statement_line};
 
 use arrayvec::ArrayString;

@@ -1,5 +1,5 @@
 // Scripts and schedules, line by line.
-ghost use Rattle.std.specs.Prelude.{◌≡◌, ◌≤◌, ◌+◌, map, length, IfOk, OnOk};
+ghost use Rattle.std.specs.Prelude.{◌≤◌, ◌+◌, length, IfOk, OnOk};
 ghost use Rattle.spec_script.specs.Lines.{IsStatementLine, IsTurnsLine};
 ghost use Rattle.spec_script.specs.Texts.{IsScript, IsSchedule, most_lines};
 ghost use Rattle.sql_script.specs.Stops.{StopsAt, StopsLine, StopsValue, Takes, Grows};

@@ -1,5 +1,5 @@
 // Words of a line: numbers, payloads, and what stands before a space.
-ghost use Rattle.std.specs.Prelude.{◌≡◌, ◌==◌, ◌+◌, ◌<◌, ◌^◌, ◌≤◌, option_map, IfSome, IsTrue, length};
+ghost use Rattle.std.specs.Prelude.{◌≡◌, ◌==◌, ◌+◌, ◌<◌, ◌≤◌, option_map, IfSome, IsTrue};
 ghost use Rattle.std.specs.List.{list_all, position};
 ghost use Rattle.spec_file.specs.Catalog.{is_name};
 ghost use Rattle.spec_script.specs.Lines as lines;

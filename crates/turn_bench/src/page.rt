@@ -1,5 +1,5 @@
 // What threads share: a page, and how often it was copied.
-ghost use Rattle.std.specs.Prelude.{◌≡◌, ℕ, length, vec_len, IfOk};
+ghost use Rattle.std.specs.Prelude.{◌≡◌, vec_len, IfOk};
 ghost use mathlib.Core.List.{IsPrefix};
 ghost use Rattle.turn_bench.specs.Copies.{copies_of};
 

@@ -1,6 +1,6 @@
 // The devices in memory. They tell what they hold, and fail where they were told to. A write or append
 // that finds no memory to grow counts as a failure.
-ghost use Rattle.std.specs.Prelude.{◌≡◌, ◌+◌, ◌*◌, ◌≤◌, ◌<◌, min, length, [], ◌++◌, take, drop, vec_len, Some, OnOk, OnErr};
+ghost use Rattle.std.specs.Prelude.{◌≡◌, ◌+◌, ◌*◌, ◌≤◌, ◌<◌, min, [], drop, vec_len, Some, OnOk, OnErr};
 ghost use Rattle.vol_dev.specs.Devices.{with_page};
 
 use crate::count::FaultCount;

@@ -1,6 +1,6 @@
 use Rattle.std.proofs.Common.{◌+◌, ◌*◌}
 use Rattle.ck_error.specs.Gathered.{Adds, Below}
-use Rattle.ck_alloc.specs.Held.{IsByPage}
+use Rattle.ck_facts.specs.PageUses.{IsByPage}
 use Rattle.ck_alloc.specs.MapRules.{page_state, uses_at}
 use Rattle.ck_alloc.specs.PageRules.{PageSays}
 use Rattle.ck_alloc.proofs.errors.add_pages.Given as goal

@@ -1,5 +1,5 @@
 use Rattle.ck_error.specs.Gathered.{Adds, Below}
-use Rattle.ck_alloc.specs.Held.{IsByPage}
+use Rattle.ck_facts.specs.PageUses.{IsByPage}
 use Rattle.ck_alloc.specs.MapRules.{PartOfMapSays}
 use Rattle.ck_alloc.proofs.errors.add_parts.Given as goal
 

@@ -1,5 +1,6 @@
 use Rattle.std.proofs.Common.{◌≡◌, ◌∙◌, ap, sym, arith, List, ℕ, ◌++◌, ◌∷◌, [], slice_index, get_or}
-use Rattle.ck_alloc.specs.Held.{ids_of, marked_ids}
+use Rattle.ck_facts.specs.MapOf.{ids_of}
+use Rattle.ck_alloc.specs.Held.{marked_ids}
 use Rattle.ck_alloc.proofs.Marking.{marked_more, marked_skip, id_at}
 use Rattle.ck_alloc.proofs.markers.markers_of.Goals as goal
 use Rattle.ck_alloc.proofs.markers.markers_of.Goals.{then-has_mark, else-has_mark}

@@ -1,5 +1,6 @@
 use Rattle.std.proofs.Common.{◌≡◌, ◌≤◌, length}
-use Rattle.ck_alloc.specs.Held.{ids_of, marked_ids}
+use Rattle.ck_facts.specs.MapOf.{ids_of}
+use Rattle.ck_alloc.specs.Held.{marked_ids}
 use Rattle.ck_alloc.proofs.markers.markers_of.Given as goal
 
 abbrev pub invariant-loop-i : goal.invariant-loop-i

@@ -1,7 +1,7 @@
 use Rattle.std.proofs.Common.{◌≡◌, ℕ, ◌+◌, ◌<◌, arith, ◌∙◌, sym, refl, ap, subst}
 use Rattle.spec_file.specs.Image.{page}
 use Rattle.ck_chain.specs.declared.walk.Link.{Link}
-use Rattle.ck_chain.proofs.Reading.{IsReading, begins, goes_on, ends, never_full, told_at}
+use Rattle.ck_chain.proofs.Reading.{IsReading, goes_on, ends, never_full, told_at}
 use Rattle.ck_chain.proofs.chain.follow.Goals as goal
 
 pub returns-in-Some-clause-read : goal.returns-in-Some-clause-read

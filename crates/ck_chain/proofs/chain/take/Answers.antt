@@ -1,6 +1,5 @@
-use Rattle.std.proofs.Common.{arith, rules}
-use Rattle.ck_chain.specs.Inside.{interval_below, interval_begins, extents_below}
-use Rattle.ck_chain.proofs.Looking.{goes_to_iam, goes_to_interval, goes_to_number}
+use Rattle.ck_chain.specs.Inside.{interval_below}
+use Rattle.ck_chain.proofs.Looking.{goes_to_iam, goes_to_interval}
 use Rattle.ck_chain.proofs.chain.take.Goals as goal
 
 pub unreachable-requires : goal.unreachable-requires

@@ -1,4 +1,4 @@
-use Rattle.std.proofs.Common.{◌≡◌, ap}
+use Rattle.std.proofs.Common.{◌≡◌}
 use Rattle.spec_file.specs.Iam.{iam_sequence}
 use Rattle.pg_iam.specs.Views.{bytes_of}
 use Rattle.ck_error.specs.GatheringLaws.{adds_if}

@@ -1,4 +1,3 @@
-use Rattle.std.proofs.Common.{◌≡◌}
 use Rattle.ck_chain.proofs.SlotList.{slot_is}
 use Rattle.ck_chain.proofs.slots.slot_at.Goals as goal
 

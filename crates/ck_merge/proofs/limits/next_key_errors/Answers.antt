@@ -1,8 +1,9 @@
 use Rattle.ck_merge.specs.ParentErrors.{IsAboveNext}
-use Rattle.ck_merge.proofs.Growing.{adds_next, adds_some}
+use Rattle.ck_error.specs.GatheringLaws.{adds_each_next}
+use Rattle.ck_merge.proofs.Growing.{adds_some}
 use Rattle.ck_merge.proofs.limits.next_key_errors.Goals as goal
 
 pub loop-m-preserved : goal.loop-m-preserved
 loop-m-preserved c =
-    adds_next _ c.loop-m.errors.items _ c.args.next.now c.loop-m.m-index _ (IsAboveNext c.args.c.now c.args.s.now) c.loop-m-test.true c.loop-m.invariant
+    adds_each_next _ c.loop-m.errors.items _ c.args.next.now c.loop-m.m-index _ (IsAboveNext c.args.c.now c.args.s.now) c.loop-m-test.true c.loop-m.invariant
     (adds_some _ _ c.next_key_error.result _ c.next_key_error.ensures c.in_ok-push_some.ensures)

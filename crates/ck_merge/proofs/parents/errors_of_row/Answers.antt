@@ -2,7 +2,7 @@ use Rattle.std.proofs.Common.{refl}
 use Rattle.std.proofs.lemmas.Bool.{false≢true}
 use Rattle.ck_merge.specs.Filing.{known_in}
 use Rattle.ck_merge.specs.ParentErrors.{IsRowErrorOf}
-use Rattle.ck_merge.proofs.Growing.{adds_next, adds_all}
+use Rattle.ck_error.specs.GatheringLaws.{adds_each_next, adds_each_all}
 use Rattle.ck_merge.proofs.ParentsRows.{adds_no_table, adds_children}
 use Rattle.ck_merge.proofs.parents.errors_of_row.Goals as goal
 
@@ -12,11 +12,11 @@ returns-then-not-is_table c =
 
 pub loop-s-preserved : goal.loop-s-preserved
 loop-s-preserved c =
-    adds_next _ c.loop-s.errors.items _ c.heads_in-children.result.now c.loop-s.s-index _ (IsRowErrorOf (known_in c.args.roots.now c.args.u.now) c.args.c.now) c.loop-s-test.true c.loop-s.invariant (c.in_ok-errors_of_child.ensures c.args.roots.now)
+    adds_each_next _ c.loop-s.errors.items _ c.heads_in-children.result.now c.loop-s.s-index _ (IsRowErrorOf (known_in c.args.roots.now c.args.u.now) c.args.c.now) c.loop-s-test.true c.loop-s.invariant (c.in_ok-errors_of_child.ensures c.args.roots.now)
 
 pub returns : goal.returns
 returns c =
     adds_children c.args.roots.now c.args.u.now c.args.c.now c.heads_in-children.result.now _ _ (c.if-not-is_table.ensures.0 refl)
     (rw c.deref.ensures.value at c.heads_in-children.ensures)
-    (adds_all _ _ c.heads_in-children.result.now c.loop-s.s-index (IsRowErrorOf (known_in c.args.roots.now c.args.u.now) c.args.c.now)
+    (adds_each_all _ _ c.heads_in-children.result.now c.loop-s.s-index (IsRowErrorOf (known_in c.args.roots.now c.args.u.now) c.args.c.now)
     c.loop-s-test.false c.loop-s.auto.s-index-end c.loop-s.invariant)

@@ -1,11 +1,11 @@
-use Rattle.std.proofs.Common.{◌≡◌, true, false, sym, ap, ◌∙◌}
+use Rattle.std.proofs.Common.{true, false, sym, ap, ◌∙◌}
 use Rattle.std.specs.Prelude.{◌&&◌, ◌==◌, not}
 use Rattle.std.specs.List.{list_any}
 use Rattle.spec_file.specs.declared.geometry.Geometry.{Geometry}
-use Rattle.spec_chain.specs.Chains.{is_ordinary}
+use Rattle.spec_file.specs.Roles.{is_ordinary}
 use Rattle.db_cat.specs.Rows.{row_of}
 use Rattle.db_heap.specs.Heaps.{numbers}
-use Rattle.db_heap.proofs.Seen.{chain_page_is, no_chain_page, iam_seen}
+use Rattle.db_heap.proofs.Seen.{chain_page_is, iam_seen}
 use Rattle.db_heap.proofs.chain.is_chain_page.Goals as goal
 
 pub returns-then-is_iam_of-clause-chain : goal.returns-then-is_iam_of-clause-chain

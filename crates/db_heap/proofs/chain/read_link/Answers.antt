@@ -1,4 +1,4 @@
-use Rattle.std.proofs.Common.{◌≡◌, List, ap, sym, ◌∙◌, ℕ}
+use Rattle.std.proofs.Common.{ap, sym, ◌∙◌}
 use Rattle.spec_chain.specs.Chains.{next_of}
 use Rattle.spec_file.specs.declared.header.Header.{Header}
 use Rattle.db_heap.specs.ReadsLaws.{answers_then, answers_exit, same_good}

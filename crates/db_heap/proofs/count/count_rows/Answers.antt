@@ -1,4 +1,4 @@
-use Rattle.std.proofs.Common.{◌≡◌, ℕ, List, ◌+◌, ◌*◌, ◌<◌, ◌≤◌, drop, ap, sym, ◌∙◌, arith}
+use Rattle.std.proofs.Common.{ℕ, ◌+◌, drop, ap, sym, ◌∙◌, arith}
 use Rattle.spec_rows.specs.Slots.{slot_count}
 use Rattle.spec_plan.specs.Statements.{counted}
 use Rattle.db_cat.specs.Rows.{row_of}

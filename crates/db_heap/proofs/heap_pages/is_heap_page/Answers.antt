@@ -1,6 +1,6 @@
-use Rattle.std.proofs.Common.{◌≡◌, true, sym, ap, ◌∙◌}
+use Rattle.std.proofs.Common.{true, sym, ap, ◌∙◌}
 use Rattle.spec_file.specs.declared.geometry.Geometry.{Geometry}
-use Rattle.spec_chain.specs.Chains.{is_ordinary}
+use Rattle.spec_file.specs.Roles.{is_ordinary}
 use Rattle.spec_plan.specs.Rows.{passes_page}
 use Rattle.db_cat.specs.Rows.{row_of}
 use Rattle.db_heap.proofs.Seen.{page_seen, heap_page_is}

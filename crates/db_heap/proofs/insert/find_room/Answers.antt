@@ -1,4 +1,4 @@
-use Rattle.std.proofs.Common.{◌≡◌, ℕ, ◌+◌, List, Bool, get_or, drop, ap, sym, ◌∙◌}
+use Rattle.std.proofs.Common.{◌+◌, get_or, drop, ap, ◌∙◌}
 use Rattle.spec_plan.specs.Statements.{inserted}
 use Rattle.db_cat.specs.Rows.{row_of}
 use Rattle.db_heap.specs.Heaps.{numbers, IsByteFree}

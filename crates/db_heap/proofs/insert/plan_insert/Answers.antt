@@ -1,5 +1,4 @@
-use Rattle.std.proofs.Common.{◌≡◌, ℕ, List, ap, sym, ◌∙◌, subst}
-use Rattle.spec_file.specs.CatalogRows.{CatalogRow}
+use Rattle.std.proofs.Common.{ℕ, List, ap, sym, ◌∙◌, subst}
 use Rattle.spec_plan.specs.Reading.{heap_read}
 use Rattle.spec_plan.specs.Statements.{inserted}
 use Rattle.spec_plan.specs.Sight.{Sight, Outcome}

@@ -1,4 +1,4 @@
-use Rattle.std.proofs.Common.{◌≡◌, ℕ, List, Bool, false, length, ap, sym, ◌∙◌}
+use Rattle.std.proofs.Common.{◌≡◌, ℕ, List, false, length, ap, sym, ◌∙◌}
 use Rattle.spec_plan.specs.Rows.{has_room_for}
 use Rattle.db_cat.specs.Rows.{row_of}
 use Rattle.db_heap.specs.ReadsLaws.{answers_then, answers_exit}

@@ -1,4 +1,4 @@
-use Rattle.std.proofs.Common.{◌≡◌, ap, ◌∙◌, arith, filter, length, take, ◌+◌, subst, sym, All, ◌≤◌}
+use Rattle.std.proofs.Common.{ap, ◌∙◌, filter, length, take, ◌+◌, subst, sym, All, ◌≤◌}
 use Rattle.std.proofs.lemmas.List.Elements.{All-filter}
 use Rattle.std.specs.List.{range_with_len}
 use Rattle.spec_chain.specs.Uses.{is_allocated}
@@ -34,4 +34,4 @@ returns-clause-few g c =
     let sight = g.V.PlanView.sight c.args.view.now in
     let kept = c.loop-p.invariant ∙ ap (filter (is_of_object sight (numbers c.args.chain.now))) (take_whole c.args.pages.now c.loop-p.p-index c.loop-p-test.false ∙ c.requires.pages) in
     few_kept (is_of_object sight (numbers c.args.chain.now)) (has_byte sight (numbers c.args.chain.now)) c.loop-p.found (length sight.view) kept
-    (subst (λ n. n ≤ 524288) (g.met.V.PlanView.shown c.args.view.now).pages (few_pages _ _ (g.met.V.PlanView.size c.args.view.now).limit))
+    (subst (λ n. n ≤ 524288) (g.met.V.PlanView.shown c.args.view.now).pages (few_pages _ _ (g.met.V.PlanView.size c.args.view.now).high))

@@ -1,4 +1,4 @@
-use Rattle.std.proofs.Common.{◌≡◌, ℕ, ap, sym, ◌∙◌, arith}
+use Rattle.std.proofs.Common.{ap, ◌∙◌, arith}
 use Rattle.spec_plan.specs.Rows.{free_count}
 use Rattle.db_heap.proofs.Inserting.{has_room_from}
 use Rattle.db_heap.proofs.write.byte_after.Goals as goal

@@ -1,4 +1,4 @@
-use Rattle.std.proofs.Common.{◌≡◌, ℕ, ap, sym, ◌∙◌, arith}
+use Rattle.std.proofs.Common.{ap, ◌∙◌, arith}
 use Rattle.spec_rows.specs.Slots.{slot_count}
 use Rattle.db_heap.proofs.Inserting.{has_room_from}
 use Rattle.db_heap.proofs.write.changes_for.Goals as goal

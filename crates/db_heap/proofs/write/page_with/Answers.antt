@@ -1,4 +1,4 @@
-use Rattle.std.proofs.Common.{◌≡◌, ap, ◌∙◌}
+use Rattle.std.proofs.Common.{ap, ◌∙◌}
 use Rattle.pg_base.specs.declared.page.Page.{Page}
 use Rattle.spec_plan.specs.Rows.{passes_page}
 use Rattle.db_heap.proofs.write.page_with.Goals as goal

@@ -32,7 +32,7 @@ returns-clause-row c =
     let room : IsErr c.insert_at-put.result → ⊥ = λ err. omega (arith, enough, c.insert_at-put.ensures.full.0 err) in
     let inserted = on_ok c.insert_at-put.result _ c.insert_at-put.ensures.inserted room in
     let last = ap (λ (h : Header). h.slots) c.read_header-last.ensures in
-    row_inserted old new row c.holds_bytes.ensures.bytes c.holds_bytes-2.ensures.bytes c.holds_bytes.ensures.long (test_from _ _ _ c.requires.heap.2).rest.holds enough
+    row_inserted old new row c.is_whole.ensures.bytes c.is_whole-2.ensures.bytes c.is_whole.ensures.long (test_from _ _ _ c.requires.heap.2).rest.holds enough
     (subst (λ (i : ℕ). IsInserted i row old new) last inserted)
 
 pub returns-clause-test : goal.returns-clause-test

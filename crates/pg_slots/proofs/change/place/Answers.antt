@@ -5,7 +5,8 @@ use Rattle.spec_rows.specs.Slots.{slot_count, rows_end}
 use Rattle.spec_rows.specs.Changes.{with_counts}
 use Rattle.spec_rows.specs.SlotLaws.{rows_room}
 use Rattle.pg_base.specs.NumberLaws.{same_front}
-use Rattle.pg_slots.proofs.Bytes.{same_header, stays_front, stays_back, slot_stays_back}
+use Rattle.pg_base.specs.HeaderLaws.{same_header}
+use Rattle.pg_slots.proofs.Bytes.{stays_front, stays_back, slot_stays_back}
 use Rattle.pg_slots.proofs.change.place.Goals as goal
 
 pub returns : goal.returns
@@ -27,7 +28,7 @@ returns c =
     let kept : header_of opened ≡ header_of old = same_header opened old (same_front 96 (8190 - 2 * said.slots) opened old open_facts.front (omega (arith, room.from, behind, slots))) in
     let kept' : header_of put ≡ header_of opened = same_header put opened (same_front 96 said.free_from put opened put_facts.front (omega (arith, room.from, ends))) in
     record {
-      long = c.is_whole-2.ensures ∙ sym c.is_whole.ensures;
+      long = c.is_whole-2.ensures.long ∙ sym c.is_whole.ensures.long;
       header = counts.header
           ∙ ap (with_counts (said.slots + 1) (said.free_count - (long + 2)) (said.free_from + long)) (kept' ∙ kept)
           ∙ ap (λ (h : Header). with_counts (h.slots + 1) (h.free_count - (long + 2)) (h.free_from + long) (header_of old)) read;

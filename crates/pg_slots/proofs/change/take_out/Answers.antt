@@ -5,7 +5,8 @@ use Rattle.spec_rows.specs.Slots.{size_at, row_size, slot_at, slot_count}
 use Rattle.spec_rows.specs.Changes.{with_counts}
 use Rattle.spec_rows.specs.SlotLaws.{rows_room}
 use Rattle.pg_base.specs.NumberLaws.{same_front}
-use Rattle.pg_slots.proofs.Bytes.{same_header, stays_front, stays_back, slot_stays_back}
+use Rattle.pg_base.specs.HeaderLaws.{same_header}
+use Rattle.pg_slots.proofs.Bytes.{stays_front, stays_back, slot_stays_back}
 use Rattle.pg_slots.proofs.change.take_out.Goals as goal
 
 pub returns : goal.returns
@@ -22,7 +23,7 @@ returns c =
     let size : c.size_at-size.result ≡ row_size old c.args.i = c.size_at-size.ensures ∙ ap (size_at old) c.slot_at.ensures in
     let kept : header_of middle ≡ header_of old = same_header middle old (same_front 96 (8192 - 2 * said.slots) middle old closed.front (omega (arith, room.from, room.within, slots))) in
     record {
-      long = c.is_whole-2.ensures ∙ sym c.is_whole.ensures;
+      long = c.is_whole-2.ensures.long ∙ sym c.is_whole.ensures.long;
       header = counts.header
           ∙ ap (with_counts (said.slots - 1) (said.free_count + c.size_at-size.result + 2) c.end_without_one.result) kept
           ∙ ap (λ (e : ℕ). with_counts (said.slots - 1) (said.free_count + c.size_at-size.result + 2) e (header_of old)) c.end_without_one.ensures

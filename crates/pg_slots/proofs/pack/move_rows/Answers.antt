@@ -41,7 +41,7 @@ loop-slot-preserved c =
 
 pub returns-clause-within : goal.returns-clause-within
 returns-clause-within c =
-    omega (arith, c.loop-slot.invariant.end, room_for c.args.source.now.bytes c.loop-slot.slot c.is_whole.ensures c.requires.holds (omega arith))
+    omega (arith, c.loop-slot.invariant.end, room_for c.args.source.now.bytes c.loop-slot.slot c.is_whole.ensures.long c.requires.holds (omega arith))
 
 pub returns-clause-end : goal.returns-clause-end
 returns-clause-end c =

@@ -5,7 +5,8 @@ use Rattle.spec_rows.specs.Slots.{slot_count, rows_size}
 use Rattle.spec_rows.specs.Changes.{with_counts}
 use Rattle.spec_rows.specs.SlotLaws.{rows_room}
 use Rattle.pg_base.specs.NumberLaws.{same_front}
-use Rattle.pg_slots.proofs.Bytes.{same_header, stays_front, stays_back, slot_stays_back}
+use Rattle.pg_base.specs.HeaderLaws.{same_header}
+use Rattle.pg_slots.proofs.Bytes.{stays_front, stays_back, slot_stays_back}
 use Rattle.pg_slots.proofs.Compacted.{rises}
 use Rattle.pg_slots.proofs.pack.move_together.Goals as goal
 
@@ -28,7 +29,7 @@ returns c =
     let kept : header_of cleared ≡ header_of old =
     same_header cleared old (same_front 96 end cleared moved clears.front (omega (arith, ends)) ∙ moves.front) in
     record {
-      long = c.is_whole-2.ensures ∙ sym c.is_whole.ensures;
+      long = c.is_whole-2.ensures.long ∙ sym c.is_whole.ensures.long;
       header = counts.header ∙ ap (with_counts said.slots said.free_count end) kept
           ∙ ap (λ (n : ℕ). with_counts said.slots said.free_count n (header_of old)) ends
           ∙ ap (λ (h : Header). with_counts h.slots h.free_count (96 + rows_size old (slot_count old)) (header_of old)) read;

@@ -4,14 +4,15 @@ use Rattle.ck_facts.specs.declared.map.PageUse.{PageUse}
 use Rattle.ck_facts.specs.declared.owners.OwnedPage.{OwnedPage}
 use Rattle.ck_facts.specs.OwnedBy.{is_owned_by, owners_of}
 use Rattle.ck_facts.proofs.OwnerLists.{AreOwnersUpTo, owners_none, owners_nowhere, owners_next}
-use Rattle.ck_facts.proofs.OwnerLaws.{owns, owners_are, never_owned, uses_found, sorted_uses, all_owners}
+use Rattle.ck_facts.specs.MapLaws.{uses_by_page}
+use Rattle.ck_facts.proofs.OwnerLaws.{owns, owners_are, never_owned, uses_found, all_owners}
 use Rattle.ck_facts.proofs.map.AllocMap.pages_in.Goals as goal
 
 pub returns-then-is_unowned-clause-owners : goal.returns-then-is_unowned-clause-owners
 returns-then-is_unowned-clause-owners c = λ image of.
     let m = c.args.self.now in
     let e = c.args.e.0 in
-    let sorted = sorted_uses image m of c.requires.sound in
+    let sorted = uses_by_page image m of c.requires.sound in
     let never = never_owned m e c.uses_between-uses.result.now (c.is_unowned.ensures c.if-is_unowned.true)
     ((rw c.deref.ensures.value at c.uses_between-uses.ensures) sorted) in
     owners_are image m e (vec_len m.objects) c.new-owned.result.items of c.requires.sound m.objects.ok.0 c.requires.inside
@@ -54,4 +55,4 @@ returns-clause-owners c = λ image of.
     let end : c.loop-p.p ≡ 8 * e + 8 = omega (arith, c.loop-p-test.false, c.loop-p.auto.p-end) in
     owners_are image m e (vec_len m.objects) c.loop-p.owned.items of c.requires.sound m.objects.ok.0 c.requires.inside
     (subst (λ q. AreOwnersUpTo (owns m) (vec_len m.objects) (8 * e) q 0 c.loop-p.owned.items) end
-    (c.loop-p.invariant.owners (sorted_uses image m of c.requires.sound)))
+    (c.loop-p.invariant.owners (uses_by_page image m of c.requires.sound)))

@@ -1,4 +1,4 @@
--- A name is text.
+-- A name is text, of bytes that may stand in names.
 use Rattle.std.proofs.Common.{◌≡◌, ℕ, zero, suc, ◌<◌, ◌&&◌, true, IsTrue, List, [], ◌∷◌, length, nat_le, arith}
 use Rattle.std.proofs.lemmas.Bool.{and_parts, and_from}
 use Rattle.std.proofs.lemmas.Bool.Decides.{nat_tests}
@@ -16,6 +16,7 @@ name_bytes_are_ascii (b ∷ rest) test zero = name_byte_is_ascii b (and_parts (i
 name_bytes_are_ascii (b ∷ rest) test (suc i) =
     name_bytes_are_ascii rest (and_parts (is_name_byte b) (list_all is_name_byte rest) test).1 i
 
+-- a letter may begin a name, and be in it
 letter_in_name : (b : ℕ) → is_letter b ≡ true → is_name_byte b ≡ true
 letter_in_name b test = grind (arith, nat_tests)
 

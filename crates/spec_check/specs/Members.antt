@@ -1,5 +1,5 @@
 -- Members of lists that a map or a filter makes, and lists in strict order.
-use Rattle.std.proofs.Common.{◌≡◌, ◌⊎◌, ◌↔◌, ℕ, ◌+◌, ◌<◌, ◌==◌, Bool, true, false, IsTrue, List, [], ◌∷◌, Contains, map, filter, cond, length, get_or, arith, sym, subst, ap, ◌∙◌, refl, inl, inr, ⊎_elim, Ordering}
+use Rattle.std.proofs.Common.{◌≡◌, ◌⊎◌, ◌↔◌, ℕ, ◌+◌, ◌<◌, ◌==◌, Bool, true, false, IsTrue, List, [], ◌∷◌, ◌++◌, Contains, map, filter, cond, length, get_or, arith, sym, subst, ap, ◌∙◌, refl, inl, inr, ⊎_elim, Ordering}
 use Rattle.std.specs.Cmp.{IsTotalOrder}
 use Rattle.std.specs.Ordering.{on}
 use Rattle.std.specs.List.{AllByRecursion, range_with_len}
@@ -7,7 +7,7 @@ use Rattle.std.specs.List.Sorted.{IsStrictlySortedBy}
 use Rattle.std.specs.declared.cmp.Ordering.TheVariants.{Less, Greater}
 use Rattle.std.proofs.lemmas.Bool.{eqb-true}
 use Rattle.std.proofs.lemmas.List.FromFn.{length-range_with_len, get_or-range_with_len}
-use Rattle.std.proofs.lemmas.List.Elements.{All-from_recursion, All-contains, Contains-push_cases, Contains-push, Contains-append_left, Contains-append_right, Contains-append_cases}
+use Rattle.std.proofs.lemmas.List.Elements.{All-from_recursion, recursion_from_All, All-contains, All-push, Contains-push_cases, Contains-push, Contains-append_left, Contains-append_right, Contains-append_cases}
 use Rattle.std.proofs.lemmas.Map.Keys.{sorted_from_all_adjacent}
 
 pub nothing_there : {X : Type 0} (x : X) → Contains {X = X} [] x → ⊥
@@ -76,16 +76,31 @@ some_there [] h = absurd (cc)
 some_there (x ∷ xs) h = (x, cons_here x xs)
 
 -- two strictly sorted lists with the same elements are equal
-not_both : {K : Type 0} (R : K → K → Ordering) → IsTotalOrder R → (x y : K) → R x y ≡ Less → R y x ≡ Less → ⊥
+pub not_both : {K : Type 0} (R : K → K → Ordering) → IsTotalOrder R → (x y : K) → R x y ≡ Less → R y x ≡ Less → ⊥
 not_both R o x y p q = let e = o.antisymm x y in let f : Less ≡ Greater = sym p ∙ (e ∙ ap (λ c. Rattle.std.specs.Ordering.ordering_reverse c) q) in cc
 
-below : {K : Type 0} (R : K → K → Ordering) (x : K) (xs : List K) (z : K) → IsStrictlySortedBy R (x ∷ xs) → Contains xs z → R x z ≡ Less
+pub below : {K : Type 0} (R : K → K → Ordering) (x : K) (xs : List K) (z : K) → IsStrictlySortedBy R (x ∷ xs) → Contains xs z → R x z ≡ Less
 unfolding IsStrictlySortedBy
 below R x xs z s h = All-contains (λ y. R x y ≡ Less) xs z (All-from_recursion (λ y. R x y ≡ Less) xs s.0) h
 
-rest_sorted : {K : Type 0} (R : K → K → Ordering) (x : K) (xs : List K) → IsStrictlySortedBy R (x ∷ xs) → IsStrictlySortedBy R xs
+pub rest_sorted : {K : Type 0} (R : K → K → Ordering) (x : K) (xs : List K) → IsStrictlySortedBy R (x ∷ xs) → IsStrictlySortedBy R xs
 unfolding IsStrictlySortedBy
 rest_sorted R x xs s = s.1
+
+pub sorted_none : {K : Type 0} (R : K → K → Ordering) → IsStrictlySortedBy R []
+unfolding IsStrictlySortedBy
+sorted_none R = tt
+
+-- a member more at the end, above all others
+pub sorted_push : {K : Type 0} (R : K → K → Ordering) (xs : List K) (z : K) → IsStrictlySortedBy R xs → ((y : K) → Contains xs y → R y z ≡ Less)
+    → IsStrictlySortedBy R (xs ++ z ∷ [])
+unfolding IsStrictlySortedBy
+sorted_push R [] z s above = (tt, tt)
+sorted_push R (x ∷ xs) z s above = (
+  recursion_from_All (λ y. R x y ≡ Less) (xs ++ z ∷ [])
+      (All-push (λ y. R x y ≡ Less) xs z (All-from_recursion (λ y. R x y ≡ Less) xs s.0) (above x (cons_here x xs))),
+  sorted_push R xs z s.1 (λ y h. above y (cons_there x xs y h)),
+)
 
 heads : {K : Type 0} (R : K → K → Ordering) → IsTotalOrder R → (x y : K) (xs ys : List K) → IsStrictlySortedBy R (x ∷ xs) → IsStrictlySortedBy R (y ∷ ys)
     → ((z : K) → Contains (x ∷ xs) z ↔ Contains (y ∷ ys) z) → x ≡ y

@@ -1,9 +1,0 @@
-use Rattle.std.proofs.Common.{rules, nat_lt}
-use Rattle.std.proofs.lemmas.List.Sorted.{IsPartitionPoint-from_clause, IsPartitionedBy-ltb}
-use Rattle.ck_alloc.proofs.Filtering.{front_is}
-use Rattle.ck_alloc.proofs.runs.below_page.Goals as goal
-
-pub returns : goal.returns
-returns c sorted = front_is (λ u. nat_lt u.page c.args.high) _ _ c.partition_point-at.ensures.bound
-    (IsPartitionPoint-from_clause (λ u. nat_lt u.page c.args.high) _ _ c.partition_point-at.ensures.partitioned
-    (IsPartitionedBy-ltb (λ u. u.page) _ _ sorted.rises) (λ a r q k. search rules))

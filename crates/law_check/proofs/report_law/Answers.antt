@@ -1,0 +1,5 @@
+use Rattle.law_check.specs.ReportLaw.{one_report}
+use Rattle.law_check.proofs.report_law.Goals as goal
+
+pub returns : goal.returns
+returns c = one_report

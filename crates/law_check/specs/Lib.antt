@@ -1,0 +1,4 @@
+pub mod Laws
+pub mod ReportLaw
+pub mod RowReading
+pub mod SlotReading

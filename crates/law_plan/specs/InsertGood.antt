@@ -12,7 +12,7 @@ use Rattle.spec_file.specs.declared.role.Role.{Role}
 use Rattle.spec_file.specs.declared.role.Role.TheVariants as role
 use Rattle.spec_file.specs.Image.{Image, page}
 use Rattle.spec_file.specs.Places.{pfs_page, pfs_place, gam_page, sgam_page, interval_of_page}
-use Rattle.spec_file.specs.Roles.{role_of, is_system_extent}
+use Rattle.spec_file.specs.Roles.{role_of, is_system_extent, is_ordinary, is_for_objects}
 use Rattle.spec_file.specs.CatalogRows.{CatalogRow}
 use Rattle.spec_log.specs.declared.item.Cell.TheVariants.{Bytes}
 use Rattle.spec_log.specs.Items.{is_same, grain_of, number_of, has_cell_form}
@@ -20,7 +20,6 @@ use Rattle.spec_log.specs.Cells.{HasWholePages, read_cell, put, with_bytes}
 use Rattle.spec_log.specs.Cover.{IsOfOneExtent, byte_guard, paged_at}
 use Rattle.law_cover.specs.Places.{pages_guard_bytes}
 use Rattle.law_cover.specs.Pages.{ordinary_role, pages_guard_themselves, pfs_inside}
-use Rattle.spec_chain.specs.Chains.{is_ordinary, is_for_objects}
 use Rattle.spec_chain.specs.Uses.{pfs_byte}
 use Rattle.spec_rows.specs.Slots.{slot_count}
 use Rattle.spec_plan.specs.Sight.{Sight, Outcome, Refuses, Counts, Writes}
@@ -37,7 +36,7 @@ use Rattle.law_plan.specs.Laws.{InsertIsGood, IsNoWrite, CountWritesNothing}
 
 pub count_writes_nothing : CountWritesNothing
 count_writes_nothing sight name =
-    all_heap IsNoWrite sight name (λ row pages. counted sight row 0 pages) (λ refusal. tt) (λ row pages free readable. all_counted IsNoWrite sight row 0 pages (λ refusal. tt) (λ n. tt))
+    all_heap IsNoWrite sight name (λ row pages. counted sight row 0 pages) (λ refusal met. tt) (λ row pages free readable. all_counted IsNoWrite sight row 0 pages (λ refusal met. tt) (λ n. tt))
 
 -- a resource is the same as another where grain and number are
 same_resource : (r s : Resource) → is_same r s ≡ true → r ≡ s
@@ -283,6 +282,6 @@ put_good sight row bytes p whole many table_free chosen =
 pub insert_good : InsertIsGood
 insert_good sight name key payload takes changes whole many e =
     subst (IsGoodIfWrites sight) e
-    (all_heap (IsGoodIfWrites sight) sight name (λ row pages. inserted sight row (heap_row key payload) pages) (λ refusal. tt)
-    (λ row pages free readable. all_inserted (IsGoodIfWrites sight) sight row (heap_row key payload) pages (λ refusal. tt) readable
+    (all_heap (IsGoodIfWrites sight) sight name (λ row pages. inserted sight row (heap_row key payload) pages) (λ refusal met. tt)
+    (λ row pages free readable. all_inserted (IsGoodIfWrites sight) sight row (heap_row key payload) pages (λ refusal met. tt) readable
     (λ p chosen. put_good sight row (heap_row key payload) p whole many free chosen)))

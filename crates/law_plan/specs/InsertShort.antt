@@ -49,6 +49,6 @@ put_short sight row p bytes =
 
 pub insert_is_short : InsertIsShort
 insert_is_short sight name key payload =
-    all_heap IsShort sight name (λ row pages. inserted sight row (heap_row key payload) pages) (λ refusal. tt)
-    (λ row pages free readable. all_inserted IsShort sight row (heap_row key payload) pages (λ refusal. tt) readable
+    all_heap IsShort sight name (λ row pages. inserted sight row (heap_row key payload) pages) (λ refusal met. tt)
+    (λ row pages free readable. all_inserted IsShort sight row (heap_row key payload) pages (λ refusal met. tt) readable
     (λ p chosen. put_short sight row p (heap_row key payload)))

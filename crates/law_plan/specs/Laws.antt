@@ -1,5 +1,5 @@
 -- What a statement's plan may write, on whatever its transaction sees.
-use Rattle.std.specs.Prelude.{◌≡◌, ℕ, ◌≤◌, List, length}
+use Rattle.std.specs.Prelude.{◌≡◌, ◌≢◌, ℕ, ◌<◌, ◌≤◌, List, length}
 use Rattle.spec_file.specs.declared.data.Resource.{Resource}
 use Rattle.spec_log.specs.Cells.{HasWholePages}
 use Rattle.spec_plan.specs.declared.plan.Planned.{Planned}
@@ -30,3 +30,13 @@ IsShort (Writes takes changes) = (length takes ≤ 3) × (length changes ≤ 4)
 -- INSERT takes and changes no more
 abbrev pub InsertIsShort : Type 0
 InsertIsShort = (sight : Sight) (name : List ℕ) (key : ℕ) (payload : List ℕ) → IsShort (insert_outcome sight name key payload)
+
+-- a refusal's number is neither 0, which stands for an accepted statement, nor 701, for want of memory, nor 823, for a fault
+abbrev pub IsNumbered : Outcome → Type 0
+IsNumbered (Refuses refusal) = (0 < refusal.number) × (refusal.number ≢ 701) × (refusal.number ≢ 823)
+IsNumbered (Counts count) = Unit {0}
+IsNumbered (Writes takes changes) = Unit {0}
+
+abbrev pub OutcomesAreNumbered : Type 0
+OutcomesAreNumbered = (sight : Sight) (name : List ℕ) →
+    IsNumbered (count_outcome sight name) × ((key : ℕ) (payload : List ℕ) → IsNumbered (insert_outcome sight name key payload))

@@ -5,3 +5,4 @@ pub mod ReadingGood
 pub mod Laws
 pub mod InsertGood
 pub mod InsertShort
+pub mod Numbers

@@ -1,5 +1,5 @@
 -- What holds of each refusal, and of what comes where nothing refuses, holds of a statement's outcome.
-use Rattle.std.proofs.Common.{◌≡◌, ℕ, zero, suc, ◌+◌, ◌<◌, ◌≤◌, true, false, eqb, not, ◌&&◌, ◌||◌, Bool, List, [], ◌∷◌, ◌++◌, length, Option, Some, None, refl, subst, arith}
+use Rattle.std.proofs.Common.{◌≡◌, ℕ, zero, suc, ◌+◌, ◌<◌, ◌≤◌, ◌≢◌, ◌⊎◌, inl, inr, true, false, eqb, not, ◌&&◌, ◌||◌, Bool, List, [], ◌∷◌, ◌++◌, length, Option, Some, None, refl, subst, arith}
 use Rattle.std.specs.Prelude.{if◌then◌else◌, filter}
 use Rattle.std.specs.List.{range_with_len}
 use Rattle.std.proofs.lemmas.Bool.{cond_both, and_parts}
@@ -7,9 +7,10 @@ use Rattle.spec_file.specs.declared.data.Resource.{Resource}
 use Rattle.spec_file.specs.declared.data.Resource.TheVariants as resource
 use Rattle.spec_file.specs.Image.{page}
 use Rattle.spec_file.specs.Header.{says}
-use Rattle.spec_file.specs.Places.{pfs_page}
+use Rattle.spec_file.specs.Places.{pfs_page, is_inside}
 use Rattle.spec_file.specs.CatalogRows.{CatalogRow, rows_of}
-use Rattle.spec_chain.specs.Chains.{is_inside, is_last, is_ordinary, next_of}
+use Rattle.spec_file.specs.Roles.{is_ordinary}
+use Rattle.spec_chain.specs.Chains.{is_last, next_of}
 use Rattle.spec_chain.specs.Uses.{is_allocated}
 use Rattle.spec_script.specs.declared.reply.Refusal.{Refusal}
 use Rattle.spec_plan.specs.Refusals.{bad_page, held_by, no_table, no_room}
@@ -19,19 +20,30 @@ use Rattle.spec_rows.specs.Slots.{slot_count}
 use Rattle.spec_plan.specs.Rows.{has_room_for}
 use Rattle.spec_plan.specs.Statements.{is_heap_page, counted, fullness_at, row_put, inserted}
 
--- it holds of each refusal
+-- a refusal that a statement meets in reading: its number isn't that of an accepted statement, of want of memory or of a fault
+abbrev pub IsMet : Refusal → Type 0
+IsMet refusal = (0 < refusal.number) × (refusal.number ≢ 701) × (refusal.number ≢ 823)
+
+-- it holds of each such refusal
 abbrev pub OfRefusals : (Outcome → Type 0) → Type 0
-OfRefusals P = (refusal : Refusal) → P (Refuses refusal)
+OfRefusals P = (refusal : Refusal) → IsMet refusal → P (Refuses refusal)
+
+is_met : (refusal : Refusal) → 0 < refusal.number → (refusal.number < 701) ⊎ (823 < refusal.number) → IsMet refusal
+is_met refusal some (inl below) = (some, (λ same. omega (arith, same, below)), (λ same. omega (arith, same, below)))
+is_met refusal some (inr above) = (some, (λ same. omega (arith, same, above)), (λ same. omega (arith, same, above)))
 
 pub all_held : (P : Outcome → Type 0) (sight : Sight) (r : Resource) (next : Outcome) → OfRefusals P → (sight.other r ≡ None → P next) → P (unless_held sight r next)
 all_held P sight r next refuses all = by_case (sight.other r) refl
   where
     by_case : (o : Option ℕ) → sight.other r ≡ o → P (by_holder r o next)
     by_case None e = all e
-    by_case (Some t) e = refuses (held_by r t)
+    by_case (Some t) e = refuses (held_by r t) (is_met (held_by r t) (omega arith) (inr (omega arith)))
+
+refuses_bad : (P : Outcome → Type 0) (p : ℕ) → OfRefusals P → P (Refuses (bad_page p))
+refuses_bad P p refuses = refuses (bad_page p) (is_met (bad_page p) (omega arith) (inr (omega arith)))
 
 pub all_good : (P : Outcome → Type 0) (good : Bool) (p : ℕ) (next : Outcome) → OfRefusals P → (good ≡ true → P next) → P (where_good good p next)
-all_good P good p next refuses all = cond_both good next (Refuses (bad_page p)) P all (λ e. refuses (bad_page p))
+all_good P good p next refuses all = cond_both good next (Refuses (bad_page p)) P all (λ e. refuses_bad P p refuses)
 
 pub all_table : (P : Outcome → Type 0) (sight : Sight) (name : List ℕ) (next : CatalogRow → Outcome) → OfRefusals P →
     ((row : CatalogRow) → sight.other (resource.Table (record { 0 = row.id })) ≡ None → P (next row)) → P (table_read sight name next)
@@ -40,12 +52,12 @@ all_table P sight name next refuses all =
     all_good P (is_catalog (page sight.view 9)) 9 _ refuses (λ right. by_name (named_among (rows_of (page sight.view 9)) name)))
   where
     by_name : (o : Option CatalogRow) → P (where_named name o (λ row. unless_held sight (resource.Table (record { 0 = row.id })) (next row)))
-    by_name None = refuses (no_table name)
+    by_name None = refuses (no_table name) (is_met (no_table name) (omega arith) (inl (omega arith)))
     by_name (Some row) = all_held P sight (resource.Table (record { 0 = row.id })) (next row) refuses (all row)
 
 all_chain : (P : Outcome → Type 0) (n : ℕ) (sight : Sight) (row : CatalogRow) (met : List ℕ) (from p : ℕ) (next : List ℕ → Outcome) → OfRefusals P →
     ((chain : List ℕ) → P (next chain)) → P (chain_from n sight row met from p next)
-all_chain P zero sight row met from p next refuses all = refuses (bad_page p)
+all_chain P zero sight row met from p next refuses all = refuses_bad P p refuses
 all_chain P (suc n) sight row met from p next refuses all =
     cond_both (is_last (length met) p) (next met) _ P (λ e. all met) (λ e.
     all_good P (is_inside (length sight.view) p) from _ refuses (λ inside.
@@ -120,7 +132,7 @@ pub record IsChosen (sight : Sight) (row : CatalogRow) (size p : ℕ) : Type 0 w
 
 pub all_inserted : (P : Outcome → Type 0) (sight : Sight) (row : CatalogRow) (bytes : List ℕ) (ps : List ℕ) → OfRefusals P → AreReadable sight ps →
     ((p : ℕ) → IsChosen sight row (length bytes) p → P (row_put sight row p bytes)) → P (inserted sight row bytes ps)
-all_inserted P sight row bytes [] refuses all put = refuses no_room
+all_inserted P sight row bytes [] refuses all put = refuses no_room (is_met no_room (omega arith) (inr (omega arith)))
 all_inserted P sight row bytes (p ∷ ps) refuses all put =
     cond_both (is_ordinary sight.geometry p && eqb (fullness_at sight p) 4) (inserted sight row bytes ps) _ P
     (λ e. all_inserted P sight row bytes ps refuses all.1 put)

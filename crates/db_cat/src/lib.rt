@@ -5,7 +5,7 @@ mod entry;
 mod passes;
 mod rows;
 
-pub use passes::{catalog_passes, has_table};
+pub use passes::catalog_passes;
 pub use rows::{CatRow, CatStop, read_catalog};
 
 #[cfg(test)]

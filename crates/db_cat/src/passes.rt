@@ -50,15 +50,3 @@ fn are_alike(a: &[u8], b: &[u8]) -> bool
 {
     u32_at(a, 0) == u32_at(b, 0) || name_of(a) == name_of(b)
 }
-
-/// Whether page 9 has an entry that isn't empty.
-pub fn has_table(page: &Page) -> bool
-    ensures { IsTrue result ↔ spec.HasTable page.now.bytes }
-{
-    for i in 0..128 {
-        if !is_zeros(entry_at(page, i)) {
-            return true;
-        }
-    }
-    false
-}

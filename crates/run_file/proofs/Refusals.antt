@@ -1,17 +1,21 @@
--- From what the pages in memory fail to what their file is refused for.
-use Rattle.std.proofs.Common.{◌≡◌, ℕ, ◌/◌, ◌<◌, ◌≤◌, IsTrue, List, Option, Some, None, IfSome, IfErr, Result, Ok, Err, length, refl, sym, ap, ◌∙◌, subst, arith, inl, inr, ⊎_elim}
+-- From what page 0 or the pages in memory fail to what their file is refused for.
+use Rattle.std.proofs.Common.{◌≡◌, ℕ, ◌*◌, ◌/◌, ◌<◌, ◌≤◌, Bool, true, false, IsTrue, List, Option, Some, None, IfSome, IfErr, Result, Ok, Err, length, refl, sym, ap, ◌∙◌, subst, arith, inl, inr, ⊎_elim}
 use Rattle.std.specs.Option.{ForSome}
-use Rattle.spec_file.specs.declared.geometry.Geometry.{Geometry}
+use Rattle.std.specs.Prelude.{not, if◌then◌else◌}
+use Rattle.std.proofs.lemmas.Option.{none-some}
 use Rattle.spec_file.specs.Image.{Image, page, page_at, pages_of}
 use Rattle.spec_file.specs.ImageLaws.{length-pages_of, page-pages_of}
-use Rattle.spec_file.specs.FileForm.{size_passes}
+use Rattle.spec_file.specs.FileForm.{size_passes, header_passes, version_passes, geometry_of, count_passes}
+use Rattle.spec_file.specs.declared.geometry.Geometry.TheVariants.{Small}
+use Rattle.spec_log.specs.Cells.{HasWholePages}
 use Rattle.spec_plan.specs.ReplayForm.{IsReplayForm}
 use Rattle.run_file.specs.declared.why.FileStop.{FileStop}
 use Rattle.run_file.specs.declared.why.FileStop.TheVariants.{Refused, Failed, NoMemory}
 use Rattle.run_file.specs.declared.why.FileWhy.{FileWhy}
 use Rattle.run_file.specs.declared.why.FileWhy.TheVariants as why
-use Rattle.run_file.specs.Opening.{opening_fault, file_fault, IsRefusedForRun, IsLeftOut, FileFault, AreAllPages, HasPages}
-use Rattle.run_file.specs.OpeningLaws.{after_size}
+use Rattle.run_file.specs.Form.{IsSmallFirst, IsSmallFile}
+use Rattle.run_file.specs.Opening.{count_fault, opening_fault, file_fault, IsRefusedForRun, IsLater, IsLeftOutBy, FileFault, AreAllPages, HasPages}
+use Rattle.run_file.specs.OpeningLaws.{after_size, passes_first}
 
 -- page 0 of a told file decides
 page_decides : (bytes first : List ℕ) (pages : ℕ) (fault : Option FileWhy) → HasPages pages bytes → 16 ≤ pages → first ≡ page_at bytes 0
@@ -23,46 +27,79 @@ page_decides bytes first pages fault has low is said =
     ∙ ap (λ n. opening_fault n (page (pages_of bytes) 0)) (length-pages_of bytes ∙ count)
     ∙ ap (opening_fault pages) (page-pages_of bytes 0 inside ∙ sym is) ∙ said
 
-pub told_refused : (told : Option (List ℕ)) (first : List ℕ) (pages : ℕ) (w : FileWhy) → ForSome told (HasPages pages) → 16 ≤ pages
-    → IfSome told (λ bytes. first ≡ page_at bytes 0) → opening_fault pages first ≡ Some w → IfSome told (IsRefusedForRun w)
-told_refused None first pages w has low is said = tt
-told_refused (Some bytes) first pages w has low is said = inl (page_decides bytes first pages (Some w) (has bytes refl) low is said)
+header_parts : (header version : Bool) (fault : Option FileWhy)
+    → (if not header then Some why.Header else (if not version then Some why.Version else fault)) ≡ None → (header ≡ true) × (version ≡ true) × (fault ≡ None)
+header_parts true true fault none = (refl, refl, none)
+header_parts true false fault none = absurd (none-some why.Version (sym none))
+header_parts false version fault none = absurd (none-some why.Header (sym none))
 
--- a file of too many pages is one for later
-pub told_large : (told : Option (List ℕ)) (first : List ℕ) (pages : ℕ) → ForSome told (HasPages pages) → 88 < pages
-    → IfSome told (λ bytes. first ≡ page_at bytes 0) → opening_fault pages first ≡ None → IfSome told (IsRefusedForRun why.Later)
-told_large None first pages has large is said = tt
-told_large (Some bytes) first pages has large is said =
+count_part : (b : Bool) → (if b then None else Some why.Count) ≡ None → b ≡ true
+count_part true none = refl
+count_part false none = absurd (none-some why.Count (sym none))
+
+-- page 0 that fails no test passes each
+pub small_first : (pages : ℕ) (first : List ℕ) → opening_fault pages first ≡ None → geometry_of first ≡ Some Small → pages ≤ 88 → IsSmallFirst pages first
+small_first pages first none small few =
+    let parts = header_parts (header_passes first) (version_passes first) (count_fault (geometry_of first) pages first) none in
+    record {
+      header = parts.0;
+      version = parts.1;
+      geometry = small;
+      count = count_part (count_passes Small pages first) (sym (ap (λ g. count_fault g pages first) small) ∙ parts.2);
+      few = few;
+    }
+
+-- page 0 of a told file leaves it out
+pub told_left_out : (told : Option (List ℕ)) (first : List ℕ) (pages : ℕ) (w : FileWhy) → ForSome told (HasPages pages) → 16 ≤ pages
+    → IfSome told (λ bytes. first ≡ page_at bytes 0) → IsLeftOutBy pages first w → IfSome told (IsRefusedForRun w)
+told_left_out None first pages w has low is left = tt
+told_left_out (Some bytes) first pages w has low is left =
     let size = (has bytes refl).0 in
-    inr (
-      refl,
-      page_decides bytes first pages None (has bytes refl) (omega (arith, large)) is said,
+    let inside : 0 < length bytes / 8192 = omega (arith, size, low) in
+    let shown : page (pages_of bytes) 0 ≡ first = page-pages_of bytes 0 inside ∙ sym is in
+    ⊎_elim (λ fails. inl (page_decides bytes first pages (Some w) (has bytes refl) low is fails))
+    (λ later. inr (
+      later.0,
+      page_decides bytes first pages None (has bytes refl) low is later.1,
       λ g form.
           let few = form.few in
           let count = length-pages_of bytes in
-          omega (arith, few, count, large, size),
-    )
-
--- pages in memory that fail are those of the file
-left_out : (bytes : List ℕ) (image : Image) (w : FileWhy) → IsTrue (size_passes (length bytes)) → image ≡ pages_of bytes
-    → IsLeftOut image (Refused w) → IsRefusedForRun w bytes
-left_out bytes image w passes same left =
-    ⊎_elim (λ first. inl (sym (after_size bytes passes) ∙ subst (λ i. opening_fault (length i) (page i 0) ≡ Some w) same first))
-    (λ later. inr (
-      later.0,
-      sym (after_size bytes passes) ∙ subst (λ i. opening_fault (length i) (page i 0) ≡ None) same later.1,
-      subst (λ i. (g : Geometry) → IsReplayForm g i → ⊥) same later.2,
+          later.2 (ap geometry_of (sym shown) ∙ form.geometry ∙ ap (λ x. Some x) form.small) (omega (arith, few, count, size)),
     )) left
 
-told_left : (told : Option (List ℕ)) (image : Image) (w : FileWhy) → IfSome told (λ bytes. IsTrue (size_passes (length bytes)))
-    → IfSome told (AreAllPages image) → IsLeftOut image (Refused w) → IfSome told (IsRefusedForRun w)
-told_left None image w passes all left = tt
-told_left (Some bytes) image w passes all left = left_out bytes image w passes all.1 left
+-- all pages are in memory behind a page 0 that passes
+pub small_file : (image : Image) (first : List ℕ) (pages : ℕ) → HasWholePages image → IsTrue (size_passes (8192 * pages)) → IsSmallFirst pages first
+    → length image ≡ pages → page image 0 ≡ first → IsSmallFile image
+small_file image first pages whole size passes count is = record {
+  whole = whole;
+  size = subst (λ n. IsTrue (size_passes (8192 * n))) (sym count) size;
+  header = subst (λ l. IsTrue (header_passes l)) (sym is) passes.header;
+  version = subst (λ l. IsTrue (version_passes l)) (sym is) passes.version;
+  geometry = ap geometry_of is ∙ passes.geometry;
+  count = subst (λ l. IsTrue (count_passes Small (length image) l)) (sym is) (subst (λ n. IsTrue (count_passes Small n first)) (sym count) passes.count);
+  few = subst (λ n. n ≤ 88) (sym count) passes.few;
+}
 
-pub refused_file : {T : Type 0} (told : Option (List ℕ)) (before now : ℕ) (image : Image) (r : Result T FileStop)
-    → IfSome told (λ bytes. IsTrue (size_passes (length bytes))) → IfSome told (AreAllPages image) → IfErr r (IsLeftOut image)
+-- such pages fail no test
+small_passes : (image : Image) → IsSmallFile image → opening_fault (length image) (page image 0) ≡ None
+small_passes image small =
+    passes_first (length image) (page image 0) small.header small.version small.geometry small.count
+
+-- a small file whose pages haven't the form is one for later
+told_later : (told : Option (List ℕ)) (image : Image) (w : FileWhy) → IfSome told (λ bytes. IsTrue (size_passes (length bytes)))
+    → IsSmallFile image → IfSome told (AreAllPages image) → IsLater image (Refused w) → IfSome told (IsRefusedForRun w)
+told_later None image w passes small all later = tt
+told_later (Some bytes) image w passes small all later =
+    inr (
+      later.0,
+      sym (after_size bytes passes) ∙ subst (λ i. opening_fault (length i) (page i 0) ≡ None) all.1 (small_passes image small),
+      λ g form. later.1 (subst (IsReplayForm Small) (sym all.1) (subst (λ h. IsReplayForm h (pages_of bytes)) form.small form)),
+    )
+
+pub later_file : {T : Type 0} (told : Option (List ℕ)) (before now : ℕ) (image : Image) (r : Result T FileStop)
+    → IfSome told (λ bytes. IsTrue (size_passes (length bytes))) → IsSmallFile image → IfSome told (AreAllPages image) → IfErr r (IsLater image)
     → FileFault told before now r
-refused_file told before now image (Ok value) passes all left = tt
-refused_file told before now image (Err (Refused w)) passes all left = told_left told image w passes all left
-refused_file told before now image (Err Failed) passes all left = absurd left
-refused_file told before now image (Err NoMemory) passes all left = passes
+later_file told before now image (Ok value) passes small all later = tt
+later_file told before now image (Err (Refused w)) passes small all later = told_later told image w passes small all later
+later_file told before now image (Err Failed) passes small all later = absurd later
+later_file told before now image (Err NoMemory) passes small all later = passes

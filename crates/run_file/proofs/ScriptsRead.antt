@@ -9,11 +9,14 @@ use Rattle.std.proofs.lemmas.Grind.{drop_more_same}
 use Rattle.pg_base.specs.Faults.{Rose}
 use Rattle.std.specs.Io.KnownBytes.{IsAtEnd}
 use Rattle.spec_script.specs.declared.statement.Statement.{Statement}
-use Rattle.spec_script.specs.Lines.{is_statement, IsStatementLine}
+use Rattle.spec_script.specs.Lines.{is_statement, IsStatementLine, IsTurnsLine}
 use Rattle.spec_script.specs.Texts.{IsScript, IsSchedule, IsWrongAt, most_lines}
 use Rattle.run_file.specs.declared.stop.SourcesStop.{SourcesStop}
 use Rattle.run_file.specs.declared.stop.SourcesStop.TheVariants as stop
-use Rattle.run_file.specs.Sources.{AreProper, AreScripts, AreShort, NoneFell, OneRose, FaultAt, ScriptsFault, SourcesFault, IsFirstWrong}
+use Rattle.run_file.specs.declared.stop.TextStop.{TextStop}
+use Rattle.run_file.specs.declared.stop.TextStop.TheVariants as text
+use Rattle.run_file.specs.Stops.{sources_stop}
+use Rattle.run_file.specs.Sources.{AreProper, AreScripts, AreShort, NoneFell, TextFault, FaultAt, ScriptsFault, SourcesFault, IsFirstWrong}
 
 -- the first k of the sources are read to their ends, and the others are as they were
 pub record AreReadTo {S : Type 0} (left : S → Option (List ℕ)) (faults : S → ℕ) (old now : List S) (scripts : List (List Statement)) (k : ℕ) : Type 0 where
@@ -62,14 +65,15 @@ module _ {S : Type 0} (left : S → Option (List ℕ)) (faults : S → ℕ) (old
       ]
 
   -- one that rose
-  pub rose_here : length now ≡ length old → drop k now ≡ drop k old → Rose (faults x) (faults y) → OneRose (map faults old) (map faults (set now k y))
+  rose_here : length now ≡ length old → drop k now ≡ drop k old → Rose (faults x) (faults y)
+      → (k < length (map faults old)) × Rose (get_or (map faults old) k 0) (get_or (map faults (set now k y)) k 0)
   rose_here size rest rises =
       let first : k < length old = omega (arith, below, size) in
       let was : get_or (map faults old) k 0 ≡ faults x = at_map faults old k x 0 first (still old now k x rest is) in
       let new : get_or (map faults (set now k y)) k 0 ≡ faults y =
       ap (λ l. get_or l k 0) (map-set faults now k y)
       ∙ get_or-set_same (map faults now) k (faults y) 0 (subst (λ n. k < n) (sym (length-map now faults)) below) in
-      (k, subst (λ n. k < n) (sym (length-map old faults)) first, subst (λ a. Rose a (get_or (map faults (set now k y)) k 0)) (sym was) (subst (Rose (faults x)) (sym new) rises))
+      (subst (λ n. k < n) (sym (length-map old faults)) first, subst (λ a. Rose a (get_or (map faults (set now k y)) k 0)) (sym was) (subst (Rose (faults x)) (sym new) rises))
 
   -- one script more
   pub read_next : (scripts : List (List Statement)) (script : List Statement) → AreReadTo left faults old now scripts k
@@ -99,7 +103,9 @@ module _ {S : Type 0} (left : S → Option (List ℕ)) (faults : S → ℕ) (old
       → FaultAt (k + 1) IsStatementLine (left x) (faults x) (faults y) r → ScriptsFault (map left old) (map faults old) (map faults (set now k y)) r
   fault_here scripts (Ok v) read fault = tt
   fault_here scripts (Err stop.NoMemory) read fault = tt
-  fault_here scripts (Err stop.Failed) read fault = rose_here read.size read.rest fault
+  fault_here scripts (Err stop.Failed) read fault =
+      let rose = rose_here read.size read.rest fault in
+      record { place = k; within = rose.0; scripts = scripts; texts = read.said; rose = rose.1 }
   fault_here scripts (Err (stop.Fault j line why)) read fault =
       subst (λ i. IsFirstWrong (map left old) i line why) (sym fault.0) (first_wrong (k + 1 - 1) (omega arith))
     where
@@ -124,17 +130,33 @@ scripts_count [] (s ∷ scripts) are = absurd are
 scripts_count (l ∷ lefts) [] are = absurd are
 scripts_count (l ∷ lefts) (s ∷ scripts) are = ap suc (scripts_count lefts scripts are.1)
 
+-- all but the first
+others : {S : Type 0} (left : S → Option (List ℕ)) (first : S) (rest : List S) → length (map left (first ∷ rest)) - 1 ≡ length rest
+others left first rest = let same = length-map rest left in omega (arith, same)
+
 module _ {S : Type 0} (left : S → Option (List ℕ)) (faults : S → ℕ) (first new : S) (rest after : List S) where
+  -- a schedule that is wrong or fails
+  pub fault_first : (T : Type 0) (r : TextStop) → TextFault {T = T} (IsTurnsLine (length rest)) (left first) (faults first) (faults new) (Err r)
+      → SourcesFault {T = T} (map left (first ∷ rest)) (map faults (first ∷ rest)) (map faults (new ∷ after)) (Err (sources_stop 0 r))
+  fault_first T text.NoMemory fault = tt
+  fault_first T text.Failed fault = record { place = 0; within = omega arith; texts = tt; rose = fault }
+  fault_first T (text.Fault line why) fault =
+      subst (λ n. IfSome (left first) (λ bytes. IsWrongAt (IsTurnsLine n) bytes line why)) (sym (others left first rest)) fault
+
   -- a script that is wrong behind a schedule
   pub fault_behind : {T : Type 0} (turns : List (ℕ × ℕ)) (r : Result T SourcesStop) → IfSome (left first) (λ bytes. IsSchedule (length rest) bytes turns)
       → ScriptsFault (map left rest) (map faults rest) (map faults after) r
       → SourcesFault (map left (first ∷ rest)) (map faults (first ∷ rest)) (map faults (new ∷ after)) r
   fault_behind turns (Ok v) schedule fault = tt
   fault_behind turns (Err stop.NoMemory) schedule fault = tt
-  fault_behind turns (Err stop.Failed) schedule fault = (suc fault.0, omega (arith, fault.1), fault.2)
+  fault_behind turns (Err stop.Failed) schedule fault =
+      let within = fault.within in
+      record {
+        place = suc fault.place;
+        within = omega (arith, within);
+        texts = (turns, subst (λ n. IfSome (left first) (λ bytes. IsSchedule n bytes turns)) (sym (others left first rest)) schedule, (fault.scripts, fault.texts));
+        rose = fault.rose;
+      }
   fault_behind turns (Err (stop.Fault zero line why)) schedule fault = absurd (let above = fault.above in omega (arith, above))
   fault_behind turns (Err (stop.Fault (suc k) line why)) schedule fault =
-      (turns, subst (λ n. IfSome (left first) (λ bytes. IsSchedule n bytes turns)) (sym count) schedule, fault)
-    where
-      count : length (map left (first ∷ rest)) - 1 ≡ length rest
-      count = let same = length-map rest left in omega (arith, same)
+      (turns, subst (λ n. IfSome (left first) (λ bytes. IsSchedule n bytes turns)) (sym (others left first rest)) schedule, fault)

@@ -5,7 +5,16 @@ use Rattle.spec_file.specs.Image.{Image, page}
 use Rattle.spec_file.specs.FileForm.{size_passes, header_passes, version_passes, geometry_of, count_passes}
 use Rattle.spec_file.specs.Iam.{slot_count, iam_slot}
 use Rattle.spec_log.specs.Cells.{HasWholePages}
-use Rattle.spec_chain.specs.Chains.{is_inside, is_ordinary}
+use Rattle.spec_file.specs.Roles.{is_ordinary}
+use Rattle.spec_file.specs.Places.{is_inside}
+
+-- page 0 passes its tests in a small file of so many pages, at most 88
+pub record IsSmallFirst (pages : ℕ) (first : List ℕ) : Type 0 where
+  pub header : IsTrue (header_passes first)
+  pub version : IsTrue (version_passes first)
+  pub geometry : geometry_of first ≡ Some Small
+  pub count : IsTrue (count_passes Small pages first)
+  pub few : pages ≤ 88
 
 -- a small file of at most 88 pages whose page 0 passes its tests
 pub record IsSmallFile (image : Image) : Type 0 where

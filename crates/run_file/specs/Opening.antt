@@ -1,5 +1,5 @@
 -- Which test a file fails first.
-use Rattle.std.specs.Prelude.{◌≡◌, ◌⊎◌, ℕ, ◌*◌, ◌/◌, IsTrue, not, List, length, Option, Some, None, IfSome, Result, Ok, Err, if◌then◌else◌, ⊤}
+use Rattle.std.specs.Prelude.{◌≡◌, ◌⊎◌, ℕ, ◌*◌, ◌/◌, ◌≤◌, IsTrue, not, List, length, Option, Some, None, IfSome, Result, Ok, Err, if◌then◌else◌, ⊤}
 use Rattle.spec_file.specs.declared.geometry.Geometry.{Geometry}
 use Rattle.spec_file.specs.declared.geometry.Geometry.TheVariants.{Small}
 use Rattle.spec_file.specs.Image.{Image, page_size, pages_of, page}
@@ -49,19 +49,17 @@ abbrev pub FileFault : {T : Type 0} → Option (List ℕ) → ℕ → ℕ → Re
 FileFault told before now (Err stop) = StopSays told before now stop
 FileFault told before now (Ok value) = ⊤
 
+-- page 0 of a file of so many pages fails a test, or the file isn't small or has more than 88 pages
+abbrev pub IsLeftOutBy : ℕ → List ℕ → FileWhy → Type 0
+IsLeftOutBy pages first w =
+    (opening_fault pages first ≡ Some w)
+    ⊎ ((w ≡ why.Later) × (opening_fault pages first ≡ None) × (geometry_of first ≡ Some Small → pages ≤ 88 → ⊥))
+
 -- these pages in memory, of a small file, have not the form
 abbrev pub IsLater : Image → FileStop → Type 0
 IsLater image (Refused w) = (w ≡ why.Later) × (IsReplayForm Small image → ⊥)
 IsLater image Failed = ⊥
 IsLater image NoMemory = ⊤
-
--- these pages in memory fail a test, or have not the form
-abbrev pub IsLeftOut : Image → FileStop → Type 0
-IsLeftOut image (Refused w) =
-    (opening_fault (length image) (page image 0) ≡ Some w)
-    ⊎ ((w ≡ why.Later) × (opening_fault (length image) (page image 0) ≡ None) × ((g : Geometry) → IsReplayForm g image → ⊥))
-IsLeftOut image Failed = ⊥
-IsLeftOut image NoMemory = ⊤
 
 -- the pages in memory are those of the file, and it has no other bytes
 abbrev pub AreAllPages : Image → List ℕ → Type 0

@@ -1,6 +1,5 @@
 -- What the tests of a file say of its bytes.
-use Rattle.std.proofs.Common.{◌≡◌, ◌⊎◌, ℕ, ◌/◌, Bool, true, IsTrue, List, Option, Some, None, IfSome, length, sym, ap, subst, ◌∙◌, refl, ⊎_elim, not, if◌then◌else◌}
-use Rattle.spec_file.specs.declared.geometry.Geometry.{Geometry}
+use Rattle.std.proofs.Common.{◌≡◌, ℕ, ◌/◌, Bool, true, IsTrue, List, Option, Some, None, IfSome, length, sym, ap, subst, ◌∙◌, refl, ⊎_elim, not, if◌then◌else◌}
 use Rattle.spec_file.specs.declared.geometry.Geometry.TheVariants.{Small}
 use Rattle.spec_file.specs.Image.{Image, page_size, pages_of, page}
 use Rattle.spec_file.specs.ImageLaws.{length-pages_of}
@@ -35,16 +34,20 @@ header_first : (header version : Bool) (fault : Option FileWhy) → header ≡ t
     → (if not header then Some why.Header else (if not version then Some why.Version else fault)) ≡ fault
 header_first header version fault passes right = rw (passes, right) refl
 
+-- page 0 that passes each test fails none
+pub passes_first : (pages : ℕ) (first : List ℕ) → IsTrue (header_passes first) → IsTrue (version_passes first) → geometry_of first ≡ Some Small
+    → IsTrue (count_passes Small pages first) → opening_fault pages first ≡ None
+passes_first pages first header version geometry count =
+    header_first (header_passes first) (version_passes first) (count_fault (geometry_of first) pages first) header version
+    ∙ ap (λ g. count_fault g pages first) geometry
+    ∙ ap (λ (b : Bool). if b then None else Some why.Count) count
+
 -- such a file passes all tests
 passes_all : (bytes : List ℕ) → IsRunFile bytes → file_fault bytes ≡ None
 passes_all bytes file =
     let image = pages_of bytes in
-    let first = page image 0 in
     let form = file.1 in
-    sym (after_size bytes file.0)
-    ∙ header_first (header_passes first) (version_passes first) (count_fault (geometry_of first) (length image) first) form.header form.version
-    ∙ ap (λ g. count_fault g (length image) first) form.geometry
-    ∙ ap (λ (b : Bool). if b then None else Some why.Count) form.count
+    sym (after_size bytes file.0) ∙ passes_first (length image) (page image 0) form.header form.version form.geometry form.count
 
 same_why : (fault : Option FileWhy) (w v : FileWhy) → fault ≡ Some w → fault ≡ Some v → w ≡ v
 same_why fault w v a b = let same : Some w ≡ Some v = sym a ∙ b in cc

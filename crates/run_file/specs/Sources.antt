@@ -73,10 +73,18 @@ pub record IsFirstWrong (lefts : List (Option (List ℕ))) (k line : ℕ) (why :
   pub before : AreScripts (take (k - 1) lefts) scripts
   pub wrong : IfSome (left_at lefts (k - 1)) (λ bytes. IsWrongAt IsStatementLine bytes line why)
 
--- a fault names the first script that is wrong
+-- one of these sources failed, and those before it are scripts
+pub record HasFailedScript (lefts : List (Option (List ℕ))) (before now : List ℕ) : Type 0 where
+  pub place : ℕ
+  pub within : place < length before
+  pub scripts : List (List Statement)
+  pub texts : AreScripts (take place lefts) scripts
+  pub rose : Rose (slice_index before place) (slice_index now place)
+
+-- a fault names the first script that is wrong, and a failure comes where those before it are right
 abbrev pub ScriptsFault : {T : Type 0} → List (Option (List ℕ)) → List ℕ → List ℕ → Result T SourcesStop → Type 0
 ScriptsFault lefts before now (Err (sources.Fault k line why)) = IsFirstWrong lefts k line why
-ScriptsFault lefts before now (Err sources.Failed) = OneRose before now
+ScriptsFault lefts before now (Err sources.Failed) = HasFailedScript lefts before now
 ScriptsFault lefts before now (Err sources.NoMemory) = ⊤
 ScriptsFault lefts before now (Ok value) = ⊤
 
@@ -87,10 +95,25 @@ IsFirstOf lefts (suc k) line why =
     (turns : List (ℕ × ℕ)) × IfSome (left_at lefts 0) (λ bytes. IsSchedule (length lefts - 1) bytes turns)
     × IsFirstWrong (drop 1 lefts) (suc k) line why
 
--- a fault names the first source that is wrong
+-- the sources before source k are right: source 0 is the schedule of as many sessions as there are others, and
+-- these are scripts
+abbrev pub AreTextsBefore : List (Option (List ℕ)) → ℕ → Type 0
+AreTextsBefore lefts zero = ⊤
+AreTextsBefore lefts (suc k) =
+    (turns : List (ℕ × ℕ)) × IfSome (left_at lefts 0) (λ bytes. IsSchedule (length lefts - 1) bytes turns)
+    × ((scripts : List (List Statement)) × AreScripts (take k (drop 1 lefts)) scripts)
+
+-- a source failed, and those before it are right
+pub record HasFailedSource (lefts : List (Option (List ℕ))) (before now : List ℕ) : Type 0 where
+  pub place : ℕ
+  pub within : place < length before
+  pub texts : AreTextsBefore lefts place
+  pub rose : Rose (slice_index before place) (slice_index now place)
+
+-- a fault names the first source that is wrong, and a failure comes where those before it are right
 abbrev pub SourcesFault : {T : Type 0} → List (Option (List ℕ)) → List ℕ → List ℕ → Result T SourcesStop → Type 0
 SourcesFault lefts before now (Err (sources.Fault k line why)) = IsFirstOf lefts k line why
-SourcesFault lefts before now (Err sources.Failed) = OneRose before now
+SourcesFault lefts before now (Err sources.Failed) = HasFailedSource lefts before now
 SourcesFault lefts before now (Err sources.NoMemory) = ⊤
 SourcesFault lefts before now (Ok value) = ⊤
 

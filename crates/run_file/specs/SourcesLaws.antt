@@ -1,13 +1,13 @@
 -- Which of told sources is the first that is wrong.
-use Rattle.std.proofs.Common.{◌≡◌, ℕ, zero, suc, ◌-◌, ◌<◌, ◌≤◌, List, [], ◌∷◌, length, take, drop, Option, Some, None, IfSome, refl, sym, ap, ◌∙◌, subst, arith, ⊎_elim}
+use Rattle.std.proofs.Common.{◌≡◌, ℕ, zero, suc, ◌-◌, ◌<◌, List, [], ◌∷◌, length, take, drop, Option, Some, None, IfSome, refl, sym, subst, arith, ⊎_elim}
 use Rattle.std.proofs.lemmas.Bool.{cases_order}
 use Rattle.std.proofs.lemmas.List.{take_all}
 use Rattle.spec_script.specs.declared.statement.Statement.{Statement}
 use Rattle.spec_script.specs.declared.stop.ScriptWhy.{ScriptWhy}
 use Rattle.spec_script.specs.Lines.{IsStatementLine, IsTurnsLine}
-use Rattle.spec_script.specs.Texts.{IsScript, IsSchedule, IsText, IsWrongAt}
+use Rattle.spec_script.specs.Texts.{IsScript, IsText, IsWrongAt}
 use Rattle.sql_script.specs.OneReading.{never_both, one_fault}
-use Rattle.run_file.specs.Sources.{AreKnown, AreScripts, AreTexts, IsFirstOf, IsFirstWrong, left_at}
+use Rattle.run_file.specs.Sources.{AreKnown, AreScripts, AreTexts, HasFailedSource, IsFirstOf, IsFirstWrong, OneRose, left_at}
 
 -- the same line is named, for the same reason
 abbrev pub IsSameFault : ℕ → ℕ → ScriptWhy → ScriptWhy → Type 0
@@ -107,3 +107,7 @@ none_wrong lefts turns scripts (suc k) line why some known texts first =
     let place : suc k - 1 ≡ k = omega arith in
     no_both IsStatementLine others k line script.0 why (known_behind lefts known) below script.1
     (subst (λ n. IfSome (left_at others n) (λ bytes. IsWrongAt IsStatementLine bytes line why)) place wrong.wrong)
+
+-- where a source failed a count rose
+pub failed_rose : (lefts : List (Option (List ℕ))) (before now : List ℕ) → HasFailedSource lefts before now → OneRose before now
+failed_rose lefts before now failed = (failed.place, failed.within, failed.rose)

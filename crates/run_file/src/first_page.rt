@@ -5,8 +5,7 @@ ghost use Rattle.spec_file.specs.FileForm as form;
 ghost use Rattle.run_file.specs.Opening as spec;
 
 use crate::FileWhy;
-use ck_alloc::is_page_of;
-use pg_base::{Geometry, Page, u16_at, u32_at};
+use pg_base::{Geometry, Page, PageNo, is_page_of, u16_at, u32_at};
 use pg_geom::page_limit;
 
 const MAGIC: [u8; 8] = *b"PGCHKDB1";
@@ -27,7 +26,7 @@ fn has_magic(first: &Page) -> bool
 fn passes_header(first: &Page) -> bool
     ensures { result ≡ form.header_passes first.now.bytes }
 {
-    first.bytes[0] == 1 && is_page_of(first, 15, 0) && has_magic(first)
+    first.bytes[0] == 1 && is_page_of(first, 15, PageNo(0)) && has_magic(first)
 }
 
 fn passes_version(first: &Page) -> bool

@@ -1,5 +1,5 @@
 // Whether a data file has the form that sessions over it need.
-ghost use Rattle.std.specs.Prelude.{◌≡◌, ◌↔◌, ◌<◌, ◌≤◌, IsTrue, IfOk, MatchBool, length, map};
+ghost use Rattle.std.specs.Prelude.{◌↔◌, ◌<◌, ◌≤◌, IsTrue, IfOk, MatchBool, length, map};
 ghost use Rattle.spec_file.specs.declared.geometry.Geometry.TheVariants.{Small};
 ghost use Rattle.spec_file.specs.Image.{page as image_page};
 ghost use Rattle.spec_file.specs.CatalogRows.{rows_of};

@@ -1,46 +1,19 @@
 // The tests of the one IAM page of a table.
-ghost use Rattle.std.specs.Prelude.{◌≡◌, ◌↔◌, ◌<◌, ◌≤◌, ℕ, false, IsTrue, length};
-ghost use Rattle.spec_file.specs.declared.geometry.Geometry.TheVariants.{Small};
+ghost use Rattle.std.specs.Prelude.{◌≡◌, ◌↔◌, ◌<◌, ◌≤◌, ℕ, false, IsTrue};
 ghost use Rattle.spec_file.specs.Iam as spec;
-ghost use Rattle.spec_chain.specs.Chains as chains;
 ghost use Rattle.pg_iam.specs.Views.{bytes_of};
 ghost use Rattle.run_file.specs.Form.{IsForObjects, IsGoodSlot, AreGoodSlots};
 
-use pg_base::{Geometry, Page, PageNo, Role, u32_at};
-use pg_geom::role_of;
+use pg_base::{Geometry, Page, PageNo, u32_at};
+use pg_geom::{is_inside, is_ordinary};
 use pg_iam::IamView;
-
-/// Whether the number is that of a page of the file, which 0 isn't.
-fn is_inside(pages: u32, p: PageNo) -> bool
-    ensures { result ≡ chains.is_inside pages p.0 }
-{
-    p.0 != 0 && p.0 < pages
-}
-
-fn is_ordinary(p: PageNo) -> bool
-    requires { p.0 < 4096 }
-    ensures { result ≡ chains.is_ordinary Small p.0 }
-{
-    match role_of(Geometry::Small, p) {
-        Role::Ordinary => true,
-        Role::FileHeader => false,
-        Role::Pfs => false,
-        Role::Gam => false,
-        Role::Sgam => false,
-        Role::Reserved => false,
-        Role::Boot => false,
-    }
-}
 
 /// Whether an object may own the page.
 pub fn is_for_objects(pages: u32, p: PageNo) -> bool
     requires { pages ≤ 4096 }
     ensures { IsTrue result ↔ IsForObjects pages p.0 }
 {
-    if !is_inside(pages, p) {
-        return false;
-    }
-    is_ordinary(p)
+    is_inside(pages, p) && is_ordinary(Geometry::Small, p)
 }
 
 /// Whether the page marks no extent.

@@ -1,13 +1,12 @@
 // The file of a run: its tests, and its pages in memory.
-ghost use Rattle.std.specs.Prelude.{◌≡◌, ◌*◌, ◌<◌, ◌≤◌, IsTrue, IfOk, IfErr, IfSome, length};
+ghost use Rattle.std.specs.Prelude.{◌≡◌, ◌*◌, ◌≤◌, IsTrue, IfOk, IfErr, IfSome, OnOk};
 ghost use Rattle.std.specs.Option.{ForSome};
 ghost use Rattle.spec_file.specs.declared.geometry.Geometry.TheVariants.{Small};
 ghost use Rattle.spec_file.specs.Image.{page_at};
 ghost use Rattle.spec_file.specs.FileForm.{size_passes};
-ghost use Rattle.spec_log.specs.Cells.{HasWholePages};
 ghost use Rattle.spec_plan.specs.ReplayForm.{IsReplayForm};
-ghost use Rattle.run_file.specs.Form.{IsSmallFile};
-ghost use Rattle.run_file.specs.Opening.{StopSays, FileFault, IsLater, IsLeftOut, AreAllPages, HasPages};
+ghost use Rattle.run_file.specs.Form.{IsSmallFirst, IsSmallFile};
+ghost use Rattle.run_file.specs.Opening.{FileFault, IsLater, IsLeftOutBy, AreAllPages, HasPages};
 
 use crate::first_page::{passes_size, tested_geometry};
 use crate::form::has_replay_form;
@@ -40,34 +39,62 @@ fn first_page<V: Volume>(alloc: Global, volume: &mut V, pages: u32) -> Result<Bo
     }
 }
 
-/// Why a file of more pages than the form allows isn't opened: its first test that fails, or later.
-fn stop_of_large<V: Volume>(alloc: Global, volume: &mut V, pages: u32) -> FileStop
-    requires large { 88 < pages }
-    requires pages { ForSome (V.contents volume.old) (HasPages pages) }
-    ensures fault { StopSays (V.contents volume.old) (V.faults volume.old) (V.faults volume.new) result }
-    ensures same { V.contents volume.new ≡ V.contents volume.old }
-    ensures faults { V.faults volume.old ≤ V.faults volume.new }
+/// Whether page 0 is that of a file which sessions may run over, as far as it tells: it passes its tests, and the
+/// file is small, of at most 88 pages.
+fn test_first(first: &Page, pages: u32) -> Result<(), FileWhy>
+    ensures ok { OnOk result (IsSmallFirst pages first.now.bytes) }
+    ensures fault { IfErr result (IsLeftOutBy pages first.now.bytes) }
 {
-    match first_page(alloc, volume, pages) {
-        Err(stop) => stop,
-        Ok(first) => match tested_geometry(&first, pages) {
-            Err(why) => FileStop::Refused(why),
-            Ok(_) => FileStop::Refused(FileWhy::Later),
-        },
+    match tested_geometry(first, pages) {
+        Err(why) => Err(why),
+        Ok(Geometry::Standard) => Err(FileWhy::Later),
+        Ok(Geometry::Small) => {
+            if pages > MOST_PAGES {
+                return Err(FileWhy::Later);
+            }
+            Ok(())
+        }
     }
 }
 
-/// All pages of a file of so many.
-fn pages_in_memory<V: Volume>(alloc: Global, volume: &mut V, pages: u32) -> Result<Frames, FileStop>
-    requires { ForSome (V.contents volume.old) (HasPages pages) }
-    ensures count { IfOk result (λ frames. length frames ≡ pages) }
-    ensures whole { IfOk result HasWholePages }
+/// Page 0 of a file of so many pages, where it is that of a file which sessions may run over. No other page is read.
+fn tested_first<V: Volume>(alloc: Global, volume: &mut V, pages: u32) -> Result<Box<Page>, FileStop>
+    requires low { 16 ≤ pages }
+    requires pages { ForSome (V.contents volume.old) (HasPages pages) }
+    ensures passes { IfOk result (λ first. IsSmallFirst pages first.value.bytes) }
+    ensures page { IfOk result (λ first. IfSome (V.contents volume.old) (λ bytes. first.value.bytes ≡ page_at bytes 0)) }
+    ensures fault { FileFault (V.contents volume.old) (V.faults volume.old) (V.faults volume.new) result }
+    ensures same { V.contents volume.new ≡ V.contents volume.old }
+    ensures faults { V.faults volume.old ≤ V.faults volume.new }
+{
+    let first = match first_page(alloc, volume, pages) {
+        Ok(first) => first,
+        Err(stop) => return Err(stop),
+    };
+    match test_first(&first, pages) {
+        Ok(()) => Ok(first),
+        Err(why) => Err(FileStop::Refused(why)),
+    }
+}
+
+/// All pages of a file, once its page 0 has passed.
+fn pages_in_memory<V: Volume>(
+    alloc: Global,
+    first: Box<Page>,
+    volume: &mut V,
+    pages: u32,
+) -> Result<Frames, FileStop>
+    requires passes { IsSmallFirst pages first.value.bytes }
+    requires size { IsTrue (size_passes (8192 * pages)) }
+    requires page { IfSome (V.contents volume.old) (λ bytes. first.value.bytes ≡ page_at bytes 0) }
+    requires pages { ForSome (V.contents volume.old) (HasPages pages) }
+    ensures small { IfOk result IsSmallFile }
     ensures told { IfOk result (λ frames. IfSome (V.contents volume.old) (AreAllPages frames)) }
     ensures fault { FileFault (V.contents volume.old) (V.faults volume.old) (V.faults volume.new) result }
     ensures same { V.contents volume.new ≡ V.contents volume.old }
     ensures faults { V.faults volume.old ≤ V.faults volume.new }
 {
-    match Frames::read(alloc, volume, pages) {
+    match Frames::read_behind(alloc, first, volume, pages) {
         Ok(frames) => Ok(frames),
         Err(ReadStop::NoMemory) => Err(FileStop::NoMemory),
         Err(ReadStop::Fault(_)) => Err(FileStop::Failed),
@@ -89,25 +116,8 @@ fn formed(alloc: Global, frames: Frames) -> Result<Frames, FileStop>
     }
 }
 
-/// The pages of a file, where they pass their tests and have the form.
-fn tested(alloc: Global, frames: Frames, pages: u32) -> Result<Frames, FileStop>
-    requires count { length frames ≡ pages }
-    requires whole { HasWholePages frames }
-    requires size { IsTrue (size_passes (8192 * pages)) }
-    requires few { pages ≤ 88 }
-    ensures form { IfOk result (IsReplayForm Small) }
-    ensures same { IfOk result (λ formed. formed ≡ frames) }
-    ensures fault { IfErr result (IsLeftOut frames) }
-{
-    match tested_geometry(frames.page(0), pages) {
-        Err(why) => Err(FileStop::Refused(why)),
-        Ok(Geometry::Standard) => Err(FileStop::Refused(FileWhy::Later)),
-        Ok(Geometry::Small) => formed(alloc, frames),
-    }
-}
-
 /// The pages of a file that has the form which sessions over it need. No page is read before the size
-/// has passed, and one alone of a file that has too many.
+/// has passed, and none but page 0 before that has.
 pub fn open_file<V: Volume>(alloc: Global, volume: &mut V) -> Result<Frames, FileStop>
     ensures form { IfOk result (IsReplayForm Small) }
     ensures told { IfOk result (λ frames. IfSome (V.contents volume.old) (AreAllPages frames)) }
@@ -122,12 +132,13 @@ pub fn open_file<V: Volume>(alloc: Global, volume: &mut V) -> Result<Frames, Fil
         return Err(FileStop::Refused(FileWhy::Size));
     }
     let pages = (size / PAGE) as u32;
-    if pages > MOST_PAGES {
-        return Err(stop_of_large(alloc, volume, pages));
-    }
-    let frames = match pages_in_memory(alloc, volume, pages) {
+    let first = match tested_first(alloc, volume, pages) {
+        Ok(first) => first,
+        Err(stop) => return Err(stop),
+    };
+    let frames = match pages_in_memory(alloc, first, volume, pages) {
         Ok(frames) => frames,
         Err(stop) => return Err(stop),
     };
-    tested(alloc, frames, pages)
+    formed(alloc, frames)
 }

@@ -87,6 +87,58 @@ fn a_file_is_opened_where_it_has_the_form(rt: HostRuntime) -> Result<(), Fail> {
     Ok(())
 }
 
+// Why a file in which each page but page 0 fails isn't opened, with these bytes at a place of page 0.
+fn why_behind(alloc: Global, at: usize, bytes: &[u8]) -> Result<Option<FileStop>, Fail> {
+    let mut failing = Vec::new(alloc);
+    for page in 1..16 {
+        failing.push(FailAt {
+            page: PageNo(page),
+            write: false,
+            nth: 1,
+        })?;
+    }
+    let mut file = base(alloc, 16)?;
+    put(&mut file, at, bytes);
+    let mut volume = MemVolume::of(file, failing);
+    Ok(open_file(alloc, &mut volume).err())
+}
+
+#[test]
+fn no_page_is_read_before_page_0_has_passed(rt: HostRuntime) -> Result<(), Fail> {
+    let alloc = rt.alloc();
+    let rows: [(usize, &[u8], FileWhy); 5] = [
+        (1, &[14], FileWhy::Header),
+        (104, &[9], FileWhy::Version),
+        (106, &[3], FileWhy::Geometry),
+        (108, &[24], FileWhy::Count),
+        (106, &[1], FileWhy::Later),
+    ];
+    for (at, bytes, why) in rows {
+        assert_eq!(rt;
+            why_behind(alloc, at, bytes)?,
+            Some(FileStop::Refused(why)),
+            "at {at}"
+        );
+    }
+    assert_eq!(rt; why_behind(alloc, 0, &[])?, Some(FileStop::Failed));
+    Ok(())
+}
+
+#[test]
+fn page_0_is_read_once(rt: HostRuntime) -> Result<(), Fail> {
+    let alloc = rt.alloc();
+    let failing = vec![in alloc;
+        FailAt {
+            page: PageNo(0),
+            write: false,
+            nth: 2
+        },
+    ]?;
+    let mut volume = MemVolume::of(base(alloc, 16)?, failing);
+    assert_eq!(rt; open_file(alloc, &mut volume).err(), None);
+    Ok(())
+}
+
 #[test]
 fn a_page_that_is_not_read_fails_the_opening(rt: HostRuntime) -> Result<(), Fail> {
     let alloc = rt.alloc();
@@ -114,14 +166,15 @@ fn a_log_is_taken_where_it_is_empty(rt: HostRuntime) -> Result<(), Fail> {
     Ok(())
 }
 
+// Sources of these texts, one of which fails at its first read.
 fn sources_of(
     alloc: Global,
     texts: &[&str],
-    fail_first: Option<u32>,
+    failing: Option<usize>,
 ) -> Result<Vec<MemSource>, Fail> {
     let mut sources = Vec::new(alloc);
     for (i, text) in texts.iter().enumerate() {
-        let fails = if i == 0 { fail_first } else { None };
+        let fails = if failing == Some(i) { Some(1) } else { None };
         let bytes = Vec::from_slice(alloc, text.as_bytes())?;
         sources.push(MemSource::of(bytes, fails))?;
     }
@@ -131,9 +184,9 @@ fn sources_of(
 fn read(
     alloc: Global,
     texts: &[&str],
-    fail_first: Option<u32>,
+    failing: Option<usize>,
 ) -> Result<Result<Texts, SourcesStop>, Fail> {
-    let mut sources = sources_of(alloc, texts, fail_first)?;
+    let mut sources = sources_of(alloc, texts, failing)?;
     if sources.is_empty() || sources.len() > 17 {
         return Ok(Err(SourcesStop::NoMemory));
     }
@@ -177,9 +230,27 @@ fn the_first_wrong_source_is_named(rt: HostRuntime) -> Result<(), Fail> {
     assert_eq!(rt; read(alloc, &missing, None)?.err(), Some(fault(0, 2)));
     let last = ["", "BEGIN\n", "ROLLBAC"];
     assert_eq!(rt; read(alloc, &last, None)?.err(), Some(fault(2, 1)));
-    assert_eq!(rt;
-        read(alloc, &last, Some(1))?.err(),
-        Some(SourcesStop::Failed)
-    );
+    Ok(())
+}
+
+#[test]
+fn the_first_source_that_is_wrong_or_fails_decides(rt: HostRuntime) -> Result<(), Fail> {
+    let alloc = rt.alloc();
+    let fault = |script: u32, line: u32| SourcesStop::Fault {
+        script,
+        line,
+        why: ScriptWhy::Statement,
+    };
+    let wrong = ["1 1\n", "BEGIN\n\nSELEC t 1\n", ""];
+    let rows = [
+        (0, SourcesStop::Failed),
+        (1, SourcesStop::Failed),
+        (2, fault(1, 3)),
+    ];
+    for (failing, stop) in rows {
+        assert_eq!(rt; read(alloc, &wrong, Some(failing))?.err(), Some(stop));
+    }
+    let schedule = ["3 1\n", "BEGIN\n", ""];
+    assert_eq!(rt; read(alloc, &schedule, Some(1))?.err(), Some(fault(0, 1)));
     Ok(())
 }

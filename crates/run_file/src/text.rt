@@ -1,6 +1,6 @@
 // The texts of sources.
 ghost use Rattle.std.specs.List.{list_all};
-ghost use Rattle.std.specs.Prelude.{◌≡◌, ◌≤◌, IsTrue, length, IfOk, OnOk, IfSome};
+ghost use Rattle.std.specs.Prelude.{◌≤◌, IsTrue, length, IfOk, OnOk, IfSome};
 ghost use Rattle.std.specs.Io.KnownBytes.{IsAtEnd};
 ghost use Rattle.spec_script.specs.Lines.{is_statement, IsStatementLine, IsTurnsLine};
 ghost use Rattle.spec_script.specs.Texts.{IsScript, IsSchedule, most_lines};

@@ -2,9 +2,11 @@
 use Rattle.std.proofs.Common.{◌≡◌, ℕ, ◌+◌, ◌*◌, ◌/◌, ◌<◌, List, [], ◌∷◌, ◌++◌, length, take, Option, Some, None, IfSome, refl, sym, ap, ◌∙◌, subst, arith}
 use Rattle.std.specs.Option.{ForSome}
 use Rattle.std.proofs.lemmas.List.{take_more}
+use Rattle.std.proofs.lemmas.List.Elements.{All-push}
 use Rattle.std.proofs.Math.Seq.{take-length}
 use Rattle.spec_file.specs.Image.{Image, page_at, pages_of}
 use Rattle.spec_file.specs.ImageLaws.{length-pages_of, page-pages_of}
+use Rattle.spec_log.specs.Cells.{HasWholePages}
 
 has_pages : (bytes : List ℕ) (pages : ℕ) → length bytes ≡ 8192 * pages → length bytes / 8192 ≡ pages
 has_pages bytes pages whole = omega (arith, whole)
@@ -21,6 +23,18 @@ more_read (Some bytes) told frames new p pages same whole below so_far is =
     here ∙ ap (λ l. l ++ page_at bytes p ∷ []) so_far
     ∙ ap (λ x. take p (pages_of bytes) ++ x ∷ []) (sym (page-pages_of bytes p inside))
     ∙ sym (take_more (pages_of bytes) p [] within)
+
+-- one page alone
+pub one_page : (frames : Image) (first : List ℕ) → frames ≡ first ∷ [] → length first ≡ 8192 → HasWholePages frames
+one_page frames first same long =
+    subst HasWholePages (sym same) (All-push (λ l. length l ≡ 8192) [] first (λ k d below. absurd (omega (arith, below))) long)
+
+-- page 0 was read first
+pub first_read : (old : Option (List ℕ)) (frames : Image) (first : List ℕ) (pages : ℕ) → ForSome old (λ bytes. length bytes ≡ 8192 * pages) → 0 < pages
+    → IfSome old (λ bytes. first ≡ page_at bytes 0) → frames ≡ first ∷ [] → IfSome old (λ bytes. frames ≡ take 1 (pages_of bytes))
+first_read None frames first pages whole some is same = tt
+first_read (Some bytes) frames first pages whole some is same =
+    more_read (Some bytes) (Some bytes) [] frames 0 pages refl whole some refl (same ∙ ap (λ x. x ∷ []) is)
 
 -- all pages are read
 pub all_read : (old : Option (List ℕ)) (frames : Image) (pages : ℕ) → ForSome old (λ bytes. length bytes ≡ 8192 * pages)

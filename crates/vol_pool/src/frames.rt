@@ -1,13 +1,13 @@
 // Pages in memory, and how bytes and bits are put into them.
-ghost use Rattle.std.specs.Prelude.{◌≡◌, ◌+◌, ◌-◌, ◌*◌, ◌/◌, ◌%◌, ◌^◌, ◌<◌, ◌≤◌, ℕ, [], ◌∷◌, ◌++◌, length, take, slice_index, slice_set, IfOk, OnOk, OnErr};
+ghost use Rattle.std.specs.Prelude.{◌≡◌, ◌+◌, ◌-◌, ◌*◌, ◌/◌, ◌%◌, ◌<◌, ◌≤◌, ℕ, [], ◌∷◌, ◌++◌, length, IfOk, OnOk, OnErr};
 ghost use Rattle.spec_file.specs.Image.{page};
-ghost use Rattle.spec_log.specs.Cells.{with_bytes, with_bit, with_map_bit, put as image_with};
+ghost use Rattle.spec_log.specs.Cells.{with_bytes, with_map_bit, put as image_with};
 ghost use Rattle.spec_log.specs.Images.{page_of_cell};
 ghost use Rattle.vol_pool.specs.Cells.{FitsCell};
 
 use pg_base::Page;
 use spec_file::NoMemory;
-use spec_log::Cell;
+use spec_log::{Cell, byte_with_bit};
 use std::alloc::Global;
 use std::marker::Model;
 
@@ -165,16 +165,4 @@ fn put_bit(page: &mut Page, n: u32, v: u8)
 {
     let at = 96 + n as usize / 8;
     page.bytes[at] = byte_with_bit(page.bytes[at], n % 8, v);
-}
-
-/// The byte with bit i turned to v.
-fn byte_with_bit(byte: u8, i: u32, v: u8) -> u8
-    requires { i < 8 }
-    ensures { result ≡ with_bit byte i v }
-{
-    if (byte >> i) & 1 == v {
-        byte
-    } else {
-        byte ^ (1 << i)
-    }
 }

@@ -20,8 +20,6 @@ impl<'a> FramesReader<'a> {
 }
 
 impl<'a> SnapReader for FramesReader<'a> {
-    ghost use Rattle.std.specs.Prelude.{refl};
-
     ghost pages = { λ r. length r.frames.now };
 
     ghost image = { λ r. Some r.frames.now };

@@ -70,11 +70,16 @@ fn three(alloc: Global, failing: Option<u32>) -> Result<Untold, Fail> {
     })
 }
 
+// Page 0 of that file, read before.
+fn first_page(alloc: Global) -> Result<Box<Page>, Fail> {
+    Ok(Box::new(alloc, Page { bytes: [1; 8192] })?)
+}
+
 #[test]
 fn all_pages_are_read(rt: HostRuntime) -> Result<(), Fail> {
     let alloc = rt.alloc();
     let mut volume = three(alloc, None)?;
-    let Ok(frames) = Frames::read(alloc, &mut volume, 3) else {
+    let Ok(frames) = Frames::read_behind(alloc, first_page(alloc)?, &mut volume, 3) else {
         panic!(rt; "no failure was asked for");
     };
     let mut into = Page { bytes: [0; 8192] };
@@ -91,8 +96,10 @@ fn all_pages_are_read(rt: HostRuntime) -> Result<(), Fail> {
 fn a_page_that_is_not_read_is_named(rt: HostRuntime) -> Result<(), Fail> {
     let alloc = rt.alloc();
     let mut volume = three(alloc, Some(1))?;
-    let stop = Frames::read(alloc, &mut volume, 3).err();
+    let stop = Frames::read_behind(alloc, first_page(alloc)?, &mut volume, 3).err();
     assert_eq!(rt; stop, Some(ReadStop::Fault(PageNo(1))));
+    let mut untouched = three(alloc, Some(0))?;
+    assert!(rt; Frames::read_behind(alloc, first_page(alloc)?, &mut untouched, 3).is_ok());
     Ok(())
 }
 
@@ -100,7 +107,7 @@ fn a_page_that_is_not_read_is_named(rt: HostRuntime) -> Result<(), Fail> {
 fn changed_pages_are_written_in_rising_order(rt: HostRuntime) -> Result<(), Fail> {
     let alloc = rt.alloc();
     let mut volume = three(alloc, None)?;
-    let Ok(mut frames) = Frames::read(alloc, &mut volume, 3) else {
+    let Ok(mut frames) = Frames::read_behind(alloc, first_page(alloc)?, &mut volume, 3) else {
         panic!(rt; "no failure was asked for");
     };
     frames.put(

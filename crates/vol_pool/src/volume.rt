@@ -2,14 +2,14 @@
 ghost use Rattle.std.specs.Prelude.{◌≡◌, ◌+◌, ◌*◌, ◌<◌, ◌≤◌, ◌^◌, ◌∷◌, ◌++◌, [], true, false, length, slice_set, IfOk, OnOk, OnErr, IfSome};
 ghost use Rattle.std.specs.Option.{ForSome};
 ghost use Rattle.pg_base.specs.Faults.{Rose};
-ghost use Rattle.spec_file.specs.Image.{page_at, pages_of};
+ghost use Rattle.spec_file.specs.Image.{page, page_at, pages_of};
 ghost use Rattle.spec_log.specs.Cells.{HasWholePages};
 ghost use Rattle.vol_dev.specs.Devices.{HasPage};
 ghost use Rattle.vol_pool.specs.Reading.{FaultIn};
 ghost use Rattle.vol_pool.specs.Writing.{Leaves, Spoils, SameUnmarked, StopsWriting};
 
 use crate::Frames;
-use pg_base::{Page, PageNo, ReadStop};
+use pg_base::{Page, PageNo, ReadStop, is_whole};
 use std::alloc::Global;
 use vol_dev::{DeviceFailed, Volume};
 
@@ -32,13 +32,6 @@ fn read_page<V: Volume>(alloc: Global, volume: &mut V, p: PageNo) -> Result<Box<
     }
 }
 
-/// A page has as many bytes as any.
-fn is_whole(page: &Page)
-    ensures { length page.now.bytes ≡ 8192 }
-{
-    let _first = page.bytes[0];
-}
-
 impl Frames {
     /// Page p of a volume, behind the pages so far.
     fn push_from<V: Volume>(
@@ -50,6 +43,7 @@ impl Frames {
         requires { ForSome (V.contents volume.old) (HasPage p.0) }
         ensures page { OnOk result (IfSome (V.contents volume.old) (λ bytes. self.new ≡ self.old ++ page_at bytes p.0 ∷ [])) }
         ensures more { OnOk result (length self.new ≡ length self.old + 1) }
+        ensures first { OnOk result (0 < length self.old → page self.new 0 ≡ page self.old 0) }
         ensures whole { OnOk result (HasWholePages self.old → HasWholePages self.new) }
         ensures cause { FaultIn (p.0 + 1) (V.faults volume.old) (V.faults volume.new) result }
         ensures same { V.contents volume.new ≡ V.contents volume.old }
@@ -60,18 +54,28 @@ impl Frames {
         Ok(())
     }
 
-    /// All pages of a file of so many pages.
-    pub fn read<V: Volume>(alloc: Global, volume: &mut V, pages: u32) -> Result<Frames, ReadStop>
-        requires { ForSome (V.contents volume.old) (λ bytes. length bytes ≡ 8192 * pages) }
+    /// All pages of a file of so many, whose page 0 is in memory already: it isn't read again.
+    pub fn read_behind<V: Volume>(
+        alloc: Global,
+        first: Box<Page>,
+        volume: &mut V,
+        pages: u32,
+    ) -> Result<Frames, ReadStop>
+        requires some { 0 < pages }
+        requires size { ForSome (V.contents volume.old) (λ bytes. length bytes ≡ 8192 * pages) }
+        requires first { IfSome (V.contents volume.old) (λ bytes. first.value.bytes ≡ page_at bytes 0) }
         ensures count { IfOk result (λ frames. length frames ≡ pages) }
         ensures whole { IfOk result HasWholePages }
+        ensures first { IfOk result (λ frames. page frames 0 ≡ first.value.bytes) }
         ensures image { IfOk result (λ frames. IfSome (V.contents volume.old) (λ bytes. frames ≡ pages_of bytes)) }
         ensures cause { FaultIn pages (V.faults volume.old) (V.faults volume.new) result }
         ensures same { V.contents volume.new ≡ V.contents volume.old }
         ensures faults { V.faults volume.old ≤ V.faults volume.new }
     {
+        is_whole(&first);
         let mut frames = Frames::empty(alloc);
-        for p in 0..pages {
+        frames.push(first)?;
+        for p in 1..pages {
             frames.push_from(alloc, volume, PageNo(p))?;
         }
         Ok(frames)

@@ -1,9 +1,9 @@
 use Rattle.run_file.specs.OpeningLaws.{told_passes}
-use Rattle.run_file.proofs.Refusals.{refused_file}
+use Rattle.run_file.proofs.Refusals.{later_file}
 use Rattle.run_file.proofs.opening.open_file.Goals as goal
 
 pub returns-clause-fault : goal.returns-clause-fault
 returns-clause-fault g c =
-    refused_file _ _ _ c.in-Ok-pages_in_memory.frames c.tested.result
-    (told_passes _ _ _ c.in-Ok.ensures.ok c.passes_size.ensures c.if-not-passes_size.false)
-    (rw c.in-Ok.ensures.same at c.in-Ok-pages_in_memory.ensures.told) c.tested.ensures.fault
+    later_file _ _ _ c.in-Ok-pages_in_memory.frames c.formed.result
+    (told_passes _ _ _ c.in-Ok.ensures.ok c.passes_size.ensures c.if-not-passes_size.false) c.in-Ok-pages_in_memory.ensures.small
+    (rw (c.in-Ok-tested_first.ensures.same, c.in-Ok.ensures.same) at c.in-Ok-pages_in_memory.ensures.told) c.formed.ensures.fault

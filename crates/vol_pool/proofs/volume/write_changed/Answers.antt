@@ -7,7 +7,7 @@ returns-then-not-changed-clause-ok g c =
     stands _ _ _ c.requires.fits (IfSome_then (g.V.Volume.contents c.args.volume.now) c.requires.same (λ _ same. same c.if-not-changed.true))
 
 pub returns-clause-ok : goal.returns-clause-ok
-returns-clause-ok g c = on_ok c.write.result c.write.ensures.ok (put_page _ _ _ _ c.requires.fits c.is_whole.ensures)
+returns-clause-ok g c = on_ok c.write.result c.write.ensures.ok (put_page _ _ _ _ c.requires.fits c.is_whole.ensures.long)
 
 pub returns-clause-spoiled : goal.returns-clause-spoiled
-returns-clause-spoiled g c = on_err c.write.result c.write.ensures.err (spoils _ _ _ _ c.requires.fits c.is_whole.ensures)
+returns-clause-spoiled g c = on_err c.write.result c.write.ensures.err (spoils _ _ _ _ c.requires.fits c.is_whole.ensures.long)

@@ -1,6 +1,7 @@
 // The files that the words name.
-ghost use Rattle.std.specs.Prelude.{◌≡◌, [], ◌<◌, ◌≤◌, drop, length, map, string_bytes, IfOk, slice_index_or};
+ghost use Rattle.std.specs.Prelude.{◌≡◌, [], ◌≤◌, drop, length, map, string_bytes, IfOk, slice_index_or};
 ghost use Rattle.app_words.specs.Words as spec;
+ghost use Rattle.app_words.specs.declared.command.Command.TheVariants.{Replay};
 ghost use Rattle.app_words.specs.Names.{AreNames};
 
 use crate::command::{Command, read_words};
@@ -37,9 +38,11 @@ fn sources_of(alloc: Global, words: &Words) -> Result<Vec<String>, NoMemory>
     Ok(names)
 }
 
-/// The names of the files that the words name.
+/// The names of the files that the words name. A run names a schedule and one to sixteen scripts.
 pub fn names_of(alloc: Global, words: &Words) -> Result<Names, NoMemory>
-    ensures { IfOk result (AreNames words.now) }
+    ensures names { IfOk result (AreNames words.now) }
+    ensures some { IfOk result (λ names. spec.Asks Replay words.now → 2 ≤ length names.sources.items) }
+    ensures few { IfOk result (λ names. length names.sources.items ≤ 17) }
 {
     match read_words(words) {
         Err(_) => Ok(Names {

@@ -1,5 +1,5 @@
 -- What was found, when one page more is met.
-use Rattle.std.proofs.Common.{◌≡◌, ◌⊎◌, ℕ, zero, suc, ◌+◌, ◌/◌, ◌<◌, List, [], ◌∷◌, ◌++◌, Contains, length, map, take, get_or, arith, sym, subst, ap, ◌∙◌, refl, inl, inr, ⊎_elim, Ordering}
+use Rattle.std.proofs.Common.{◌≡◌, ◌⊎◌, ℕ, zero, suc, ◌+◌, ◌/◌, ◌<◌, List, [], ◌∷◌, ◌++◌, Contains, length, take, get_or, arith, sym, subst, refl, inl, inr, ⊎_elim, Ordering}
 use Rattle.std.specs.Ordering.{nat_cmp, ordering_then}
 use Rattle.std.specs.List.Sorted.{IsStrictlySortedBy}
 use Rattle.std.specs.declared.cmp.Ordering.TheVariants.{Less, Equal, Greater}
@@ -16,7 +16,7 @@ use Rattle.ck_facts.specs.Owners.{IsOwnerIn, AreOwnersIn, owned_cmp}
 use Rattle.ck_scan.specs.declared.findings.Findings.{Findings}
 use Rattle.ck_scan.specs.Shown.{IsErrorAt, IsFactAt, Among, And}
 use Rattle.ck_scan.specs.Found.{AreFound, AddsPage, IsBehind}
-use Rattle.ck_scan.proofs.Members.{nothing_there, cons_cases, below, rest_sorted}
+use Rattle.spec_check.specs.Members.{nothing_there, cons_cases, below, rest_sorted}
 use Rattle.ck_scan.proofs.Counting.{less_from}
 use Rattle.ck_scan.proofs.CountLaws.{counts_more, counts_as}
 

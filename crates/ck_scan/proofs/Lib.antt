@@ -1,4 +1,3 @@
-pub mod Members
 pub mod Counting
 pub mod OwnerLaws
 pub mod CountLaws

@@ -1,7 +1,7 @@
 // What pages show together.
 ghost use Rattle.std.specs.Prelude.{◌≡◌, ℕ, ◌<◌, [], IfOk, OnOk, true, false, Contains, map, vec_len};
 ghost use Rattle.spec_file.specs.Image.{Image, page as image_page};
-ghost use Rattle.spec_chain.specs.Chains.{is_ordinary};
+ghost use Rattle.spec_file.specs.Roles.{is_ordinary};
 ghost use Rattle.spec_check.specs.declared.report.CheckError.{CheckError};
 ghost use Rattle.spec_tables.specs.PageRules as spec;
 ghost use Rattle.ck_error.specs.Gathered.{Adds, Below};

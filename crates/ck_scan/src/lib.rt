@@ -10,8 +10,4 @@ mod scan;
 pub use scan::scan_one;
 
 #[cfg(test)]
-mod file_tests;
-#[cfg(test)]
-mod made;
-#[cfg(test)]
 mod tests;

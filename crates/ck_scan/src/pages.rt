@@ -6,7 +6,7 @@ ghost use Rattle.ck_error.specs.Gathered.{Below};
 ghost use Rattle.ck_facts.specs.MapOf.{IsMapOf};
 ghost use Rattle.ck_facts.specs.Owners.{IsOwnerIn};
 ghost use Rattle.ck_merge.specs.Held.{roots_in, roots_of};
-ghost use Rattle.ck_scan.specs.Found.{AreFound, AddsPage, IsBehind};
+ghost use Rattle.ck_scan.specs.Found.{AreFound, AddsPage};
 ghost use Rattle.ck_scan.specs.Frames.{IsFrameOf};
 
 use crate::findings::Findings;

@@ -1,12 +1,10 @@
 // The check of a still file.
-ghost use Rattle.std.specs.Prelude.{◌≡◌, ◌↔◌, ◌≤◌, ◌/◌, ◌⊎◌, [], IfOk, OnOk, IfSome, IsTrue, Contains};
+ghost use Rattle.std.specs.Prelude.{◌≡◌, ◌↔◌, ◌≤◌, ◌/◌, ◌⊎◌, [], IfOk, IfSome, IsTrue, Contains};
 ghost use Rattle.std.specs.Option.{ForSome};
 ghost use Rattle.spec_file.specs.Image.{Image};
-ghost use Rattle.spec_check.specs.Allocation.{IsAllocationError};
 ghost use Rattle.spec_check.specs.declared.report.CheckError.{CheckError};
-ghost use Rattle.spec_check.specs.Errors.{Lists};
 ghost use Rattle.pg_base.specs.Reading.{StopHasCause};
-ghost use Rattle.ck_error.specs.Gathered.{Below, Gathers};
+ghost use Rattle.ck_error.specs.Gathered.{Below};
 ghost use Rattle.ck_facts.specs.MapOf.{IsMapOf};
 ghost use Rattle.ck_facts.specs.Owners.{IsOwnerIn};
 ghost use Rattle.ck_merge.specs.Held.{roots_in, roots_of};
@@ -35,11 +33,11 @@ fn system_report(alloc: Global, map: &AllocMap) -> Result<CheckReport, NoMemory>
 }
 
 // The errors of both lists.
-fn joined(first: Vec<CheckError>, second: &[CheckError]) -> Result<Vec<CheckError>, NoMemory>
-    ensures { IfOk result (λ both. (x : CheckError) → Contains both.items x ↔ (Contains first.items x ⊎ Contains second.now x)) }
+fn joined(first: Vec<CheckError>, second: Vec<CheckError>) -> Result<Vec<CheckError>, NoMemory>
+    ensures { IfOk result (λ both. (x : CheckError) → Contains both.items x ↔ (Contains first.items x ⊎ Contains second.items x)) }
 {
     let mut both = first;
-    both.extend_from_slice(second)?;
+    both.extend_from_slice(&second)?;
     Ok(both)
 }
 
@@ -50,9 +48,9 @@ fn report_of(alloc: Global, map: &AllocMap, found: Findings) -> Result<CheckRepo
     ensures report { IfOk result (λ report. (image : Image) → IsMapOf image map.now
         → AreFound image map.now (Below (map.now.pages / 8) (IsOwnerIn image map.now)) found → IsReportOfRules map.now.geometry image report) }
 {
-    let of_pages = joined(alloc_errors(alloc, map)?, &found.errors)?;
+    let of_pages = joined(alloc_errors(alloc, map)?, found.errors)?;
     let of_trees = found.parts.finish()?;
-    let errors = joined(of_pages, &of_trees)?;
+    let errors = joined(of_pages, of_trees)?;
     Ok(CheckReport {
         errors: Items::from_vec(in_order(errors)),
         tables: Items::from_vec(found.lines),

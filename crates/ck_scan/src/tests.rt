@@ -1,7 +1,7 @@
 ghost use Rattle.std.specs.Prelude.{◌≡◌, ◌<◌, None, IfOk, false, []};
 
 use super::*;
-use ck_facts::{AllocMap, CatRow, CheckError, ExtentMap, PageUse, TableLine};
+use ck_facts::{AllocMap, CatRow, CheckError, CheckReport, ExtentMap, PageUse, TableLine};
 use pg_base::{
     Geometry, Header, Kind, NoMemory, ObjId, Page, PageNo, ReadStop, SnapReader, put_u16,
     write_header,
@@ -9,10 +9,12 @@ use pg_base::{
 use std::alloc::Global;
 use std::test::Fail;
 
-// Heap pages of object 1, each with one row, but for page 17, which says that it is page 18.
+// Heap pages of object 1, each with one row, but for page 17, which says that it is page 18. It counts the pages
+// that are read.
 #[derive(Drop)]
 struct HeapPages {
     pages: u32,
+    reads: u32,
 }
 
 impl SnapReader for HeapPages {
@@ -33,6 +35,7 @@ impl SnapReader for HeapPages {
     ghost whole = { λ _ x at. absurd (none-some x at) };
 
     fn page(&mut self, p: PageNo, into: &mut Page) -> Result<(), ReadStop> {
+        self.reads = self.reads.saturating_add(1);
         let says = if p.0 == 17 { 18 } else { p.0 };
         heap_page(into, says);
         Ok(())
@@ -67,38 +70,43 @@ fn extent(free: bool, mixed: bool, first_mark: u8) -> ExtentMap {
     }
 }
 
-fn used(page: u32, place: u8) -> PageUse {
+fn used(object: u32, page: u32, place: u8) -> PageUse {
     PageUse {
         page,
-        object: 1,
+        object,
         place,
     }
 }
 
-// Object 1 has page 10 in a slot, page 11 in its chain, and marks extent 2, of which 16 and 17 are
-// allocated.
-fn one_heap(alloc: Global, system: Vec<CheckError>) -> Result<AllocMap, NoMemory>
+fn row(alloc: Global, id: u32, name: &str, first_iam: u32) -> Result<CatRow, NoMemory> {
+    Ok(CatRow {
+        id: ObjId(id),
+        kind: Kind::Heap,
+        name: String::from_str(alloc, name)?,
+        first_iam: PageNo(first_iam),
+        root: PageNo(0),
+    })
+}
+
+// Heaps 1 and 2 have pages 11 and 12 in their chains, and these pages in slots. Heap 1 marks extent 2, of which 16
+// and 17 are allocated.
+fn two_heaps(alloc: Global, system: Vec<CheckError>, uses: &[PageUse]) -> Result<AllocMap, NoMemory>
     ensures { IfOk result (λ map. map.pages ≡ 24) }
 {
     let pfs = [
-        0x44, 0x44, 0x44, 0x44, 0, 0, 0, 0, 0, 0x64, 0x60, 0x70, 0, 0, 0, 0, 0x40, 0x40, 0, 0, 0,
-        0, 0, 0,
+        0x44, 0x44, 0x44, 0x44, 0, 0, 0, 0, 0, 0x64, 0x60, 0x70, 0x70, 0, 0, 0, 0x40, 0x40, 0, 0,
+        0, 0, 0, 0,
     ];
     let mut objects = Vec::new(alloc);
-    objects.push(CatRow {
-        id: ObjId(1),
-        kind: Kind::Heap,
-        name: String::from_str(alloc, "t")?,
-        first_iam: PageNo(11),
-        root: PageNo(0),
-    })?;
+    objects.push(row(alloc, 1, "t", 11)?)?;
+    objects.push(row(alloc, 2, "u", 12)?)?;
     Ok(AllocMap {
         geometry: Geometry::Small,
         pages: 24,
         system,
         objects,
         chains: Vec::new(alloc),
-        uses: Vec::from_slice(alloc, &[used(10, 0), used(11, 8)])?,
+        uses: Vec::from_slice(alloc, uses)?,
         extents: Vec::from_slice(
             alloc,
             &[
@@ -111,18 +119,54 @@ fn one_heap(alloc: Global, system: Vec<CheckError>) -> Result<AllocMap, NoMemory
     })
 }
 
-#[test]
-fn a_line_counts_the_pages_that_are_seen(rt: HostRuntime) -> Result<(), Fail> {
-    let alloc = rt.alloc();
-    let mut reader = HeapPages { pages: 24 };
-    let map = one_heap(alloc, Vec::new(alloc))?;
-    let report = scan_one(alloc, &mut reader, &map).ok().ok_or("no report")?;
-    let line = TableLine {
-        object: 1,
-        rows: 2,
-        pages: 2,
+// The report of two heaps with these uses of pages, and how many pages are read.
+fn scanned(alloc: Global, uses: &[PageUse]) -> Result<(CheckReport, u32), Fail> {
+    let mut reader = HeapPages {
+        pages: 24,
+        reads: 0,
     };
-    assert_eq!(rt; report.tables.as_slice(), &[line][..]);
+    let map = two_heaps(alloc, Vec::new(alloc), uses)?;
+    let report = scan_one(alloc, &mut reader, &map).ok().ok_or("no report")?;
+    Ok((report, reader.reads))
+}
+
+fn line(object: u32, rows: u64) -> TableLine {
+    TableLine {
+        object,
+        rows,
+        pages: rows,
+    }
+}
+
+// Pages 16 and 17 are read in each of these, and 17 fails its test. A page that two objects own is read once, and
+// seen by the object that it names. A page that isn't ordinary isn't read, nor is one of a chain.
+#[test]
+fn each_page_that_objects_own_is_read_once(rt: HostRuntime) -> Result<(), Fail> {
+    let alloc = rt.alloc();
+    let cases: [(&[PageUse], u64, u32); 4] = [
+        (&[used(1, 11, 8), used(2, 12, 8)], 1, 2),
+        (&[used(1, 10, 0), used(1, 11, 8), used(2, 12, 8)], 2, 3),
+        (
+            &[
+                used(1, 10, 0),
+                used(2, 10, 0),
+                used(1, 11, 8),
+                used(2, 12, 8),
+            ],
+            2,
+            3,
+        ),
+        (
+            &[used(1, 3, 0), used(2, 9, 0), used(1, 11, 8), used(2, 12, 8)],
+            1,
+            2,
+        ),
+    ];
+    for (uses, rows, wanted) in cases {
+        let (report, reads) = scanned(alloc, uses)?;
+        assert_eq!(rt; report.tables.as_slice(), &[line(1, rows), line(2, 0)][..]);
+        assert_eq!(rt; reads, wanted);
+    }
     Ok(())
 }
 
@@ -137,10 +181,15 @@ fn system_errors_stand_alone(rt: HostRuntime) -> Result<(), Fail> {
         slot: 0,
         value: 9,
     };
-    let mut reader = HeapPages { pages: 24 };
-    let map = one_heap(alloc, Vec::from_slice(alloc, &[error])?)?;
+    let mut reader = HeapPages {
+        pages: 24,
+        reads: 0,
+    };
+    let system = Vec::from_slice(alloc, &[error])?;
+    let map = two_heaps(alloc, system, &[used(1, 10, 0)])?;
     let report = scan_one(alloc, &mut reader, &map).ok().ok_or("no report")?;
     assert_eq!(rt; report.errors.as_slice(), &[error][..]);
     assert!(rt; report.tables.is_empty());
+    assert_eq!(rt; reader.reads, 0);
     Ok(())
 }

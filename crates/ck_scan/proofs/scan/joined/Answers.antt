@@ -10,4 +10,4 @@ together both first second x is = (
 )
 
 pub returns : goal.returns
-returns c = λ x. together c.extend_from_slice.new.self.items c.args.first.items c.args.second.now x c.in_ok-extend_from_slice.ensures.items
+returns c = λ x. together c.extend_from_slice.new.self.items c.args.first.items c.args.second.items x (rw c.deref.ensures.value at c.in_ok-extend_from_slice.ensures.items)

@@ -16,10 +16,8 @@ returns c = record {
       let sound = c.requires.sound in
       let roots = c.requires.roots in
       let first = c.in_ok-of_pages.of_pages.items in
-      let one : Joins first c.in_ok-alloc_errors.field-0.items c.args.found.errors.items =
-      subst (Joins first c.in_ok-alloc_errors.field-0.items) c.deref.ensures.value (record { joins = c.in_ok-of_pages.ensures }) in
-      let two : Joins c.in_ok-errors.errors.items first c.in_ok-of_trees.of_trees.items =
-      subst (Joins c.in_ok-errors.errors.items first) c.deref-2.ensures.value (record { joins = c.in_ok-errors.ensures }) in
+      let one : Joins first c.in_ok-alloc_errors.field-0.items c.args.found.errors.items = record { joins = c.in_ok-of_pages.ensures } in
+      let two : Joins c.in_ok-errors.errors.items first c.in_ok-of_trees.of_trees.items = record { joins = c.in_ok-errors.ensures } in
       let all = rule_errors image m c.args.found c.in_ok-alloc_errors.field-0.items c.in_ok-of_trees.of_trees.items first c.in_ok-errors.errors.items of sound is
       (c.in_ok-alloc_errors.ensures image of)
       (λ facts holds. subst (λ r. Lists c.in_ok-of_trees.of_trees.items (IsTreeError (known_of r facts))) roots (c.in_ok-of_trees.ensures.errors facts holds)) one two in

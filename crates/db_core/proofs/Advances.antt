@@ -2,8 +2,10 @@
 use Rattle.std.proofs.Common.{◌≡◌, ℕ, zero, suc, ◌+◌, ◌<◌, ◌≤◌, get_or, true, List, [], ◌∷◌, length, Some, None, inl, inr, refl, sym, ap, ◌∙◌, subst, arith, vec_len}
 use Rattle.std.specs.Prelude.{slice_get, Result, Ok, Err, IfOk, nat_le}
 use Rattle.std.proofs.lemmas.Bool.{and_parts, leb-true}
+use Rattle.std.proofs.lemmas.Option.{slice_get_within}
 use Rattle.spec_file.specs.declared.data.NoMemory.{NoMemory}
 use Rattle.spec_log.specs.declared.item.Record.{Record}
+use Rattle.spec_log.specs.declared.item.Record.TheVariants.{Snap}
 use Rattle.spec_script.specs.declared.statement.Statement.{Statement}
 use Rattle.spec_script.specs.declared.statement.Statement.TheVariants as statement
 use Rattle.spec_plan.specs.Statements.{count_outcome, insert_outcome}
@@ -12,7 +14,8 @@ use Rattle.spec_run.specs.Progress.{progress_of, at_work, with_statement, script
 use Rattle.spec_run.specs.Turns.{Rests}
 use Rattle.db_heap.specs.declared.plan.Plan.{Plan}
 use Rattle.db_heap.specs.Plans.{outcome_of}
-use Rattle.db_core.specs.declared.session.Doing.TheVariants.{Idle}
+use Rattle.db_core.specs.declared.session.Doing.{Doing}
+use Rattle.db_core.specs.declared.session.Doing.TheVariants.{Idle, Changing, Ending, Undoing, Checking}
 use Rattle.db_core.specs.declared.session.Session.{Session}
 use Rattle.db_core.specs.declared.state.State.{State}
 use Rattle.db_core.specs.declared.out.TurnOut.{TurnOut}
@@ -20,10 +23,14 @@ use Rattle.db_core.specs.declared.out.TurnOut.TheVariants as out
 use Rattle.db_core.specs.Checks.{Checked, Snapped}
 use Rattle.db_core.specs.Plans.{IsPlanned}
 use Rattle.db_core.specs.Stages.{IsStage, is_table}
+use Rattle.db_core.specs.declared.stage.Stage.{Stage}
 use Rattle.db_core.specs.declared.stage.Stage.TheVariants as stages
-use Rattle.db_core.specs.States.{IsAt, IsSession}
+use Rattle.db_core.specs.Rooms.{started_of}
+use Rattle.db_core.specs.States.{IsAt, IsSession, IsUnderWay}
+use Rattle.db_core.specs.Words.{statement_of}
 use Rattle.db_core.specs.Store.{run_is, log_of, told_count, SaysOut, IsGood, Answers, Advanced}
 use Rattle.db_core.specs.Views.{tran_of_session, sight_at}
+use Rattle.db_core.proofs.CheckTurns.{no_longer}
 use Rattle.db_core.proofs.Good.{items_entries, get_same}
 use Rattle.db_core.proofs.Next.{told_count as replies_told}
 use Rattle.db_core.proofs.Planned.{insert_planned, count_planned, want_planned}
@@ -87,6 +94,8 @@ done_advanced st k x good here idle none =
       told = omega arith;
       rests = λ y at e. (let same = get_same st.sessions.items k x y here at in subst (λ (z : Session). (z.doing ≡ Idle) × (slice_get z.script.items (length z.replies.items) ≡ None)) same (idle, none));
       idle = λ y at e. inl refl;
+      begins = λ index e. absurd (no_longer (Snap (k + 1) index) (log_of st) e);
+      others = λ j differ. refl;
     }
 
 -- the session at its place behind a turn
@@ -94,9 +103,29 @@ pub told_now : (old new : State) (k : ℕ) (y : Session) → IsGood new → run_
     told_count (run_is old) (k + 1) (log_of new) ≡ length y.replies.items
 told_now old new k y good run here = replies_told (run_is old) (log_of new) (k + 1) y (subst (λ r. IsSession r (log_of new) (k + 1) y) run (good.state.each k y here))
 
-pub checked_advanced : (old new : State) (k before : ℕ) (x y : Session) (answer : TurnOut) → IsGood old → slice_get old.sessions.items k ≡ Some x → Checked k old new → before ≡ length x.replies.items →
-    slice_get new.sessions.items k ≡ Some y → Answers before y answer → Advanced k old new answer
-checked_advanced old new k before x y answer good here c count now is = record { good = c.good; turn = c.turn; says = by_answer answer is; told = c.told.0; rests = λ z at e. absurd (subst (Answers before y) e is); idle = λ z at e. inr (c.idle z at e) }
+-- a session whose script isn't done has a statement left
+pub statement_left : (st : State) (k : ℕ) (x y : Session) (stage : Stage) → IsGood st → slice_get st.sessions.items k ≡ Some x → slice_get st.sessions.items k ≡ Some y → IsStage y stage →
+    (stage ≡ stages.Done → ⊥) → length x.replies.items < length x.script.items
+statement_left st k x y stage good here there is more = by_stage stage (subst (λ z. IsStage z stage) (get_same st.sessions.items k y x there here) is) more
+  where
+    started : (d : Doing) → IsUnderWay d → started_of d ≡ 1
+    started Idle h = absurd h
+    started (Changing next later own rows) h = refl
+    started (Ending rows) h = refl
+    started Undoing h = refl
+    started (Checking check) h = absurd h
+
+    by_stage : (s : Stage) → IsStage x s → (s ≡ stages.Done → ⊥) → length x.replies.items < length x.script.items
+    by_stage stages.Done h m = absurd (m refl)
+    by_stage stages.UnderWay h m = let busy = (good.each_room k x here).busy in let one = started x.doing h in omega (arith, busy, one)
+    by_stage stages.Checking h m = let busy = (good.each_room k x here).busy in let one = ap started_of h.1 in omega (arith, busy, one)
+    by_stage (stages.Word word) h m = slice_get_within x.script.items (length x.replies.items) (statement_of word) h.1
+    by_stage stages.Check h m = slice_get_within x.script.items (length x.replies.items) (statement.Check h.1.0) h.1.1
+    by_stage stages.Table h m = slice_get_within x.script.items (length x.replies.items) h.1.0 h.1.1
+
+pub checked_advanced : (old new : State) (k before : ℕ) (x y : Session) (answer : TurnOut) → IsGood old → slice_get old.sessions.items k ≡ Some x → length x.replies.items < length x.script.items →
+    Checked k old new → before ≡ length x.replies.items → slice_get new.sessions.items k ≡ Some y → Answers before y answer → Advanced k old new answer
+checked_advanced old new k before x y answer good here more c count now is = record { good = c.good; turn = c.turn; says = by_answer answer is; told = c.told.0; rests = λ z at e. absurd (subst (Answers before y) e is); idle = λ z at e. inr (c.idle z at e); begins = λ index e. absurd (c.silent index e); others = c.others }
   where
     by_answer : (a : TurnOut) → Answers before y a → SaysOut (run_is old) (k + 1) (log_of old) (log_of new) a
     by_answer out.Finished a = absurd a
@@ -106,14 +135,15 @@ checked_advanced old new k before x y answer good here c count now is = record {
         let low = c.told.0 in
         let high = c.told.1 in
         let index_is = a.0 in
-        let more = a.1 in
-        (omega (arith, n, index_is), omega (arith, n, o, index_is, more, high, count))
+        let rose = a.1 in
+        (omega (arith, n, index_is), omega (arith, n, o, index_is, rose, high, count))
     by_answer out.Checking a = absurd a
     by_answer out.Moved a =
         let n = told_now old new k y c.good c.turn.0 now in
         let o = replies_told (run_is old) (log_of old) (k + 1) x (good.state.each k x here) in
         let low = c.told.0 in
-        (omega (arith, n, o, a, low, count), c.silent)
+        let script = ap length (good.state.each k x here).script_is in
+        (omega (arith, more, o, script), omega (arith, n, o, a, low, count), c.silent)
 
 pub snapped_advanced : (old new : State) (k : ℕ) → Snapped k old new → Advanced k old new out.Checking
 snapped_advanced old new k s = record {
@@ -123,6 +153,8 @@ snapped_advanced old new k s = record {
   told = (let same = s.told in omega (arith, same));
   rests = λ z at e. absurd (cc);
   idle = λ z at e. absurd (s.busy z at e);
+  begins = λ index e. s.few;
+  others = s.others;
 }
 
 -- as many sessions stand behind a turn as before it

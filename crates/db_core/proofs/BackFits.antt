@@ -1,22 +1,18 @@
 -- What a check takes back fits into its pages.
-use Rattle.std.proofs.Common.{◌≡◌, ℕ, ◌+◌, ◌<◌, ◌≤◌, true, eqb, ltb, leb, List, [], ◌∷◌, ◌++◌, length, reverse, take, drop, take-append-drop, Some, refl, sym, ap, ◌∙◌, subst, arith}
+use Rattle.std.proofs.Common.{◌≡◌, ℕ, ◌+◌, ◌<◌, ◌≤◌, eqb, List, [], ◌∷◌, ◌++◌, length, reverse, take, drop, take-append-drop, Some, refl, sym, ap, ◌∙◌, subst, arith}
 use Rattle.std.specs.Prelude.{slice_get}
-use Rattle.std.proofs.lemmas.List.{reverse-append, length-reverse}
-use Rattle.std.proofs.lemmas.Bool.{eqb-true, leb-true, ltb-true, and_parts, cond_both}
+use Rattle.std.proofs.lemmas.List.{reverse-append, reverse-reverse, length-reverse}
+use Rattle.std.proofs.lemmas.Bool.{eqb-true, cond_both}
 use Rattle.spec_file.specs.declared.data.Tran.{Tran}
 use Rattle.spec_file.specs.declared.geometry.Geometry.{Geometry}
 use Rattle.spec_file.specs.Image.{Image}
 use Rattle.spec_log.specs.declared.item.Cell.{Cell}
-use Rattle.spec_log.specs.declared.item.Cell.TheVariants.{Bytes, Bit}
 use Rattle.spec_log.specs.declared.item.Record.{Record}
 use Rattle.spec_log.specs.declared.item.Record.TheVariants.{Start, Change, Undo, Commit, Abort, Snap, Failed, CheckEnd}
-use Rattle.spec_log.specs.Items.{has_cell_form}
 use Rattle.spec_log.specs.Log.{item_at}
-use Rattle.spec_log.specs.Cover.{IsCovered, byte_guard_by, bit_guard_by}
 use Rattle.spec_log.specs.Images.{page_of_cell}
 use Rattle.spec_log.specs.Rules.{KeepsRules, HaveForm}
-use Rattle.spec_file.specs.Roles.{role_of}
-use Rattle.law_undo.specs.Guards.{guarded_inside}
+use Rattle.spec_log.specs.RulesLaws.{older_rules, older_forms}
 use Rattle.law_undo.specs.ReadLogs.{cell_form}
 use Rattle.law_undo.specs.Views.{sound_rules, sound_forms}
 use Rattle.law_run.specs.Legal.{legal_is_sound}
@@ -28,31 +24,16 @@ use Rattle.db_core.specs.declared.session.Session.{Session}
 use Rattle.db_core.specs.States.{whole_log, IsState}
 use Rattle.db_core.specs.Back.{first_back, MayPutLeft, MayTakeBack, MayGoBack}
 use Rattle.db_core.proofs.CheckSteps.{checking_due}
-use Rattle.db_core.proofs.Backwards.{one_back, twice}
-
--- the cell of a Change is one of the file, and its bytes fit
-cell_inside : (g : Geometry) (pages : ℕ) (log : List Record) (t : ℕ) (cell : Cell) (size : ℕ) → 0 < size → IsCovered g pages log t cell size → page_of_cell cell < pages
-cell_inside g pages log t (Bytes p off) size some c = (guarded_inside log t pages p.0 (byte_guard_by (role_of g p.0) g pages p.0 (off + 0)) (c.0 0 some)).0
-cell_inside g pages log t (Bit p n) size some c = (guarded_inside log t pages p.0 (bit_guard_by (role_of g p.0) g pages p.0 n) c).0
-
-cell_fits : (cell : Cell) (before after bytes : List ℕ) → has_cell_form cell before after ≡ true → length bytes ≡ length after → (0 < length after) × FitsCell cell bytes
-cell_fits (Bytes p off) before after bytes h e =
-    let a = and_parts (ltb 0 (length after)) (leb (off + length after) 8192) (and_parts _ (eqb (length before) (length after)) h).0 in
-    let some = ltb-true 0 (length after) a.0 in
-    let end = leb-true (off + length after) 8192 a.1 in
-    (some, omega (arith, end, e))
-cell_fits (Bit p n) before after bytes h e =
-    let a = and_parts _ (eqb (length after) 1) (and_parts _ _ h).0 in
-    let low = ltb-true n 63904 (and_parts (ltb n 63904) _ a.0).0 in
-    let one = eqb-true (length after) 1 a.1 in
-    (omega (arith, one), (low, omega (arith, e, one)))
+use Rattle.db_core.proofs.Backwards.{one_back}
+use Rattle.db_core.proofs.Stepped.{cell_inside, cell_some, cell_fits}
 
 -- bytes as long as those of the newest Change may stand in its cell
 change_fits : (g : Geometry) (pages : ℕ) (older : List Record) (tran : Tran) (cell : Cell) (before after bytes : List ℕ) (image : Image) → length image ≡ pages →
     KeepsRules g pages (Change tran cell before after ∷ older) → HaveForm (Change tran cell before after ∷ older) → length bytes ≡ length after → (page_of_cell cell < length image) × FitsCell cell bytes
-change_fits g pages older tran cell before after bytes image long rules forms e =
-    let fits = cell_fits cell before after bytes forms.0 e in
-    (subst (λ n. page_of_cell cell < n) (sym long) (cell_inside g pages older tran.0 cell (length after) fits.0 rules.0.1), fits.1)
+change_fits g pages older tran cell before after bytes image long rules forms e = (
+  subst (λ n. page_of_cell cell < n) (sym long) (cell_inside g pages older tran.0 cell (length after) (cell_some cell before after forms.0) rules.0.1),
+  cell_fits cell before after bytes forms.0 e,
+)
 
 -- what the newest Change had left fits
 put_left_item : (g : Geometry) (pages : ℕ) (older : List Record) (x : Record) (image : Image) → length image ≡ pages → KeepsRules g pages (x ∷ older) → HaveForm (x ∷ older) → MayPutLeft image (Some x)
@@ -96,15 +77,6 @@ take_back_item g pages older (Snap session index) image long rules forms = tt
 take_back_item g pages older (Failed session index page) image long rules forms = tt
 take_back_item g pages older (CheckEnd session index outcome) image long rules forms = tt
 
--- what stands before an item keeps the rules too
-rules_before : (g : Geometry) (pages : ℕ) (newer rest : List Record) → KeepsRules g pages (newer ++ rest) → KeepsRules g pages rest
-rules_before g pages [] rest rules = rules
-rules_before g pages (x ∷ newer) rest rules = rules_before g pages newer rest rules.1
-
-forms_before : (newer rest : List Record) → HaveForm (newer ++ rest) → HaveForm rest
-forms_before [] rest forms = forms
-forms_before (x ∷ newer) rest forms = forms_before newer rest forms.1
-
 -- the log up to an item
 up_to : (items : List Record) (n : ℕ) (x : Record) → slice_get items n ≡ Some x → reverse items ≡ reverse (drop (n + 1) items) ++ x ∷ first_back items n
 up_to items n x e =
@@ -127,8 +99,8 @@ back_fits run log pages sessions last all size k old check state here doing =
     record {
       inside = omega (arith, inside, placed, count);
       each = λ n x lt e.
-          let whole : g ≡ reverse (drop (n + 1) items) ++ x ∷ first_back items n = sym (twice g) ∙ up_to items n x e in
+          let whole : g ≡ reverse (drop (n + 1) items) ++ x ∷ first_back items n = sym (reverse-reverse g) ∙ up_to items n x e in
           take_back_item run.geometry (length run.image) (first_back items n) x check.pages snap.long
-          (rules_before run.geometry (length run.image) (reverse (drop (n + 1) items)) (x ∷ first_back items n) (subst (KeepsRules run.geometry (length run.image)) whole rules))
-          (forms_before (reverse (drop (n + 1) items)) (x ∷ first_back items n) (subst HaveForm whole forms));
+          (older_rules run.geometry (length run.image) (reverse (drop (n + 1) items)) (x ∷ first_back items n) (subst (KeepsRules run.geometry (length run.image)) whole rules))
+          (older_forms (reverse (drop (n + 1) items)) (x ∷ first_back items n) (subst HaveForm whole forms));
     }

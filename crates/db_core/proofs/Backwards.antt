@@ -1,7 +1,7 @@
 -- A check that takes items back keeps its snapshot.
 use Rattle.std.proofs.Common.{◌≡◌, ℕ, ◌+◌, ◌-◌, ◌<◌, ◌≤◌, Bool, true, false, List, [], ◌∷◌, length, get_or, reverse, take, Some, ◌⊎◌, inl, inr, refl, sym, ap, ◌∙◌, subst, arith}
 use Rattle.std.specs.Prelude.{if◌then◌else◌, slice_get}
-use Rattle.std.proofs.lemmas.List.{reverse-append, length-reverse, take_more}
+use Rattle.std.proofs.lemmas.List.{reverse-append, length-reverse, take_more, reverse-reverse}
 use Rattle.std.proofs.lemmas.Option.{slice_get-get_or, slice_get_within, slice_get_cases, get_or_from_slice_get}
 use Rattle.spec_file.specs.Image.{Image}
 use Rattle.spec_log.specs.declared.item.Record.{Record}
@@ -17,8 +17,9 @@ use Rattle.db_core.specs.declared.session.Check.{Check}
 use Rattle.db_core.specs.declared.session.Doing.TheVariants.{Checking}
 use Rattle.db_core.specs.declared.session.Session.{Session}
 use Rattle.db_core.specs.States.{whole_log, items_before, is_among, IsSnapshot, IsAt, IsOpen, IsSession}
-use Rattle.db_core.specs.Back.{first_back, without, MayGoBack, TakesLast, FindsNone, GoesBack, last_step, steps_left}
+use Rattle.db_core.specs.Back.{first_back, without, MayGoBack, TakesLast, FindsNone, GoesBack, last_step, theirs_among, steps_left}
 use Rattle.db_core.proofs.CheckSteps.{checking_due}
+use Rattle.db_core.proofs.Left.{fewer_theirs}
 use Rattle.db_core.proofs.Stepped.{item_of}
 
 -- one item more, and it is the newest
@@ -37,17 +38,13 @@ pub theirs_goes : (ongoing : List ℕ) (items : List Record) (n : ℕ) (x : Reco
 theirs_goes ongoing items n x image e h =
     back_more ongoing items n x image e ∙ ap (λ b. without ongoing items n (if b then take_back (first_back items n) x image else image)) h
 
-pub twice : (xs : List Record) → reverse (reverse xs) ≡ xs
-twice [] = refl
-twice (x ∷ xs) = ap reverse (reverse-append (x ∷ []) xs) ∙ reverse-append (reverse xs) (x ∷ []) ∙ ap (λ ys. x ∷ ys) (twice xs)
-
 -- the item with a number, in a list in the log's order
 pub numbered : (items : List Record) (n : ℕ) (x : Record) → 0 < n → n ≤ length items → x ≡ get_or items (n - 1) x → item_at (reverse items) n ≡ Some x
 numbered items n x above within is =
     let place : n - 1 + 1 ≡ n = omega (arith, above) in
     let below : n - 1 < length items = omega (arith, above, within) in
     ap (item_at (reverse items)) (sym place) ∙ item_of (reverse items) (n - 1) (subst (λ m. n - 1 < m) (sym (length-reverse items)) below)
-    ∙ ap (λ xs. slice_get xs (n - 1)) (twice items) ∙ slice_get-get_or items (n - 1) x below ∙ ap Some (sym is)
+    ∙ ap (λ xs. slice_get xs (n - 1)) (reverse-reverse items) ∙ slice_get-get_or items (n - 1) x below ∙ ap Some (sym is)
 
 -- the last item of theirs is taken back
 pub went_back : (items : List Record) (old new : Check) (ongoing : List ℕ) (last : ℕ) → ongoing ≡ old.ongoing.items → MayGoBack items old → last ≤ old.place → 0 < last →
@@ -104,26 +101,20 @@ step_undone : (items : List Record) (old new : Check) → TakesLast items old ne
 step_undone items old new (inl t) before e = let none = before (sym t.undone ∙ e) in let below = t.below in omega (arith, none, below)
 step_undone items old new (inr f) before e = f.place
 
--- each step leaves less to take back, until the check knows that none is left
-pub step_falls : (items : List Record) (old new : Check) → GoesBack items old new → (new.place < old.place) ⊎ (new.undone ≡ true)
-step_falls items old new back = by_step back.step
-  where
-    by_step : TakesLast items old new ⊎ FindsNone items old new → (new.place < old.place) ⊎ (new.undone ≡ true)
-    by_step (inl t) = inl t.below
-    by_step (inr f) = inr f.undone
-
-pub back_falls : (items : List Record) (old new : Check) → GoesBack items old new → old.undone ≡ false → steps_left new < steps_left old
+-- each step leaves a turn fewer, until the check knows that no item is left
+pub back_falls : (items : List Record) (old new : Check) → GoesBack items old new → old.undone ≡ false → steps_left items new < steps_left items old
 back_falls items old new back fresh = by_step back.step
   where
-    by_step : TakesLast items old new ⊎ FindsNone items old new → steps_left new < steps_left old
+    by_step : TakesLast items old new ⊎ FindsNone items old new → steps_left items new < steps_left items old
     by_step (inl t) =
         let same : last_step new.undone ≡ last_step old.undone = ap last_step t.undone in
-        let below = t.below in
-        omega (arith, same, below)
+        let theirs = ap (λ o. theirs_among o items new.place) back.ongoing in
+        let fewer = fewer_theirs old.ongoing.items items new.place old.place t.item t.stands t.theirs t.below in
+        omega (arith, same, theirs, fewer)
     by_step (inr f) =
         let after : last_step new.undone ≡ 0 = ap last_step f.undone in
         let before : last_step old.undone ≡ 1 = ap last_step fresh in
-        let none = f.place in
+        let none : theirs_among new.ongoing.items items new.place ≡ 0 = ap (theirs_among new.ongoing.items items) f.place in
         omega (arith, after, before, none)
 
 -- a step keeps the snapshot

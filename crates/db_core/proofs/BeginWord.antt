@@ -2,6 +2,7 @@
 use Rattle.std.proofs.Common.{◌≡◌, ℕ, ◌+◌, ◌<◌, ◌≤◌, false, [], ◌∷◌, ◌++◌, length, Some, None, inl, inr, refl, sym, ap, ◌∙◌, arith}
 use Rattle.std.specs.Prelude.{slice_get}
 use Rattle.std.proofs.lemmas.Option.{slice_get_within}
+use Rattle.std.proofs.lemmas.List.{length_push}
 use Rattle.spec_log.specs.declared.item.Record.{Record}
 use Rattle.db_core.specs.declared.session.Doing.{Doing}
 use Rattle.db_core.specs.declared.session.Doing.TheVariants.{Idle, Ending, Undoing}
@@ -16,7 +17,6 @@ use Rattle.db_core.specs.Store.{run_is, log_of, is_snap, IsGood}
 use Rattle.db_core.specs.Words.{statement_of, IsRefusal, IsOpening, IsGoing, StartsBy, IsNextWord}
 use Rattle.db_core.proofs.Good.{IsStep}
 use Rattle.db_core.proofs.Records.{IsBegun}
-use Rattle.db_core.proofs.RoomSteps.{length-more}
 use Rattle.db_core.proofs.Words.{word_step}
 
 -- the room behind a record
@@ -29,7 +29,7 @@ pub ends_room : (old new : Session) (reply : _) → old.doing ≡ Idle → lengt
     length new.left.items ≤ length old.left.items → length new.left.items ≤ new.used → new.used ≤ 8192 → new.replies.items ≡ old.replies.items ++ reply ∷ [] → new.doing ≡ Idle → StartRoom old new
 ends_room old new reply idle more room kept_room script_is left_is announced used replies_are doing =
     let script = ap length script_is in
-    let replies = ap length replies_are ∙ length-more old.replies.items reply in
+    let replies = ap length replies_are ∙ length_push old.replies.items reply in
     let pending = ap pending_of doing in
     let started = ap started_of doing in
     let pending_old = ap pending_of idle in

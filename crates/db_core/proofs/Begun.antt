@@ -1,37 +1,42 @@
 -- Sessions that have done nothing, runs one after another, and what contracts see of the core.
-use Rattle.std.proofs.Common.{◌≡◌, ℕ, zero, suc, ◌+◌, ◌-◌, ◌*◌, ◌<◌, ◌≤◌, true, false, List, [], ◌∷◌, ◌++◌, length, map, reverse, get_or, Some, None, inl, refl, sym, ap, ◌∙◌, subst, arith, vec_len, vec_capacity}
-use Rattle.std.specs.Prelude.{if◌then◌else◌, slice_get, sum_by}
+use Rattle.std.proofs.Common.{◌≡◌, ℕ, zero, suc, ◌+◌, ◌-◌, ◌<◌, ◌≤◌, true, false, List, [], ◌∷◌, ◌++◌, length, map, reverse, get_or, Option, Some, None, inl, refl, sym, ap, ◌∙◌, subst, arith, vec_len, vec_capacity}
+use Rattle.std.specs.Prelude.{if◌then◌else◌, slice_get, slice_index, sum_by}
 use Rattle.std.specs.List.{list_any}
 use Rattle.std.proofs.lemmas.Bool.{ne_eqb}
 use Rattle.std.proofs.lemmas.List.{reverse-append}
-use Rattle.std.proofs.lemmas.List.Sums.{sum_by-cons}
 use Rattle.spec_file.specs.Image.{Image}
 use Rattle.spec_log.specs.declared.item.Record.{Record}
+use Rattle.spec_log.specs.declared.item.Record.TheVariants.{Snap}
 use Rattle.spec_log.specs.Items.{has_form}
 use Rattle.spec_log.specs.Cells.{HasWholePages}
 use Rattle.spec_log.specs.Rules.{HaveForm}
 use Rattle.spec_log.specs.Images.{final_image}
-use Rattle.law_undo.specs.ReadLogs.{older_forms}
+use Rattle.spec_log.specs.RulesLaws.{older_forms}
 use Rattle.law_undo.specs.Views.{sound_forms}
 use Rattle.spec_script.specs.Lines.{is_statement}
 use Rattle.spec_file.specs.declared.geometry.Geometry.TheVariants.{Small}
-use Rattle.ck_facts.specs.Maps.{HasShape}
+use Rattle.spec_file.specs.Places.{HasShape}
 use Rattle.spec_script.specs.declared.statement.Statement.{Statement}
 use Rattle.spec_run.specs.Begun.{Setting}
-use Rattle.spec_run.specs.Entries.{Entry, items_of}
+use Rattle.spec_run.specs.Entries.{items_of}
 use Rattle.spec_run.specs.Turns.{AreTold, told_to, IsLegal, IsWhole, Run}
 use Rattle.spec_run.specs.Progress.{script_of, progress_of, next_of}
 use Rattle.law_run.specs.Legal.{legal_is_sound}
+use Rattle.db_core.specs.declared.session.Doing.TheVariants.{Idle}
 use Rattle.db_core.specs.declared.session.Session.{Session}
-use Rattle.db_core.specs.Rooms.{owed_by, pending_of, started_of, HasOwnRoom}
+use Rattle.db_core.specs.Bounds.{most_turns, IsAtWork, HasBound}
+use Rattle.db_core.specs.Rooms.{owed_by, pending_of, started_of, HasOwnRoom, turns_left, left_of_statement}
 use Rattle.db_core.specs.declared.state.State.{State}
 use Rattle.db_core.specs.declared.out.TurnOut.{TurnOut}
 use Rattle.db_core.specs.Reports.{is_terminated, none_terminated}
 use Rattle.db_core.specs.Runs.{AreNew, IsNew, setting_of, turns_of, rest_from}
 use Rattle.db_core.specs.Replays.{RunsSchedule, EndsSessions}
-use Rattle.db_core.specs.States.{Db, TurnIn, entries_of, run_of, IsAt, IsState}
-use Rattle.db_core.specs.Store.{run_is, log_of, db_of, AreProper, IsGood, IsTurn, SaysOut}
-use Rattle.db_core.proofs.Good.{get_at, items_entries}
+use Rattle.db_core.specs.States.{Db, left_in, TurnIn, entries_of, run_of, IsAt, IsState}
+use Rattle.db_core.specs.Store.{run_is, log_of, left_at, db_of, AreProper, IsGood, IsTurn, SaysOut, Advanced, GoesNearer}
+use Rattle.db_core.specs.ViewLaws.{get_within}
+use Rattle.db_core.proofs.Advances.{same_many}
+use Rattle.db_core.proofs.Good.{get_at, owed_low, sum_low, items_entries}
+use Rattle.db_core.proofs.Replays.{run_then, less_left}
 
 -- one more session, for one more script
 pub new_more : {X : Type 0} (v : X → List Statement) (xs : List X) (x : X) (sessions : List Session) (y : Session) → AreNew (map v xs) sessions → IsNew (v x) y →
@@ -100,21 +105,6 @@ pub each_room_new : (scripts : List (List Statement)) (sessions : List Session) 
 each_room_new scripts sessions are short k x e =
     let n = new_at scripts sessions k x are e in
     room_new n.script x n.new (short k n.script n.here)
-
-owed_low : (x : Session) → HasOwnRoom x → owed_by x ≤ 1000000
-owed_low x room =
-    let a = room.announced in
-    let b = room.used in
-    let c = room.short in
-    omega (arith, a, b, c)
-
-sum_low : (xs : List Session) → ((k : ℕ) (x : Session) → slice_get xs k ≡ Some x → owed_by x ≤ 1000000) → sum_by owed_by xs ≤ 1000000 * length xs
-sum_low [] all = omega arith
-sum_low (x ∷ xs) all =
-    let here = all 0 x refl in
-    let rest = sum_low xs (λ k y e. all (suc k) y e) in
-    let more = sum_by-cons owed_by x xs in
-    omega (arith, here, rest, more)
 
 -- what all owe together is little
 pub low_new : (scripts : List (List Statement)) (sessions : List Session) → AreNew scripts sessions → AreShort scripts → length scripts ≤ 16 →
@@ -198,11 +188,27 @@ setting_fresh image scripts st fresh = ap (setting_of image) (scripts_new script
 log_fresh : (image : Image) (scripts : List (List Statement)) (st : State) → IsFresh image scripts st → log_of st ≡ []
 log_fresh image scripts st fresh = ap reverse fresh.items
 
+-- how many turns are left, as contracts see it
+pub left_seen : (st : State) (s : ℕ) → left_in (db_of st) s ≡ left_at st (s - 1)
+left_seen st s = by_list st.sessions.items (s - 1)
+  where
+    by_list : (sessions : List Session) (j : ℕ) → slice_index (map (λ (x : Session). turns_left st.items.items x x.doing) sessions) j ≡ left_of_statement st.items.items (slice_get sessions j)
+    by_list [] j = refl
+    by_list (x ∷ sessions) zero = refl
+    by_list (x ∷ sessions) (suc j) = by_list sessions j
+
 -- what contracts see of it
-pub seen_fresh : (image : Image) (scripts : List (List Statement)) (st : State) → IsFresh image scripts st → db_of st ≡ record { run = setting_of image scripts; entries = [] }
-seen_fresh image scripts st fresh =
-    ap (λ (r : Setting). record { run = r; entries = entries_of (log_of st) }) (run_fresh image scripts st fresh ∙ setting_fresh image scripts st fresh)
-    ∙ ap (λ l. record { run = setting_of image scripts; entries = entries_of l }) (log_fresh image scripts st fresh)
+pub seen_fresh : (image : Image) (scripts : List (List Statement)) (st : State) → IsFresh image scripts st →
+    (run_is st ≡ setting_of image scripts) × (entries_of (log_of st) ≡ []) × ((s : ℕ) → left_in (db_of st) s ≡ 0)
+seen_fresh image scripts st fresh = (
+  run_fresh image scripts st fresh ∙ setting_fresh image scripts st fresh,
+  ap entries_of (log_fresh image scripts st fresh),
+  (λ s. left_seen st s ∙ none_left (slice_get st.sessions.items (s - 1)) (λ x here. (new_at scripts st.sessions.items (s - 1) x fresh.new here).new.doing)),
+)
+  where
+    none_left : (o : Option Session) → ((x : Session) → o ≡ Some x → x.doing ≡ Idle) → left_of_statement st.items.items o ≡ 0
+    none_left None idle = refl
+    none_left (Some x) idle = ap (turns_left st.items.items x) (idle x refl)
 
 pub good_fresh : (image : Image) (scripts : List (List Statement)) (st : State) → IsFresh image scripts st → IsGood st
 good_fresh image scripts st fresh =
@@ -234,11 +240,6 @@ good_fresh image scripts st fresh =
       size_low = omega (arith, size);
     }
 
--- a run after a run
-pub run_then : (run : Setting) (xs ys : List ℕ) (a b c : List Entry) → Run run a xs b → Run run b ys c → Run run a (xs ++ ys) c
-run_then run [] ys a b c first next = subst (λ e. Run run e ys c) first next
-run_then run (s ∷ xs) ys a b c first next = (first.0, first.1, run_then run xs ys first.0 b c first.2 next)
-
 -- the items before others have their form where all have it
 forms_front : (a b : List Record) → HaveForm (a ++ b) → HaveForm a
 forms_front [] b forms = tt
@@ -268,6 +269,43 @@ says_seen old new db at s out view place says =
     (subst (λ l. SaysOut db.run s l (log_of new) out) (log_seen old db view)
     (subst (λ r. SaysOut r s (log_of old) (log_of new) out) (ap (λ (d : Db). d.run) view)
     (subst (λ n. SaysOut (run_is old) n (log_of old) (log_of new) out) place says)))
+
+-- and of how many turns are left
+pub bound_seen : (old new : State) (db : Db) (at s : ℕ) (answer : TurnOut) → db_of old ≡ db → at + 1 ≡ s → IsGood old → at < length old.sessions.items → Advanced at old new answer → GoesNearer at old new →
+    HasBound s db (db_of new)
+bound_seen old new db at s answer view place good inside adv nearer =
+    subst (λ d. HasBound s d (db_of new)) view (subst (λ n. HasBound n (db_of old) (db_of new)) place of_states)
+  where
+    run : Setting
+    run = run_is old
+
+    back : at + 1 - 1 ≡ at
+    back = omega arith
+
+    found : (x : Session) × (slice_get old.sessions.items at ≡ Some x)
+    found = get_within old.sessions.items at inside
+
+    now : (y : Session) × (slice_get new.sessions.items at ≡ Some y)
+    now = get_within new.sessions.items at (same_many old new at good adv.good adv.turn.0 inside)
+
+    busy : IsAtWork run (at + 1) (entries_of (log_of old)) → found.0.doing ≡ Idle → ⊥
+    busy work idle = work (ap (λ l. (progress_of run (at + 1) l).due) (items_entries (log_of old))
+        ∙ subst (IsAt run (log_of old) (at + 1) (length found.0.replies.items + 1) found.0.tran (progress_of run (at + 1) (log_of old))) idle (good.state.each at found.0 found.1).doing_is)
+
+    now_left : left_in (db_of new) (at + 1) ≡ left_at new at
+    now_left = left_seen new (at + 1) ∙ ap (left_at new) back
+
+    old_left : left_in (db_of old) (at + 1) ≡ left_at old at
+    old_left = left_seen old (at + 1) ∙ ap (left_at old) back
+
+    of_states : HasBound (at + 1) (db_of old) (db_of new)
+    of_states = record {
+      fewer = λ work. (let less = less_left old new at found.0 now.0 found.1 now.1 (busy work) nearer in omega (arith, now_left, old_left, less));
+      begins = λ index e. subst (λ n. n ≤ most_turns run (items_of (entries_of (log_of old)))) (sym now_left)
+          (subst (λ l. left_at new at ≤ most_turns run l) (sym (items_entries (log_of old)))
+          (adv.begins index (sym (items_entries (log_of new)) ∙ ap items_of e ∙ ap (λ l. Snap (at + 1) index ∷ l) (items_entries (log_of old)))));
+      others = λ other is differ. (let above = is.0 in left_seen new other ∙ adv.others (other - 1) (λ e. differ (omega (arith, e, above))) ∙ sym (left_seen old other));
+    }
 
 -- what a session was told, its items and the pages, as contracts see them
 pub told_seen : (st : State) (db : Db) (at s : ℕ) (x : Session) → db_of st ≡ db → at + 1 ≡ s → IsGood st → slice_get st.sessions.items at ≡ Some x →

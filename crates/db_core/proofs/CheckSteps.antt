@@ -1,6 +1,6 @@
 -- The steps of a check, and what the core keeps of the session behind them.
 use Rattle.std.proofs.Common.{◌≡◌, ℕ, ◌+◌, ◌-◌, ◌<◌, ◌≤◌, Bool, true, false, List, [], ◌∷◌, ◌++◌, length, reverse, take, Some, ◌⊎◌, refl, sym, ap, ◌∙◌, subst, arith}
-use Rattle.std.proofs.lemmas.List.{length-reverse, take_all, reverse-append}
+use Rattle.std.proofs.lemmas.List.{length-reverse, take_all, reverse-reverse}
 use Rattle.spec_check.specs.declared.report.CheckReport.{CheckReport}
 use Rattle.spec_tables.specs.Written.{IsCheckOf}
 use Rattle.spec_log.specs.declared.item.Record.{Record}
@@ -64,10 +64,6 @@ check_ends run log s old next check report start legal hs mine doing undone righ
     (subst (λ tell. Tells run.geometry tell (Report (record { 0 = check.point }) report)) (sym (ap (λ (q : Progress). q.telling) same ∙ tells)) (report, refl, right))
     mine script replies tran doing_next (end_opens run log s (length old.replies.items + 1) 0 old next mine tran left held used)
 
-reverse_reverse : (xs : List Record) → reverse (reverse xs) ≡ xs
-reverse_reverse [] = refl
-reverse_reverse (x ∷ xs) = ap reverse (reverse-append (x ∷ []) xs) ∙ reverse-append (reverse xs) (x ∷ []) ∙ ap (λ ys. x ∷ ys) (reverse_reverse xs)
-
 first_of_more : (g : List Record) (x : Record) → take (length g) (reverse (x ∷ g)) ≡ reverse g
 first_of_more g x = first_items g x (length g) (omega arith) ∙ take_all (length g) (reverse g) (subst (λ n. n ≤ length g) (sym (length-reverse g)) (omega arith))
 
@@ -82,7 +78,7 @@ fresh_snapshot run log s i check start legal point place pages long ongoing fres
     let sound = legal_is_sound run log start legal in
     let law : undone_image run.opened log run.image ≡ committed_image run.opened log run.image = undo_gives_committed run.geometry run.opened log run.image sound in
     let less : check.point - 1 ≡ length g = omega (arith, point) in
-    let back : (n : ℕ) → n ≡ length g → reverse (take n (reverse (x ∷ g))) ≡ g = λ n e. ap (λ m. reverse (take m (reverse (x ∷ g)))) e ∙ ap reverse (first_of_more g x) ∙ reverse_reverse g in
+    let back : (n : ℕ) → n ≡ length g → reverse (take n (reverse (x ∷ g))) ≡ g = λ n e. ap (λ m. reverse (take m (reverse (x ∷ g)))) e ∙ ap reverse (first_of_more g x) ∙ reverse-reverse g in
     let before : items_before run (x ∷ log) check.point ≡ g = back (check.point - 1) less in
     let rest : reverse (take check.place (reverse (x ∷ g))) ≡ g = back check.place place in
     record {

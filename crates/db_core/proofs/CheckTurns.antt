@@ -1,51 +1,40 @@
 -- The turns of a check keep the core's state good.
-use Rattle.std.proofs.Common.{◌≡◌, ℕ, suc, ◌+◌, ◌-◌, ◌*◌, ◌<◌, ◌≤◌, max, Bool, true, false, List, [], ◌∷◌, ◌++◌, length, reverse, Some, None, ◌⊎◌, inl, inr, refl, sym, ap, ◌∙◌, subst, arith, vec_len, vec_capacity}
+use Rattle.std.proofs.Common.{◌≡◌, ℕ, ◌+◌, ◌-◌, ◌<◌, ◌≤◌, Bool, true, false, List, [], ◌∷◌, ◌++◌, length, reverse, Some, inl, inr, refl, sym, ap, ◌∙◌, subst, arith, append-nil, vec_len, vec_capacity}
 use Rattle.std.specs.Prelude.{slice_get, slice_set, sum_by, Result, Ok, IfOk}
 use Rattle.std.proofs.Math.ListN.{length-set}
-use Rattle.std.proofs.lemmas.Option.{slice_get_within}
+use Rattle.std.proofs.lemmas.List.{length_push}
 use Rattle.spec_file.specs.Image.{Image}
 use Rattle.spec_file.specs.declared.geometry.Geometry.TheVariants.{Small}
-use Rattle.ck_facts.specs.Maps.{HasShape}
+use Rattle.spec_file.specs.Places.{HasShape}
 use Rattle.spec_log.specs.declared.item.Record.{Record}
 use Rattle.spec_log.specs.declared.item.Record.TheVariants.{Snap, CheckEnd}
-use Rattle.spec_log.specs.Items.{tran_of}
-use Rattle.spec_log.specs.Images.{committed_image}
-use Rattle.std.proofs.lemmas.List.{reverse-append}
-use Rattle.spec_script.specs.declared.statement.Statement.{Statement}
 use Rattle.spec_script.specs.declared.statement.Statement.TheVariants as statement
 use Rattle.spec_plan.specs.Refusals.{out_of_memory}
 use Rattle.spec_script.specs.declared.reply.Reply.TheVariants.{Refused}
-use Rattle.spec_run.specs.Begun.{Setting, Reports, by_damage}
-use Rattle.spec_run.specs.Progress.{Progress, progress_of, work_of, first_of, moved_to, MayCome}
-use Rattle.spec_run.specs.Turns.{IsLegal, AreTold, Goes, EndsAtOnce as AtOnce}
+use Rattle.spec_run.specs.Begun.{Setting}
+use Rattle.spec_run.specs.Progress.{Progress, progress_of, work_of, first_of, MayCome}
+use Rattle.spec_run.specs.Turns.{IsLegal, Goes}
 use Rattle.law_run.specs.Laws.{IsStart}
-use Rattle.law_run.specs.Legal.{with_begun, legal_right}
-use Rattle.law_run.specs.Moved.{moved_whole}
 use Rattle.db_core.specs.declared.session.Check.{Check}
 use Rattle.db_core.specs.declared.session.Doing.TheVariants.{Idle, Checking}
 use Rattle.db_core.specs.declared.session.Session.{Session}
 use Rattle.db_core.specs.declared.starts.Place.{Place}
 use Rattle.db_core.specs.declared.state.State.{State}
 use Rattle.db_core.specs.Back.{MayGoBack, GoesBack, steps_left}
-use Rattle.db_core.specs.Checks.{BacksIn, Begins, Checked, EndsAtOnce, EndsBy, IsFresh, Snapped}
+use Rattle.db_core.specs.Checks.{BacksIn, Checked, EndsBy}
 use Rattle.db_core.specs.Rooms.{pending_of, started_of, owed_by, HasOwnRoom, turns_left}
-use Rattle.db_core.specs.States.{whole_log, entries_of, Keeps, KeepsRoom, IsAt, IsOpen, IsSession, IsSnapshot, IsState}
-use Rattle.db_core.specs.Store.{run_is, log_of, AreProper, is_snap, told_count, IsGood, IsSettled, Went}
-use Rattle.db_core.proofs.Keeps.{get_set, steps_of, own_progress, other_session}
-use Rattle.db_core.proofs.Moves.{goes_on, ends_short, IsToldSo, told_so, work_told, work_tran}
-use Rattle.db_core.proofs.Next.{busy, opens_after, told_count as replies_told}
+use Rattle.db_core.specs.States.{whole_log, entries_of, Keeps, KeepsRoom, IsAt, IsSession, IsState}
+use Rattle.db_core.specs.Store.{run_is, log_of, AreProper, is_snap, told_count, IsGood, Went}
+use Rattle.db_core.proofs.Keeps.{get_set, steps_of}
+use Rattle.db_core.proofs.Moves.{ends_short, told_so}
+use Rattle.db_core.proofs.Next.{busy}
 use Rattle.db_core.proofs.Told.{told_step, idle_told, turn_belongs}
-use Rattle.db_core.proofs.Opens.{open_snap, open_end}
-use Rattle.db_core.proofs.Records.{IsBegun, begun_work, begun_comes}
-use Rattle.db_core.proofs.CheckSteps.{checking_due, check_comes, check_ends, end_opens, fresh_snapshot}
+use Rattle.db_core.proofs.CheckSteps.{checking_due, check_comes, check_ends, end_opens}
 use Rattle.db_core.proofs.Backwards.{back_session, back_falls}
 use Rattle.db_core.proofs.BackFits.{back_fits}
-use Rattle.db_core.proofs.BeginWord.{ends_room}
-use Rattle.db_core.proofs.Good.{get_below, get_put, get_same, part_of_sum, sum_more, sum_set, run_same, items_entries, IsMid, IsStep, log_more, stepped_good, stepped_turn}
-use Rattle.db_core.proofs.GoOn.{items_are, count_is, room_behind}
-use Rattle.db_core.proofs.RoomSteps.{length-more}
-use Rattle.db_core.proofs.Stepped.{state_pages}
-use Rattle.db_core.proofs.Views.{ongoing_is}
+use Rattle.db_core.proofs.Good.{get_below, get_put, get_same, sum_set, run_same, items_entries, IsMid, IsStep}
+use Rattle.db_core.proofs.GoOn.{items_are}
+use Rattle.db_core.proofs.Left.{leaves_others}
 
 -- a session that changes without an item
 same_log_state : (run : Setting) (log : List Record) (pages : Image) (sessions : List Session) (last all size k : ℕ) (y : Session) → IsState run log pages sessions last all size →
@@ -75,7 +64,7 @@ check_fits st k x check good here doing =
     subst (λ is. MayGoBack is check) (items_are st)
     (back_fits (run_is st) (log_of st) st.frames st.sessions.items st.last st.all st.size k x check good.state here doing)
 
-no_longer : (x : Record) (log : List Record) → log ≡ x ∷ log → ⊥
+pub no_longer : (x : Record) (log : List Record) → log ≡ x ∷ log → ⊥
 no_longer x log e = let n = ap length e in omega (arith, n)
 
 -- one step back
@@ -142,6 +131,7 @@ back_good old new k x y good here b mid items all_same size_same =
         }) (ap entries_of log_new),
       );
       silent = λ index e. no_longer (Snap (k + 1) index) log (sym log_new ∙ e);
+      others = leaves_others old new k y [] good (mid.items ∙ sym (append-nil old.items.items)) mid.sessions;
       told = (let same = ap (told_count run (k + 1)) log_new in (omega (arith, same), omega (arith, same)));
       idle = λ z at e. absurd (let same = get_same new.sessions.items k z y at (ap (λ ss. slice_get ss k) mid.sessions ∙ get_put old.sessions.items k y (get_below old.sessions.items k x here)) in let f : Checking b.after ≡ Idle = sym b.is ∙ ap (λ (q : Session). q.doing) (sym same) ∙ e in cc);
     }
@@ -152,14 +142,15 @@ back_good old new k x y good here b mid items all_same size_same =
 
 pub back_nearer : (old : State) (k : ℕ) (x y : Session) → k < length old.sessions.items → slice_get old.sessions.items k ≡ Some x → BacksIn old.items.items x y →
     ((check : Check) → x.doing ≡ Checking check → check.undone ≡ false) → (p q : Session) → slice_get old.sessions.items k ≡ Some p → slice_get (slice_set old.sessions.items k y) k ≡ Some q →
-    turns_left q q.doing < turns_left p p.doing
+    turns_left old.items.items q q.doing < turns_left old.items.items p p.doing
 back_nearer old k x y below here b undone p q ep eq =
     let same_x = get_same old.sessions.items k x p here ep in
     let same_y = get_same (slice_set old.sessions.items k y) k y q (get_put old.sessions.items k y below) eq in
     let falls = back_falls old.items.items b.before b.after b.goes (undone b.before b.was) in
-    let tx : turns_left x x.doing ≡ steps_left b.before + 1 = ap (turns_left x) b.was in
-    let ty : turns_left y y.doing ≡ steps_left b.after + 1 = ap (turns_left y) b.is in
-    subst (λ z. turns_left q q.doing < turns_left z z.doing) same_x (subst (λ z. turns_left z z.doing < turns_left x x.doing) same_y (omega (arith, falls, tx, ty)))
+    let items = old.items.items in
+    let tx : turns_left items x x.doing ≡ steps_left items b.before + 1 = ap (turns_left items x) b.was in
+    let ty : turns_left items y y.doing ≡ steps_left items b.after + 1 = ap (turns_left items y) b.is in
+    subst (λ z. turns_left items q q.doing < turns_left items z z.doing) same_x (subst (λ z. turns_left items z z.doing < turns_left items x x.doing) same_y (omega (arith, falls, tx, ty)))
 
 -- a turn that appended an item other than a Snap
 pub went_checked : (k : ℕ) (old new : State) → IsGood old → Went k old new → Checked k old new
@@ -172,6 +163,7 @@ went_checked k old new good w = record {
       ap (told_count run (k + 1)) w.appended ∙ idle_told run (k + 1) w.item (log_of old) belongs (ap (λ l. (progress_of run (k + 1) l).due) (sym w.appended) ∙ due);
   good = w.good;
   turn = w.turn;
+  others = w.others;
   silent = λ index e. differ w.item (Snap (k + 1) index) (log_of old) w.silent refl (sym w.appended ∙ e);
   told = subst (λ l. (told_count (run_is old) (k + 1) (log_of old) ≤ told_count (run_is old) (k + 1) l) × (told_count (run_is old) (k + 1) l ≤ told_count (run_is old) (k + 1) (log_of old) + 1))
       (sym w.appended) (told_step (run_is old) (k + 1) w.item (log_of old));
@@ -186,18 +178,17 @@ found_report P found report is if_ok = subst (λ f. IfOk f P) is if_ok
 
 -- what becomes of the room of a session whose check ends
 end_room : (old new : Session) (check : Check) (reply : _) → old.doing ≡ Checking check → HasOwnRoom old → Keeps old new → KeepsRoom old new → new.left.items ≡ old.left.items →
-    new.replies.items ≡ old.replies.items ++ reply ∷ [] → new.doing ≡ Idle → HasOwnRoom new × (owed_by new + 1 ≤ owed_by old) × (turns_left new new.doing < turns_left old old.doing)
+    new.replies.items ≡ old.replies.items ++ reply ∷ [] → new.doing ≡ Idle → HasOwnRoom new × (owed_by new + 1 ≤ owed_by old)
+    × ((before after : List Record) → turns_left after new new.doing < turns_left before old old.doing)
 end_room old new check reply was room kept kept_room left_is replies_are doing =
     let script = ap length kept.script in
     let used = kept.used in
-    let replies = ap length replies_are ∙ length-more old.replies.items reply in
+    let replies = ap length replies_are ∙ length_push old.replies.items reply in
     let left = ap length left_is in
     let pending = ap pending_of doing in
     let started = ap started_of doing in
-    let turns = ap (turns_left new) doing in
     let pending_old = ap pending_of was in
     let started_old = ap started_of was in
-    let turns_old = ap (turns_left old) was in
     let a = room.short in let b = room.replies in let d = room.busy in let e = room.left in let f = room.announced in let g = room.used in
     let h = kept_room.replies in let i = kept_room.left in (
       record {
@@ -209,7 +200,7 @@ end_room old new check reply was room kept kept_room left_is replies_are doing =
         used = omega (arith, used, g);
       },
       omega (arith, script, replies, left, started, started_old, d, pending, pending_old),
-      omega (arith, turns, turns_old),
+      (λ before after. (let turns = ap (turns_left after new) doing in let turns_old = ap (turns_left before old) was in omega (arith, turns, turns_old))),
     )
 
 -- a check that ends for want of memory
@@ -228,7 +219,8 @@ check_short run log s old next check start legal hs mine doing script replies tr
 -- the item that ends a check, and the session behind it
 pub end_good : (st : State) (k : ℕ) (place : Place) (x y : Session) (item : Record) → IsGood st → slice_get st.sessions.items k ≡ Some x →
     ((check : Check) → x.doing ≡ Checking check → check.undone ≡ true) → place.session ≡ k + 1 → place.index ≡ length x.replies.items + 1 → EndsBy place x y item →
-    IsStep (run_is st) (log_of st) (k + 1) y st.frames st.frames item st.all st.size × HasOwnRoom y × (owed_by y + 1 ≤ owed_by x) × (turns_left y y.doing < turns_left x x.doing) × (is_snap item ≡ false)
+    IsStep (run_is st) (log_of st) (k + 1) y st.frames st.frames item st.all st.size × HasOwnRoom y × (owed_by y + 1 ≤ owed_by x)
+    × ((before after : List Record) → turns_left after y y.doing < turns_left before x x.doing) × (is_snap item ≡ false)
 end_good st k place x y item good here undone ps pi e =
     let run = run_is st in
     let log = log_of st in

@@ -1,7 +1,7 @@
 -- A turn of a session that is in the middle of a statement other than a check.
-use Rattle.std.proofs.Common.{◌≡◌, ℕ, ◌+◌, ◌-◌, ◌<◌, ◌≤◌, false, List, [], ◌∷◌, ◌++◌, length, reverse, Some, refl, sym, ap, ◌∙◌, subst, arith, vec_len, vec_capacity}
+use Rattle.std.proofs.Common.{◌≡◌, ℕ, ◌+◌, ◌-◌, ◌<◌, ◌≤◌, false, [], ◌∷◌, ◌++◌, length, reverse, Some, refl, sym, ap, ◌∙◌, subst, arith, vec_len, vec_capacity}
 use Rattle.std.specs.Prelude.{slice_get}
-use Rattle.std.proofs.lemmas.List.{length-reverse}
+use Rattle.std.proofs.lemmas.List.{reverse-reverse}
 use Rattle.spec_file.specs.Image.{Image}
 use Rattle.spec_log.specs.declared.item.Record.{Record}
 use Rattle.db_core.specs.declared.session.Session.{Session}
@@ -9,18 +9,12 @@ use Rattle.db_core.specs.declared.state.State.{State}
 use Rattle.db_core.specs.Rooms.{owed_by, HasOwnRoom, turns_left}
 use Rattle.db_core.specs.States.{whole_log, MayStep, StepsBy}
 use Rattle.db_core.specs.Store.{run_is, log_of, is_snap, IsGood, IsSettled, IsNearer, Went}
-use Rattle.db_core.proofs.Good.{get_put, get_same, part_of_sum, whole_is, log_more, IsMid, IsStep, stepped_good, stepped_turn}
-use Rattle.db_core.proofs.RoomSteps.{Lighter}
-use Rattle.db_core.proofs.Stepped.{reverse_back, may_step, stepped}
-
-reverse_twice : (items : List Record) → reverse (reverse items) ≡ items
-reverse_twice items = sym (reverse_back items (reverse items) refl)
+use Rattle.db_core.proofs.Good.{get_put, get_same, part_of_sum, whole_is, count_is, log_more, IsMid, IsStep, stepped_good, stepped_turn}
+use Rattle.db_core.proofs.Left.{leaves_others}
+use Rattle.db_core.proofs.Stepped.{may_step, stepped}
 
 pub items_are : (st : State) → reverse (whole_log (run_is st) (log_of st)) ≡ st.items.items
-items_are st = ap reverse (whole_is st) ∙ reverse_twice st.items.items
-
-pub count_is : (st : State) → length (whole_log (run_is st) (log_of st)) ≡ length st.items.items
-count_is st = ap length (whole_is st) ∙ length-reverse st.items.items
+items_are st = ap reverse (whole_is st) ∙ reverse-reverse st.items.items
 
 pub good_may : (st : State) (k : ℕ) (x : Session) → IsGood st → slice_get st.sessions.items k ≡ Some x → MayStep st.frames st.items.items x x.doing
 good_may st k x good here =
@@ -75,18 +69,13 @@ went old mid new k before x y after item good here is_mid same_items same_all sa
   item = item;
   appended = log_more old new item (set.items ∙ ap (λ is. is ++ item ∷ []) is_mid.items);
   silent = silent;
+  others = leaves_others old new k y (item ∷ []) good (set.items ∙ ap (λ is. is ++ item ∷ []) is_mid.items) (set.sessions ∙ is_mid.sessions);
 }
 
 pub nearer_by : (old mid new : State) (k before : ℕ) (x y : Session) (after : Image) (item : Record) → k < length old.sessions.items → slice_get old.sessions.items k ≡ Some x → IsMid k y after old mid →
-    turns_left y y.doing < turns_left x x.doing → IsSettled k before item y mid new → IsNearer k old new
+    turns_left new.items.items y y.doing < turns_left old.items.items x x.doing → IsSettled k before item y mid new → IsNearer k old new
 nearer_by old mid new k before x y after item below here is_mid less set a b ea eb =
     let same_x = get_same old.sessions.items k x a here ea in
     let same_y = get_same new.sessions.items k y b (ap (λ ss. slice_get ss k) (set.sessions ∙ is_mid.sessions) ∙ get_put old.sessions.items k y below) eb in
-    subst (λ z. turns_left b b.doing < turns_left z z.doing) same_x (subst (λ z. turns_left z z.doing < turns_left x x.doing) same_y less)
-
-pub nearer : (old mid new : State) (k before : ℕ) (x y : Session) (after : Image) (item : Record) → k < length old.sessions.items → slice_get old.sessions.items k ≡ Some x → IsMid k y after old mid →
-    Lighter x y → IsSettled k before item y mid new → IsNearer k old new
-nearer old mid new k before x y after item below here is_mid light set a b ea eb =
-    let same_x = get_same old.sessions.items k x a here ea in
-    let same_y = get_same new.sessions.items k y b (ap (λ ss. slice_get ss k) (set.sessions ∙ is_mid.sessions) ∙ get_put old.sessions.items k y below) eb in
-    subst (λ z. turns_left b b.doing < turns_left z z.doing) same_x (subst (λ z. turns_left z z.doing < turns_left x x.doing) same_y light.nearer)
+    subst (λ z. turns_left new.items.items b b.doing < turns_left old.items.items z z.doing) same_x
+    (subst (λ z. turns_left new.items.items z z.doing < turns_left old.items.items x x.doing) same_y less)

@@ -1,12 +1,12 @@
 -- A step of one session keeps the core's state good.
-use Rattle.std.proofs.Common.{◌≡◌, ℕ, zero, suc, ◌+◌, ◌-◌, ◌<◌, ◌≤◌, max, get_or, true, List, [], ◌∷◌, ◌++◌, length, reverse, Some, inl, inr, refl, sym, ap, ◌∙◌, subst, arith, append-nil, vec_len, vec_capacity}
+use Rattle.std.proofs.Common.{◌≡◌, ℕ, zero, suc, ◌+◌, ◌-◌, ◌*◌, ◌<◌, ◌≤◌, max, get_or, true, List, [], ◌∷◌, ◌++◌, length, reverse, Some, inl, inr, refl, sym, ap, ◌∙◌, subst, arith, append-nil, vec_len, vec_capacity}
 use Rattle.std.specs.Prelude.{slice_get, slice_set, sum_by}
-use Rattle.std.specs.List.{fold}
 use Rattle.std.proofs.Math.ListN.{length-set}
-use Rattle.std.proofs.lemmas.List.{reverse-append}
+use Rattle.std.proofs.lemmas.List.{length-reverse, reverse-append, length_push}
+use Rattle.std.proofs.lemmas.List.Sums.{sum_by-cons}
 use Rattle.spec_file.specs.declared.geometry.Geometry.{Geometry}
 use Rattle.spec_file.specs.declared.geometry.Geometry.TheVariants.{Small}
-use Rattle.ck_facts.specs.Maps.{HasShape}
+use Rattle.spec_file.specs.Places.{HasShape}
 use Rattle.spec_file.specs.Image.{Image}
 use Rattle.spec_log.specs.declared.item.Record.{Record}
 use Rattle.spec_log.specs.declared.item.Record.TheVariants.{Start, Change, Undo, Commit, Abort, Snap, Failed, CheckEnd}
@@ -48,28 +48,18 @@ get_put [] k y lt = absurd (omega (arith, lt))
 get_put (x ∷ xs) zero y lt = refl
 get_put (x ∷ xs) (suc k) y lt = get_put xs k y (omega (arith, lt))
 
-pub sum_more : (f : Session → ℕ) (x : Session) (xs : List Session) → sum_by f (x ∷ xs) ≡ f x + sum_by f xs
-sum_more f x xs = from_any (0 + f x) xs ∙ omega arith
-  where
-    from_any : (n : ℕ) (ys : List Session) → fold (λ a z. a + f z) n ys ≡ n + fold (λ a z. a + f z) 0 ys
-    from_any n [] = omega arith
-    from_any n (y ∷ ys) =
-        let a = from_any (n + f y) ys in
-        let b = from_any (0 + f y) ys in
-        omega (arith, a, b)
-
 pub sum_set : (f : Session → ℕ) (xs : List Session) (k : ℕ) (x y : Session) → slice_get xs k ≡ Some x → sum_by f (slice_set xs k y) + f x ≡ sum_by f xs + f y
 sum_set f [] k x y e = absurd (cc)
 sum_set f (z ∷ xs) zero x y e =
     let same : z ≡ x = cc in
     let same_f : f z ≡ f x = ap f same in
-    let a : sum_by f (slice_set (z ∷ xs) zero y) ≡ f y + sum_by f xs = sum_more f y xs in
-    let b = sum_more f z xs in
+    let a : sum_by f (slice_set (z ∷ xs) zero y) ≡ f y + sum_by f xs = sum_by-cons f y xs in
+    let b = sum_by-cons f z xs in
     omega (arith, same_f, a, b)
 sum_set f (z ∷ xs) (suc k) x y e =
     let r = sum_set f xs k x y e in
-    let a : sum_by f (slice_set (z ∷ xs) (suc k) y) ≡ f z + sum_by f (slice_set xs k y) = sum_more f z (slice_set xs k y) in
-    let b = sum_more f z xs in
+    let a : sum_by f (slice_set (z ∷ xs) (suc k) y) ≡ f z + sum_by f (slice_set xs k y) = sum_by-cons f z (slice_set xs k y) in
+    let b = sum_by-cons f z xs in
     omega (arith, r, a, b)
 
 pub part_of_sum : (f : Session → ℕ) (xs : List Session) (k : ℕ) (x : Session) → slice_get xs k ≡ Some x → f x ≤ sum_by f xs
@@ -77,12 +67,28 @@ part_of_sum f [] k x e = absurd (cc)
 part_of_sum f (z ∷ xs) zero x e =
     let same : z ≡ x = cc in
     let same_f : f z ≡ f x = ap f same in
-    let b = sum_more f z xs in
+    let b = sum_by-cons f z xs in
     omega (arith, same_f, b)
 part_of_sum f (z ∷ xs) (suc k) x e =
     let r = part_of_sum f xs k x e in
-    let b = sum_more f z xs in
+    let b = sum_by-cons f z xs in
     omega (arith, r, b)
+
+-- a session owes room for few items
+pub owed_low : (x : Session) → HasOwnRoom x → owed_by x ≤ 1000000
+owed_low x room =
+    let a = room.announced in
+    let b = room.used in
+    let c = room.short in
+    omega (arith, a, b, c)
+
+pub sum_low : (xs : List Session) → ((k : ℕ) (x : Session) → slice_get xs k ≡ Some x → owed_by x ≤ 1000000) → sum_by owed_by xs ≤ 1000000 * length xs
+sum_low [] all = omega arith
+sum_low (x ∷ xs) all =
+    let here = all 0 x refl in
+    let rest = sum_low xs (λ k y e. all (suc k) y e) in
+    let more = sum_by-cons owed_by x xs in
+    omega (arith, here, rest, more)
 
 -- the items of the entries
 pub items_entries : (log : List Record) → items_of (entries_of log) ≡ log
@@ -92,6 +98,9 @@ items_entries (x ∷ log) = ap (λ l. x ∷ l) (items_entries log)
 -- the log of a core begins empty
 pub whole_is : (st : State) → whole_log (run_is st) (log_of st) ≡ log_of st
 whole_is st = append-nil (log_of st)
+
+pub count_is : (st : State) → length (whole_log (run_is st) (log_of st)) ≡ length st.items.items
+count_is st = ap length (whole_is st) ∙ length-reverse st.items.items
 
 -- no transaction is greater than one more than the greatest
 unfinished_low : (g : List Record) (t : ℕ) → is_unfinished g t ≡ true → t ≤ greatest_of g
@@ -165,7 +174,7 @@ stepped_good old mid new k x y after item good here mid_is step all_low size_low
     let low_tran = tran_low run.geometry (length run.image) item (whole_log run log) rules in
     let old_last = good.state.last_is in
     let old_low = good.low in
-    let count : length new.items.items ≡ length old.items.items + 1 = ap length (set.items ∙ ap (λ is. is ++ item ∷ []) mid_is.items) ∙ length-more old.items.items item in
+    let count : length new.items.items ≡ length old.items.items + 1 = ap length (set.items ∙ ap (λ is. is ++ item ∷ []) mid_is.items) ∙ length_push old.items.items item in
     let sum = sum_set owed_by old.sessions.items k x y here in
     let part = part_of_sum owed_by old.sessions.items k x here in
     let owed_old = good.owed_is in
@@ -190,10 +199,6 @@ stepped_good old mid new k x y after item good here mid_is step all_low size_low
       all_low = subst (λ n. n ≤ 524288) (sym all_new) all_low;
       size_low = subst (λ n. n ≤ 268435456) (sym size_new) size_low;
     }
-  where
-    length-more : (xs : List Record) (y : Record) → length (xs ++ y ∷ []) ≡ length xs + 1
-    length-more [] y = refl
-    length-more (x ∷ xs) y = let e = length-more xs y in omega (arith, e)
 
 -- and the turn
 pub stepped_turn : (old mid new : State) (k : ℕ) (x y : Session) (after : Image) (item : Record) → IsMid k y after old mid → MayCome (work_of (run_is old) (k + 1) (log_of old)) item →

@@ -9,6 +9,7 @@ pub mod Stepped
 pub mod Words
 pub mod CheckSteps
 pub mod Good
+pub mod Left
 pub mod RoomSteps
 pub mod GoOn
 pub mod PlanSizes

@@ -187,7 +187,7 @@ pub undo_comes : (run : Setting) (log : List Record) (s : ℕ) (old : Session) (
 undo_comes run log s old rest n mine doing left =
     let u = undo_due run log s old rest n mine doing left in busy_comes run log s (Undo (record { 0 = old.tran }) (record { 0 = n })) (abort_items old.tran u.0) u.1
 
-some_abort : (t : ℕ) (ps : List (ℕ × Record)) → abort_items t ps ≡ [] → ⊥
+pub some_abort : (t : ℕ) (ps : List (ℕ × Record)) → abort_items t ps ≡ [] → ⊥
 some_abort t [] e = cc
 some_abort t (p ∷ ps) e = cc
 

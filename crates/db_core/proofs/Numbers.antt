@@ -5,9 +5,10 @@ use Rattle.spec_file.specs.declared.data.Resource.{Resource}
 use Rattle.spec_file.specs.declared.data.Resource.TheVariants as resource
 use Rattle.spec_file.specs.Image.{page}
 use Rattle.spec_file.specs.Header.{says}
-use Rattle.spec_file.specs.Places.{pfs_page}
+use Rattle.spec_file.specs.Places.{pfs_page, is_inside}
 use Rattle.spec_file.specs.CatalogRows.{CatalogRow, rows_of}
-use Rattle.spec_chain.specs.Chains.{is_inside, is_last, is_ordinary, next_of}
+use Rattle.spec_file.specs.Roles.{is_ordinary}
+use Rattle.spec_chain.specs.Chains.{is_last, next_of}
 use Rattle.spec_rows.specs.Slots.{slot_count}
 use Rattle.spec_plan.specs.Refusals.{bad_page}
 use Rattle.spec_plan.specs.Sight.{Sight, Outcome, Refuses, Counts, Writes, by_holder, where_good}

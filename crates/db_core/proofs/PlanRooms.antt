@@ -1,7 +1,8 @@
 -- The room of a session behind the record of a planned statement, and the sums.
-use Rattle.std.proofs.Common.{◌≡◌, ℕ, ◌+◌, ◌*◌, ◌<◌, ◌≤◌, Bool, true, false, eqb, ltb, not, ◌&&◌, ◌||◌, List, [], ◌∷◌, ◌++◌, length, Some, inl, inr, refl, sym, ap, ◌∙◌, arith}
+use Rattle.std.proofs.Common.{◌≡◌, ℕ, ◌+◌, ◌*◌, ◌<◌, ◌≤◌, Bool, true, false, eqb, ltb, not, ◌&&◌, ◌||◌, List, [], ◌∷◌, length, Some, inl, inr, refl, sym, ap, ◌∙◌, arith}
 use Rattle.std.specs.Prelude.{if◌then◌else◌}
-use Rattle.std.proofs.lemmas.Bool.{eqb-true, ltb-false, eq-eqb, ne_eqb, cases_Bool}
+use Rattle.std.proofs.lemmas.Bool.{eqb-true, ltb-false, eq-eqb, ne_eqb, cases_Bool, or_parts}
+use Rattle.std.proofs.lemmas.List.{length_push}
 use Rattle.spec_file.specs.declared.data.Resource.{Resource}
 use Rattle.spec_log.specs.declared.item.Record.{Record}
 use Rattle.spec_script.specs.declared.reply.Reply.{Reply}
@@ -17,10 +18,6 @@ use Rattle.db_core.specs.Plans.{used_now, exceeds, HasRoomFor, Writes, announced
 use Rattle.db_core.specs.Words.{IsEnded}
 use Rattle.db_core.proofs.RoomSteps.{changing_counts}
 
-length-more : {A : Type 0} (xs : List A) (y : A) → length (xs ++ y ∷ []) ≡ length xs + 1
-length-more [] y = refl
-length-more (x ∷ xs) y = let e = length-more xs y in omega (arith, e)
-
 -- the session's own room, and what it owes more than before behind a record with n changes
 pub record PlanRoom (old new : Session) (n : ℕ) : Type 0 where
   pub own : HasOwnRoom new
@@ -32,10 +29,6 @@ pub record Limits (used all size n bytes : ℕ) : Type 0 where
   pub all_low : all + n ≤ 524288
   pub size_low : size + (bytes + 17 * n) ≤ 268435456
 
-neither : (a b : Bool) → (a || b) ≡ false → (a ≡ false) × (b ≡ false)
-neither true b e = absurd (cc)
-neither false b e = (refl, e)
-
 pub limits : (used all size n bytes : ℕ) → exceeds used all size n bytes ≡ false → used ≤ 8192 → all ≤ 524288 → size ≤ 268435456 → (n ≡ 0 → bytes ≡ 0) → Limits used all size n bytes
 limits used all size n bytes within used_low all_low size_low none = elim (cases_Bool (eqb n 0)) [
   | inl e ↦
@@ -45,8 +38,8 @@ limits used all size n bytes within used_low all_low size_low none = elim (cases
   | inr e ↦
       let over = ltb 8192 (used + n) || ltb 1048576 (2 * (all + n)) || ltb 268435456 (size + (bytes + 17 * n)) in
       let not_over : over ≡ false = sym (ap (λ b. not b && over) e) ∙ within in
-      let first = neither (ltb 8192 (used + n) || ltb 1048576 (2 * (all + n))) (ltb 268435456 (size + (bytes + 17 * n))) not_over in
-      let second = neither (ltb 8192 (used + n)) (ltb 1048576 (2 * (all + n))) first.0 in
+      let first = or_parts (ltb 8192 (used + n) || ltb 1048576 (2 * (all + n))) (ltb 268435456 (size + (bytes + 17 * n))) not_over in
+      let second = or_parts (ltb 8192 (used + n)) (ltb 1048576 (2 * (all + n))) first.0 in
       let a = ltb-false 8192 (used + n) second.0 in
       let b = ltb-false 1048576 (2 * (all + n)) second.1 in
       let d = ltb-false 268435456 (size + (bytes + 17 * n)) first.1 in
@@ -61,7 +54,7 @@ pub ended_room : (place : Place) (number : ℕ) (reply : Reply) (old new : Sessi
     IsEnded place number reply old new x → PlanRoom old new 0
 ended_room place number reply old new x idle more room kept_room r =
     let script = ap length r.kept.script in
-    let replies = ap length r.replies ∙ length-more old.replies.items reply in
+    let replies = ap length r.replies ∙ length_push old.replies.items reply in
     let left = ap length r.left in
     let used = r.kept.used in
     let pending = ap pending_of r.doing in
@@ -94,7 +87,7 @@ goes_counts old new [] true goes =
     let started = ap started_of goes.0 in
     record { pending = ap pending_of goes.0; busy = omega (arith, replies, started); some = omega (arith, started) }
 goes_counts old new [] false goes =
-    let replies = ap length goes.1 ∙ length-more old.replies.items _ in
+    let replies = ap length goes.1 ∙ length_push old.replies.items _ in
     let started = ap started_of goes.0 in
     record { pending = ap pending_of goes.0; busy = omega (arith, replies, started); some = omega (arith, started) }
 goes_counts old new (c ∷ cs) own goes =

@@ -14,7 +14,8 @@ use Rattle.spec_script.specs.declared.reply.Reply.TheVariants.{Rows, Refused}
 use Rattle.spec_script.specs.declared.statement.Statement.{Statement}
 use Rattle.spec_plan.specs.declared.plan.Planned.{Planned}
 use Rattle.spec_plan.specs.Planned.{planned_size}
-use Rattle.spec_plan.specs.Refusals.{plain_refusal, log_full}
+use Rattle.spec_script.specs.Refusals.{plain_refusal}
+use Rattle.spec_plan.specs.Refusals.{log_full}
 use Rattle.spec_plan.specs.Sight.{Outcome, Refuses, Counts, Writes as Writing}
 use Rattle.spec_run.specs.Shapes.{Writing as WritingShape, plain_start, tran_to_write}
 use Rattle.spec_run.specs.Begun.{Setting, Answers, Begun, with_memory, refused, by_outcome}

@@ -8,7 +8,8 @@ use Rattle.spec_log.specs.declared.item.Record.{Record}
 use Rattle.spec_script.specs.declared.reply.Reply.{Reply}
 use Rattle.spec_script.specs.declared.reply.Reply.TheVariants.{Rows, Refused}
 use Rattle.spec_plan.specs.Planned.{planned_size}
-use Rattle.spec_plan.specs.Refusals.{plain_refusal, log_full}
+use Rattle.spec_script.specs.Refusals.{plain_refusal}
+use Rattle.spec_plan.specs.Refusals.{log_full}
 use Rattle.spec_run.specs.Shapes.{tran_to_write}
 use Rattle.spec_run.specs.Begun.{Begun, begun, refused}
 use Rattle.db_heap.specs.declared.plan.Plan.{Plan}
@@ -22,6 +23,7 @@ use Rattle.db_core.specs.Store.{run_is, log_of, is_snap, IsGood, IsSettled, Went
 use Rattle.db_core.specs.Plans.{IsProper, IsPlanned, IsReady, BeginsAs, used_now, changes_in, takes_in, announced_by, bytes_by}
 use Rattle.db_core.specs.Words.{IsEnded}
 use Rattle.db_core.proofs.Good.{part_of_sum, log_more, IsMid, IsStep, stepped_good, stepped_turn}
+use Rattle.db_core.proofs.Left.{leaves_others}
 use Rattle.db_core.proofs.Records.{IsBegun}
 use Rattle.db_core.proofs.PlanSteps.{HasBegun, ended_step, short_step, want_of, writing_of, writing_step, used_is, passes_is, all_more, bytes_more}
 use Rattle.db_core.proofs.PlanRooms.{PlanRoom, limits, no_bytes, ended_room, used_low, writes_room, ended_announces, writes_announces}
@@ -161,4 +163,5 @@ plan_went old mid new k n before x y item good here is_mid same_items all_is siz
       item = item;
       appended = log_more old new item (set.items ∙ ap (λ is. is ++ item ∷ []) is_mid.items);
       silent = s.silent;
+      others = leaves_others old new k y (item ∷ []) good (set.items ∙ ap (λ is. is ++ item ∷ []) is_mid.items) (set.sessions ∙ is_mid.sessions);
     }

@@ -1,17 +1,18 @@
 -- More room changes nothing else, and a plan within the limits may begin.
-use Rattle.std.proofs.Common.{◌≡◌, ℕ, ◌+◌, ◌*◌, ◌≤◌, eqb, List, [], ◌∷◌, length, reverse, Some, Ok, Err, inl, inr, refl, sym, ap, ◌∙◌, subst, arith, vec_len, vec_capacity}
+use Rattle.std.proofs.Common.{◌≡◌, ℕ, ◌+◌, ◌*◌, ◌≤◌, eqb, List, [], ◌∷◌, length, reverse, Some, Ok, Err, inl, inr, refl, sym, ap, ◌∙◌, subst, arith, append-nil, vec_len, vec_capacity}
 use Rattle.std.specs.Prelude.{if◌then◌else◌, slice_get, slice_set, sum_by}
 use Rattle.std.specs.declared.result.Result.{Result}
 use Rattle.std.proofs.Math.ListN.{length-set}
 use Rattle.std.proofs.lemmas.Bool.{cond_both}
 use Rattle.spec_file.specs.declared.data.NoMemory.{NoMemory}
 use Rattle.spec_file.specs.declared.geometry.Geometry.TheVariants.{Small}
-use Rattle.ck_facts.specs.Maps.{HasShape}
+use Rattle.spec_file.specs.Places.{HasShape}
 use Rattle.spec_log.specs.declared.item.Record.{Record}
 use Rattle.spec_script.specs.declared.reply.Reply.{Reply}
 use Rattle.spec_script.specs.declared.reply.Reply.TheVariants.{Rows}
 use Rattle.spec_plan.specs.Planned.{planned_size}
-use Rattle.spec_plan.specs.Refusals.{plain_refusal, log_full}
+use Rattle.spec_script.specs.Refusals.{plain_refusal}
+use Rattle.spec_plan.specs.Refusals.{log_full}
 use Rattle.spec_run.specs.Shapes.{Writing as WritingShape, tran_to_write}
 use Rattle.spec_run.specs.Begun.{Setting, begun, with_memory, refused}
 use Rattle.spec_run.specs.Progress.{progress_of}
@@ -23,10 +24,11 @@ use Rattle.db_core.specs.declared.session.Session.{Session}
 use Rattle.db_core.specs.declared.state.State.{State}
 use Rattle.db_core.specs.Rooms.{pending_of, started_of, owed_by, HasOwnRoom}
 use Rattle.db_core.specs.States.{whole_log, entries_of, IsAt, IsOpen, IsSession, IsState, IsSame, KeepsRoom}
-use Rattle.db_core.specs.Store.{AreProper, run_is, log_of, IsGood, Went}
+use Rattle.db_core.specs.Store.{AreProper, run_is, log_of, IsGood, LeavesOthers, Went}
 use Rattle.db_core.specs.Plans.{IsProper, IsByPlan, IsPlanned, used_now, exceeds, limited, changes_in, takes_in, HasRoomFor, IsWithin, IsReady, IsRoomier}
 use Rattle.db_core.proofs.Good.{get_below, get_put, get_same, sum_set, run_same}
 use Rattle.db_core.proofs.Keeps.{get_set}
+use Rattle.db_core.proofs.Left.{leaves_others}
 use Rattle.db_core.proofs.PlanSteps.{used_is, passes_is}
 
 same_session : (run : Setting) (log : List Record) (s : ℕ) (x y : Session) → IsSame x y → IsSession run log s x → IsSession run log s y
@@ -141,6 +143,9 @@ roomier_good k old new x here r good =
       size_low = subst (λ n. n ≤ 268435456) (sym r.size_is) good.size_low;
     }
 
+pub roomier_others : (k : ℕ) (old new : State) (x : Session) → slice_get old.sessions.items k ≡ Some x → IsRoomier k old new → IsGood old → LeavesOthers k old new
+roomier_others k old new x here r good = let s = r.session x here in leaves_others old new k s.0 [] good (r.items ∙ sym (append-nil old.items.items)) s.1
+
 -- the session there is the same but for its room
 roomier_same : (k : ℕ) (old new : State) (x y : Session) → slice_get old.sessions.items k ≡ Some x → slice_get new.sessions.items k ≡ Some y → IsRoomier k old new → IsSame x y
 roomier_same k old new x y here there r =
@@ -231,11 +236,12 @@ ready_want k old new x y p e good here there r h = record {
 }
 
 -- a turn from a state that differs in its room alone
-pub went_from : (k : ℕ) (old mid new : State) → run_is mid ≡ run_is old → log_of mid ≡ log_of old → Went k mid new → Went k old new
-went_from k old mid new run log w = record {
+pub went_from : (k : ℕ) (old mid new : State) → run_is mid ≡ run_is old → log_of mid ≡ log_of old → LeavesOthers k old mid → Went k mid new → Went k old new
+went_from k old mid new run log others w = record {
   good = w.good;
   turn = (w.turn.0 ∙ run, subst (λ l. Turn (run_is old) (k + 1) (entries_of l) (entries_of (log_of new))) log (subst (λ r. Turn r (k + 1) (entries_of (log_of mid)) (entries_of (log_of new))) run w.turn.1));
   item = w.item;
   appended = w.appended ∙ ap (λ l. w.item ∷ l) log;
   silent = w.silent;
+  others = λ j differ. w.others j differ ∙ others j differ;
 }

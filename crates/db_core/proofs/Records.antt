@@ -1,7 +1,6 @@
 -- The record of a statement, and what the core keeps of the session behind it.
-use Rattle.std.proofs.Common.{◌≡◌, ℕ, ◌+◌, ◌<◌, ◌≤◌, true, false, List, [], ◌∷◌, ◌++◌, length, reverse, take, Some, ◌⊎◌, inl, inr, refl, sym, ap, ◌∙◌, subst, arith}
+use Rattle.std.proofs.Common.{◌≡◌, ℕ, ◌+◌, ◌<◌, true, false, List, [], ◌∷◌, ◌++◌, length, Some, ◌⊎◌, inl, inr, refl, sym, ap, ◌∙◌, subst}
 use Rattle.std.specs.Prelude.{slice_get}
-use Rattle.std.proofs.lemmas.List.{length-reverse, take_all, reverse-append}
 use Rattle.spec_log.specs.declared.item.Record.{Record}
 use Rattle.spec_script.specs.declared.reply.Reply.{Reply}
 use Rattle.spec_script.specs.declared.reply.Reply.TheVariants.{Refused}
@@ -16,7 +15,7 @@ use Rattle.law_run.specs.Legal.{with_begun}
 use Rattle.db_core.specs.declared.session.Doing.TheVariants.{Idle}
 use Rattle.db_core.specs.declared.session.Session.{Session}
 use Rattle.db_core.specs.States.{whole_log, IsAt, IsOpen, IsSession}
-use Rattle.db_core.proofs.Keeps.{steps_of, first_items}
+use Rattle.db_core.proofs.Keeps.{steps_of}
 use Rattle.db_core.proofs.Moves.{ends_with, ends_short, told_so}
 use Rattle.db_core.proofs.Next.{idle_work, told_count, goes_by}
 
@@ -86,10 +85,3 @@ pub begun_short : (run : Setting) (log : List Record) (s : ℕ) (old next : Sess
 begun_short run log s old next st b x h want short script replies tran idle opens =
     let step = steps_of run log s x h.start h.legal h.above (want_comes run log s old st b x h want) in
     ends_short run log s x old next step.belongs short (told_so run log s old h.mine) script replies tran idle opens
-
-reverse_reverse : (xs : List Record) → reverse (reverse xs) ≡ xs
-reverse_reverse [] = refl
-reverse_reverse (x ∷ xs) = ap reverse (reverse-append (x ∷ []) xs) ∙ reverse-append (reverse xs) (x ∷ []) ∙ ap (λ ys. x ∷ ys) (reverse_reverse xs)
-
-first_of_more : (g : List Record) (x : Record) → take (length g) (reverse (x ∷ g)) ≡ reverse g
-first_of_more g x = first_items g x (length g) (omega arith) ∙ take_all (length g) (reverse g) (subst (λ n. n ≤ length g) (sym (length-reverse g)) (omega arith))

@@ -1,7 +1,7 @@
 -- Runs of turns, one after another.
 use Rattle.std.proofs.Common.{◌≡◌, ℕ, zero, suc, ◌+◌, ◌-◌, ◌<◌, ◌≤◌, get_or, List, [], ◌∷◌, ◌++◌, length, Some, None, ◌⊎◌, inl, inr, refl, sym, ap, ◌∙◌, subst, arith, append-nil}
 use Rattle.std.specs.Prelude.{slice_get, replicate, take}
-use Rattle.std.proofs.lemmas.List.{append_assoc}
+use Rattle.std.proofs.lemmas.List.{append_assoc, length_push}
 use Rattle.spec_log.specs.declared.item.Record.{Record}
 use Rattle.spec_log.specs.declared.item.Record.TheVariants.{Snap, CheckEnd}
 use Rattle.spec_run.specs.Entries.{Entry, items_of}
@@ -16,11 +16,11 @@ use Rattle.db_core.specs.declared.session.Session.{Session}
 use Rattle.db_core.specs.declared.state.State.{State}
 use Rattle.db_core.specs.declared.out.TurnOut.{TurnOut}
 use Rattle.db_core.specs.declared.out.TurnOut.TheVariants as out
-use Rattle.db_core.specs.Rooms.{started_of}
+use Rattle.db_core.specs.Rooms.{started_of, left_of_statement}
 use Rattle.db_core.specs.Runs.{turns_of, rest_from}
 use Rattle.db_core.specs.States.{entries_of, IsAt}
-use Rattle.db_core.specs.Store.{run_is, log_of, told_count, SaysOut, IsGood, IsTurn, Advanced, GoesNearer}
-use Rattle.db_core.specs.Replays.{Follows, RunsTurns, RunsSchedule, IsDoneSession, MayGoOn, IsDone, EndsSession, EndsStatement, EndsSessions, EndsFirst, GoesOn, left_of_statement, unanswered}
+use Rattle.db_core.specs.Store.{run_is, log_of, left_at, told_count, SaysOut, IsGood, IsTurn, Advanced, GoesNearer}
+use Rattle.db_core.specs.Replays.{Follows, RunsTurns, RunsSchedule, IsDoneSession, MayGoOn, IsDone, EndsSession, EndsStatement, EndsFirst, GoesOn, unanswered}
 use Rattle.db_core.proofs.Keeps.{steps_of}
 use Rattle.db_core.proofs.Good.{get_same, items_entries}
 use Rattle.db_core.proofs.Next.{told_count as replies_told}
@@ -37,10 +37,6 @@ replicate_more (suc n) s = let e : suc n + 1 ≡ suc (n + 1) = omega arith in ap
 replicate_then : (n m s : ℕ) → replicate n s ++ replicate m s ≡ replicate (n + m) s
 replicate_then zero m s = let e : 0 + m ≡ m = omega arith in ap (λ k. replicate k s) (sym e)
 replicate_then (suc n) m s = let e : suc n + m ≡ suc (n + m) = omega arith in ap (λ xs. s ∷ xs) (replicate_then n m s) ∙ ap (λ k. replicate k s) (sym e)
-
--- no turn
-pub follows_none : (st : State) → IsGood st → Follows [] st st
-follows_none st good = record { good = good; same = refl; run = refl }
 
 pub follows_then : (xs ys : List ℕ) (a b c : State) → Follows xs a b → Follows ys b c → Follows (xs ++ ys) a c
 follows_then xs ys a b c f g = record {
@@ -100,10 +96,10 @@ next_goes old mid new at answer x here busy g adv =
     }
 
 pub less_left : (mid new : State) (at : ℕ) (x y : Session) → slice_get mid.sessions.items at ≡ Some x → slice_get new.sessions.items at ≡ Some y → (x.doing ≡ Idle → ⊥) → GoesNearer at mid new →
-    left_of_statement (slice_get new.sessions.items at) < left_of_statement (slice_get mid.sessions.items at)
+    left_at new at < left_at mid at
 less_left mid new at x y here there busy nearer =
-    let a = ap left_of_statement here in
-    let b = ap left_of_statement there in
+    let a = ap (left_of_statement mid.items.items) here in
+    let b = ap (left_of_statement new.items.items) there in
     let c = nearer x y here there busy in
     omega (arith, a, b, c)
 
@@ -213,10 +209,6 @@ rest_more s n (c ∷ counts) =
     ap (λ xs. replicate c s ++ xs) (rest_more (s + 1) n counts ∙ ap (λ m. rest_from (s + 1) counts ++ replicate n m) e)
     ∙ sym (append_assoc (replicate c s) (rest_from (s + 1) counts) (replicate n (s + length (c ∷ counts))))
 
-length_one : (xs : List ℕ) (y : ℕ) → length (xs ++ y ∷ []) ≡ length xs + 1
-length_one [] y = refl
-length_one (x ∷ xs) y = let e = length_one xs y in omega (arith, e)
-
 -- one session more is at its end
 pub more_end : (old mid new : State) (at : ℕ) → IsGood old → EndsFirst at old mid → EndsSession at mid new → EndsFirst (at + 1) old new
 more_end old mid new at good f e =
@@ -231,7 +223,7 @@ more_end old mid new at good f e =
     subst (IsLegal run) (sym (items_entries (log_of new))) (subst (λ r. IsLegal r (log_of new)) follows.same follows.good.state.legal) in
     record {
       counts = f.counts ++ e.count ∷ [];
-      all = length_one f.counts e.count ∙ ap (λ n. n + 1) f.all;
+      all = length_push f.counts e.count ∙ ap (λ n. n + 1) f.all;
       follows = follows;
       done = λ s above le. elim (last_or s at le) [
         | inl low ↦
@@ -246,14 +238,6 @@ more_end old mid new at good f e =
     last_or zero n le = inl (omega arith)
     last_or (suc m) zero le = inr (omega (arith, le))
     last_or (suc m) (suc n) le = elim (last_or m n (omega (arith, le))) [ inl a ↦ inl (omega (arith, a)) | inr e ↦ inr (omega (arith, e)) ]
-
-pub all_end : (old new : State) (n : ℕ) → n ≡ length old.sessions.items → EndsFirst n old new → EndsSessions old new
-all_end old new n all f = record {
-  counts = f.counts;
-  all = f.all ∙ all;
-  follows = f.follows;
-  done = λ s above le. done_none (run_is old) s (log_of new) (f.done s above (subst (λ m. s ≤ m) (sym all) le));
-}
 
 -- turns of a session whose script is done
 rests : (run : Setting) (n s : ℕ) (entries : List Entry) → next_of run s (items_of entries) ≡ None → Run run entries (replicate n s) entries

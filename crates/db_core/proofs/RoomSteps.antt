@@ -1,6 +1,6 @@
 -- A step leaves a session room for what it still has to do, and brings it nearer to its end.
 use Rattle.std.proofs.Common.{◌≡◌, ℕ, ◌+◌, ◌<◌, ◌≤◌, Bool, true, false, List, [], ◌∷◌, ◌++◌, length, reverse, Option, refl, sym, ap, ◌∙◌, arith}
-use Rattle.std.proofs.lemmas.List.{length-reverse}
+use Rattle.std.proofs.lemmas.List.{length-reverse, length_push}
 use Rattle.spec_file.specs.Image.{Image}
 use Rattle.spec_log.specs.declared.item.Record.{Record}
 use Rattle.spec_plan.specs.declared.plan.Planned.{Planned}
@@ -12,17 +12,13 @@ use Rattle.db_core.specs.Rooms.{pending_of, started_of, owed_by, HasOwnRoom, tur
 use Rattle.db_core.specs.States.{IsChanging, GoesOnWith, Keeps, KeepsRoom, StepsBack, StepsBy}
 use Rattle.db_core.specs.Store.{is_snap}
 
-pub length-more : {A : Type 0} (xs : List A) (y : A) → length (xs ++ y ∷ []) ≡ length xs + 1
-length-more [] y = refl
-length-more (x ∷ xs) y = let e = length-more xs y in omega (arith, e)
-
 -- what a session that makes changes still has to do
 pub changing_counts : (x : Session) (c : Planned) (cs : List Planned) (own : Bool) (rows : Option ℕ) (d : Doing) → IsChanging (c ∷ cs) own rows d →
-    (pending_of d ≡ length cs + 1) × (started_of d ≡ 1) × (turns_left x d ≡ length cs + 2)
+    (pending_of d ≡ length cs + 1) × (started_of d ≡ 1) × ((items : List Record) → turns_left items x d ≡ length cs + 2)
 changing_counts x c cs own rows Idle is = absurd is
 changing_counts x c cs own rows (Changing next later o r) is =
     let e : length cs ≡ length later.items = (let f : cs ≡ reverse later.items = cc in ap length f ∙ length-reverse later.items) in
-    (omega (arith, e), refl, omega (arith, e))
+    (omega (arith, e), refl, λ items. omega (arith, e))
 changing_counts x c cs own rows (Ending r) is = absurd is
 changing_counts x c cs own rows Undoing is = absurd is
 changing_counts x c cs own rows (Checking check) is = absurd is
@@ -31,7 +27,7 @@ changing_counts x c cs own rows (Checking check) is = absurd is
 pub record Lighter (old new : Session) : Type 0 where
   pub own : HasOwnRoom new
   pub less : owed_by new + 1 ≤ owed_by old
-  pub nearer : turns_left new new.doing < turns_left old old.doing
+  pub nearer : (before after : List Record) → turns_left after new new.doing < turns_left before old old.doing
 
 -- behind a change
 pub change_lighter : (old new : Session) (c : Planned) (later : _) (own : Bool) (rows : Option ℕ) (n : ℕ) → old.doing ≡ Changing c later own rows → HasOwnRoom old → KeepsRoom old new → Keeps old new →
@@ -40,13 +36,11 @@ change_lighter old new c later true rows n doing room kept_room kept left [] non
     let script = ap length kept.script in
     let used = kept.used in
     let replies = ap length goes.1 in
-    let lefts : length new.left.items ≡ length old.left.items + 1 = ap length left ∙ length-more old.left.items n in
+    let lefts : length new.left.items ≡ length old.left.items + 1 = ap length left ∙ length_push old.left.items n in
     let pending = ap pending_of goes.0 in
     let started = ap started_of goes.0 in
-    let turns = ap (turns_left new) goes.0 in
     let pending_old = ap pending_of doing in
     let started_old = ap started_of doing in
-    let turns_old = ap (turns_left old) doing in
     let a = room.short in let b = room.replies in let d = room.busy in let e = room.left in let f = room.announced in let g = room.used in
     let h = kept_room.replies in let i = kept_room.left in
     record {
@@ -59,19 +53,17 @@ change_lighter old new c later true rows n doing room kept_room kept left [] non
         used = omega (arith, used, g);
       };
       less = omega (arith, script, replies, started, started_old, d, lefts, pending, pending_old);
-      nearer = omega (arith, turns, turns_old);
+      nearer = λ before after. (let turns = ap (turns_left after new) goes.0 in let turns_old = ap (turns_left before old) doing in omega (arith, turns, turns_old));
     }
 change_lighter old new c later false rows n doing room kept_room kept left [] none goes =
     let script = ap length kept.script in
     let used = kept.used in
-    let replies = ap length goes.1 ∙ length-more old.replies.items _ in
-    let lefts : length new.left.items ≡ length old.left.items + 1 = ap length left ∙ length-more old.left.items n in
+    let replies = ap length goes.1 ∙ length_push old.replies.items _ in
+    let lefts : length new.left.items ≡ length old.left.items + 1 = ap length left ∙ length_push old.left.items n in
     let pending = ap pending_of goes.0 in
     let started = ap started_of goes.0 in
-    let turns = ap (turns_left new) goes.0 in
     let pending_old = ap pending_of doing in
     let started_old = ap started_of doing in
-    let turns_old = ap (turns_left old) doing in
     let a = room.short in let b = room.replies in let d = room.busy in let e = room.left in let f = room.announced in let g = room.used in
     let h = kept_room.replies in let i = kept_room.left in
     record {
@@ -84,7 +76,7 @@ change_lighter old new c later false rows n doing room kept_room kept left [] no
         used = omega (arith, used, g);
       };
       less = omega (arith, script, replies, started, started_old, d, lefts, pending, pending_old);
-      nearer = omega (arith, turns, turns_old);
+      nearer = λ before after. (let turns = ap (turns_left after new) goes.0 in let turns_old = ap (turns_left before old) doing in omega (arith, turns, turns_old));
     }
 change_lighter old new c later own rows n doing room kept_room kept left (x ∷ xs) some goes =
     let counts = changing_counts new x xs own rows new.doing goes.0 in
@@ -92,13 +84,11 @@ change_lighter old new c later own rows n doing room kept_room kept left (x ∷ 
     let script = ap length kept.script in
     let used = kept.used in
     let replies = ap length goes.1 in
-    let lefts : length new.left.items ≡ length old.left.items + 1 = ap length left ∙ length-more old.left.items n in
+    let lefts : length new.left.items ≡ length old.left.items + 1 = ap length left ∙ length_push old.left.items n in
     let pending = counts.0 in
     let started = counts.1 in
-    let turns = counts.2 in
     let pending_old = ap pending_of doing in
     let started_old = ap started_of doing in
-    let turns_old = ap (turns_left old) doing in
     let a = room.short in let b = room.replies in let d = room.busy in let e = room.left in let f = room.announced in let g = room.used in
     let h = kept_room.replies in let i = kept_room.left in
     record {
@@ -111,19 +101,18 @@ change_lighter old new c later own rows n doing room kept_room kept left (x ∷ 
         used = omega (arith, used, g);
       };
       less = omega (arith, script, replies, started, started_old, d, lefts, pending, pending_old, size);
-      nearer = omega (arith, turns, turns_old, size);
+      nearer = λ before after. (let turns = counts.2 after in let turns_old = ap (turns_left before old) doing in omega (arith, turns, turns_old, size));
     }
 
 -- the statement ends, and with it the transaction
-pub end_lighter : (old new : Session) (reply : _) → started_of old.doing ≡ 1 → 0 < turns_left old old.doing → HasOwnRoom old → KeepsRoom old new → new.script.items ≡ old.script.items → new.left.items ≡ [] →
+pub end_lighter : (old new : Session) (reply : _) → started_of old.doing ≡ 1 → ((items : List Record) → 0 < turns_left items old old.doing) → HasOwnRoom old → KeepsRoom old new → new.script.items ≡ old.script.items → new.left.items ≡ [] →
     new.used ≤ 8192 → new.doing ≡ Idle → new.replies.items ≡ old.replies.items ++ reply ∷ [] → Lighter old new
 end_lighter old new reply started_old turns_old room kept_room script_is left used doing replies_are =
     let script = ap length script_is in
-    let replies = ap length replies_are ∙ length-more old.replies.items reply in
+    let replies = ap length replies_are ∙ length_push old.replies.items reply in
     let lefts = ap length left in
     let pending = ap pending_of doing in
     let started = ap started_of doing in
-    let turns = ap (turns_left new) doing in
     let a = room.short in let b = room.replies in let d = room.busy in
     let h = kept_room.replies in
     record {
@@ -136,7 +125,7 @@ end_lighter old new reply started_old turns_old room kept_room script_is left us
         used = used;
       };
       less = omega (arith, script, replies, started, started_old, d, lefts, pending);
-      nearer = omega (arith, turns, turns_old);
+      nearer = λ before after. (let turns = ap (turns_left after new) doing in let some = turns_old before in omega (arith, turns, some));
     }
 
 -- the next change is undone
@@ -150,10 +139,8 @@ undo_lighter old new n rest doing_old room kept_room kept left_old left_new doin
     let size_new : length new.left.items ≡ length rest = sym (length-reverse new.left.items) ∙ ap length left_new in
     let pending = ap pending_of doing in
     let started = ap started_of doing in
-    let turns = ap (turns_left new) doing in
     let pending_old = ap pending_of doing_old in
     let started_old = ap started_of doing_old in
-    let turns_old = ap (turns_left old) doing_old in
     let a = room.short in let b = room.replies in let d = room.busy in let e = room.left in let f = room.announced in let g = room.used in
     let h = kept_room.replies in let i = kept_room.left in
     record {
@@ -166,7 +153,7 @@ undo_lighter old new n rest doing_old room kept_room kept left_old left_new doin
         used = omega (arith, used, g);
       };
       less = omega (arith, script, replies, started, started_old, d, size_old, size_new, pending, pending_old);
-      nearer = omega (arith, size_old, size_new, turns, turns_old);
+      nearer = λ before after. (let turns = ap (turns_left after new) doing in let turns_old = ap (turns_left before old) doing_old in omega (arith, size_old, size_new, turns, turns_old));
     }
 
 pub change_silent : (t : ℕ) (c : Planned) → is_snap (change_item t c) ≡ false
@@ -179,14 +166,12 @@ step_lighter number items old new pages after x Idle doing room kept_room st = a
 step_lighter number items old new pages after x (Changing c later own rows) doing room kept_room st =
     (change_lighter old new c later own rows number doing room kept_room st.2 st.3 (reverse later.items) refl st.4, ap is_snap st.0 ∙ change_silent old.tran c)
 step_lighter number items old new pages after x (Ending rows) doing room kept_room st =
-    let turns = ap (turns_left old) doing in
     let used = room.used in
-    (end_lighter old new _ (ap started_of doing) (omega (arith, turns)) room kept_room st.2 st.6 st.7 st.4 st.5, ap is_snap st.0)
+    (end_lighter old new _ (ap started_of doing) (λ before. (let turns = ap (turns_left before old) doing in omega (arith, turns))) room kept_room st.2 st.6 st.7 st.4 st.5, ap is_snap st.0)
 step_lighter number items old new pages after x Undoing doing room kept_room st = by_left (reverse old.left.items) refl st
   where
     by_left : (ns : List ℕ) → reverse old.left.items ≡ ns → StepsBack ns items old new pages after x → Lighter old new × (is_snap x ≡ false)
     by_left [] none back =
-        let turns = ap (turns_left old) doing in
-        (end_lighter old new _ (ap started_of doing) (omega (arith, turns)) room kept_room back.1 back.6 back.7 back.3 back.4, ap is_snap back.0)
+        (end_lighter old new _ (ap started_of doing) (λ before. (let turns = ap (turns_left before old) doing in omega (arith, turns))) room kept_room back.1 back.6 back.7 back.3 back.4, ap is_snap back.0)
     by_left (n ∷ rest) some back = (undo_lighter old new n rest doing room kept_room back.1 some back.2 back.3 back.4, ap is_snap back.0)
 step_lighter number items old new pages after x (Checking check) doing room kept_room st = absurd st

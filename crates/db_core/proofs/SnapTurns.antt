@@ -1,23 +1,22 @@
 -- The turns in which a check begins keep the core's state good.
-use Rattle.std.proofs.Common.{◌≡◌, ℕ, suc, ◌+◌, ◌-◌, ◌*◌, ◌<◌, ◌≤◌, max, Bool, true, false, List, [], ◌∷◌, ◌++◌, length, reverse, Some, None, ◌⊎◌, inl, inr, refl, sym, ap, ◌∙◌, subst, arith, vec_len, vec_capacity}
-use Rattle.std.specs.Prelude.{slice_get, slice_set, sum_by, Result, Ok, IfOk}
+use Rattle.std.proofs.Common.{◌≡◌, ℕ, ◌+◌, ◌-◌, ◌<◌, ◌≤◌, max, List, [], ◌∷◌, ◌++◌, length, reverse, Some, None, ◌⊎◌, inl, inr, refl, sym, ap, ◌∙◌, subst, arith, vec_len, vec_capacity}
+use Rattle.std.specs.Prelude.{slice_get, slice_set, sum_by}
 use Rattle.std.proofs.Math.ListN.{length-set}
 use Rattle.std.proofs.lemmas.Option.{slice_get_within}
-use Rattle.spec_file.specs.Image.{Image}
 use Rattle.spec_file.specs.declared.geometry.Geometry.TheVariants.{Small}
-use Rattle.ck_facts.specs.Maps.{HasShape}
+use Rattle.spec_file.specs.Places.{HasShape}
 use Rattle.spec_log.specs.declared.item.Record.{Record}
 use Rattle.spec_log.specs.declared.item.Record.TheVariants.{Snap, CheckEnd}
 use Rattle.spec_log.specs.Items.{tran_of}
 use Rattle.spec_log.specs.Images.{committed_image}
-use Rattle.std.proofs.lemmas.List.{reverse-append}
+use Rattle.std.proofs.lemmas.List.{append_assoc, reverse-append, length_push}
 use Rattle.spec_script.specs.declared.statement.Statement.{Statement}
 use Rattle.spec_script.specs.declared.statement.Statement.TheVariants as statement
 use Rattle.spec_plan.specs.Refusals.{out_of_memory}
 use Rattle.spec_script.specs.declared.reply.Reply.TheVariants.{Refused}
 use Rattle.spec_run.specs.Begun.{Setting, Reports, by_damage}
-use Rattle.spec_run.specs.Progress.{Progress, progress_of, work_of, first_of, moved_to, MayCome}
-use Rattle.spec_run.specs.Turns.{IsLegal, AreTold, Goes, EndsAtOnce as AtOnce}
+use Rattle.spec_run.specs.Progress.{Progress, progress_of, work_of, moved_to, MayCome}
+use Rattle.spec_run.specs.Turns.{IsLegal, AreTold, EndsAtOnce as AtOnce}
 use Rattle.law_run.specs.Laws.{IsStart}
 use Rattle.law_run.specs.Legal.{with_begun, legal_right}
 use Rattle.law_run.specs.Moved.{moved_whole}
@@ -26,24 +25,21 @@ use Rattle.db_core.specs.declared.session.Doing.TheVariants.{Idle, Checking}
 use Rattle.db_core.specs.declared.session.Session.{Session}
 use Rattle.db_core.specs.declared.starts.Place.{Place}
 use Rattle.db_core.specs.declared.state.State.{State}
-use Rattle.db_core.specs.Back.{MayGoBack, GoesBack, steps_left}
-use Rattle.db_core.specs.Checks.{BacksIn, Begins, Checked, EndsAtOnce, EndsBy, IsFresh, Snapped}
-use Rattle.db_core.specs.Rooms.{pending_of, started_of, owed_by, HasOwnRoom, turns_left}
-use Rattle.db_core.specs.States.{whole_log, entries_of, Keeps, KeepsRoom, IsAt, IsOpen, IsSession, IsSnapshot, IsState}
-use Rattle.db_core.specs.Store.{run_is, log_of, AreProper, is_snap, told_count, IsGood, IsSettled, Went}
+use Rattle.db_core.specs.Bounds.{most_turns}
+use Rattle.db_core.specs.Checks.{Begins, Checked, EndsAtOnce, IsFresh, Snapped}
+use Rattle.db_core.specs.Rooms.{pending_of, started_of, owed_by, HasOwnRoom, turns_left, left_of_statement}
+use Rattle.db_core.specs.States.{whole_log, entries_of, IsAt, IsOpen, IsSession, IsSnapshot, IsState}
+use Rattle.db_core.specs.Store.{run_is, log_of, AreProper, is_snap, told_count, IsGood, IsSettled}
 use Rattle.db_core.proofs.Keeps.{get_set, steps_of, own_progress, other_session}
-use Rattle.db_core.proofs.Moves.{goes_on, ends_short, IsToldSo, told_so, work_told, work_tran}
+use Rattle.db_core.proofs.Moves.{goes_on, ends_short, IsToldSo, work_told, work_tran}
 use Rattle.db_core.proofs.Next.{busy, opens_after, told_count as replies_told}
-use Rattle.db_core.proofs.Told.{told_step, idle_told, turn_belongs}
 use Rattle.db_core.proofs.Opens.{open_snap, open_end}
 use Rattle.db_core.proofs.Records.{IsBegun, begun_work, begun_comes}
-use Rattle.db_core.proofs.CheckSteps.{checking_due, check_comes, check_ends, end_opens, fresh_snapshot}
-use Rattle.db_core.proofs.Backwards.{back_session, back_falls}
-use Rattle.db_core.proofs.BackFits.{back_fits}
+use Rattle.db_core.proofs.CheckSteps.{fresh_snapshot}
 use Rattle.db_core.proofs.BeginWord.{ends_room}
-use Rattle.db_core.proofs.Good.{get_below, get_put, get_same, part_of_sum, sum_more, sum_set, run_same, items_entries, IsMid, IsStep, log_more, stepped_good, stepped_turn}
-use Rattle.db_core.proofs.GoOn.{items_are, count_is, room_behind}
-use Rattle.db_core.proofs.RoomSteps.{length-more}
+use Rattle.db_core.proofs.Good.{count_is, get_below, get_put, get_same, part_of_sum, owed_low, sum_low, sum_set, run_same, items_entries, IsMid, IsStep, log_more, stepped_good, stepped_turn}
+use Rattle.db_core.proofs.GoOn.{room_behind}
+use Rattle.db_core.proofs.Left.{leaves_others}
 use Rattle.db_core.proofs.Stepped.{state_pages}
 use Rattle.db_core.proofs.Views.{ongoing_is}
 
@@ -216,7 +212,7 @@ short_good st one mid two k before workers place x y snap last good here idle ne
     let room_y = ends_room x y _ idle more room_x e.room e.kept.script (let l = ap length e.left in omega (arith, l)) (let l = ap length e.left in let u = e.kept.used in let f = room_x.announced in omega (arith, l, u, f))
     (let u = e.kept.used in let f = room_x.used in omega (arith, u, f)) e.replies e.doing in
     let less : owed_by y + 2 ≤ owed_by x =
-    (let script = ap length e.kept.script in let replies = ap length e.replies ∙ length-more x.replies.items _ in let left = ap length e.left in let pending = ap pending_of e.doing in
+    (let script = ap length e.kept.script in let replies = ap length e.replies ∙ length_push x.replies.items _ in let left = ap length e.left in let pending = ap pending_of e.doing in
     let started = ap started_of e.doing in let pending_old = ap pending_of idle in let started_old = ap started_of idle in omega (arith, script, replies, left, pending, started, pending_old, started_old, more)) in
     let room_old = good.room in
     let state : IsState run (CheckEnd s i 3 ∷ (Snap s i ∷ log)) two.frames two.sessions.items two.last two.all two.size = record {
@@ -243,18 +239,19 @@ short_good st one mid two k before workers place x y snap last good here idle ne
           | inr p ↦ good.each_room j z p.1
         ];
         few = subst (λ n. n ≤ 16) (sym (ap length sessions_are ∙ length-set st.sessions.items k y)) good.few;
-        low = (let a = good.low in let b = ap length items_are_now ∙ length-more (st.items.items ++ snap ∷ []) last in let c = length-more st.items.items snap in omega (arith, a, b, c, last_same));
+        low = (let a = good.low in let b = ap length items_are_now ∙ length_push (st.items.items ++ snap ∷ []) last in let c = length_push st.items.items snap in omega (arith, a, b, c, last_same));
         shape = subst (λ b. HasShape Small (length b.value)) (sym (set_two.base ∙ is_mid.base ∙ set_one.base)) good.shape;
         proper = subst AreProper (sym run_new) good.proper;
         all_low = subst (λ n. n ≤ 524288) (sym all_two) good.all_low;
         size_low = subst (λ n. n ≤ 268435456) (sym size_two) good.size_low;
       };
       turn = (run_new, AtOnce i (subst (λ l. MayCome (work_of run s l) (Snap s i)) (sym (items_entries log)) may_snap) (ap entries_of log_new));
+      others = leaves_others st two k y (snap ∷ (last ∷ [])) good (items_are_now ∙ append_assoc st.items.items (snap ∷ []) (last ∷ [])) sessions_are;
       silent = λ index eq. longer (CheckEnd s i 3) (Snap s i) (Snap s index) log (sym log_new ∙ eq);
       idle = λ z at is_idle. ap (told_count run s) log_new
-          ∙ (let a = replies_told run (CheckEnd s i 3 ∷ (Snap s i ∷ log)) s y short.0 in let b = replies_told run log s x h.mine in let c = ap length e.replies ∙ length-more x.replies.items _ in omega (arith, a, b, c));
+          ∙ (let a = replies_told run (CheckEnd s i 3 ∷ (Snap s i ∷ log)) s y short.0 in let b = replies_told run log s x h.mine in let c = ap length e.replies ∙ length_push x.replies.items _ in omega (arith, a, b, c));
       told = subst (λ l. (told_count run s log ≤ told_count run s l) × (told_count run s l ≤ told_count run s log + 1)) (sym log_new)
-          (let a = replies_told run (CheckEnd s i 3 ∷ (Snap s i ∷ log)) s y short.0 in let b = replies_told run log s x h.mine in let c = ap length e.replies ∙ length-more x.replies.items _ in (omega (arith, a, b, c), omega (arith, a, b, c)));
+          (let a = replies_told run (CheckEnd s i 3 ∷ (Snap s i ∷ log)) s y short.0 in let b = replies_told run log s x h.mine in let c = ap length e.replies ∙ length_push x.replies.items _ in (omega (arith, a, b, c), omega (arith, a, b, c)));
     }
   where
     longer : (a b c : Record) (l : List Record) → a ∷ (b ∷ l) ≡ c ∷ l → ⊥
@@ -263,22 +260,26 @@ short_good st one mid two k before workers place x y snap last good here idle ne
 -- the turn of a Snap
 pub snapped : (old mid new : State) (k before i : ℕ) (x y : Session) (item : Record) → IsGood old → slice_get old.sessions.items k ≡ Some x → IsMid k y old.frames old mid →
     mid.items ≡ old.items → mid.all ≡ old.all → mid.size ≡ old.size →
-    IsStep (run_is old) (log_of old) (k + 1) y old.frames old.frames item old.all old.size → HasOwnRoom y → owed_by y + 1 ≤ owed_by x → item ≡ Snap (k + 1) i → y.replies.items ≡ x.replies.items → (y.doing ≡ Idle → ⊥) → before ≡ owed_by x →
-    IsSettled k before item y mid new → Snapped k old new
-snapped old mid new k before i x y item good here is_mid same_items same_all same_size step own less snap replies busy owed set = record {
-  busy = λ z at e. busy (let same = get_same new.sessions.items k z y at (ap (λ ss. slice_get ss k) (set.sessions ∙ is_mid.sessions) ∙ get_put old.sessions.items k y (get_below old.sessions.items k x here)) in ap (λ (q : Session). q.doing) (sym same) ∙ e);
-  good = stepped_good old mid new k x y old.frames item good here is_mid
-      (subst (λ n. IsStep (run_is old) (log_of old) (k + 1) y old.frames old.frames item n mid.size) (sym same_all)
-      (subst (IsStep (run_is old) (log_of old) (k + 1) y old.frames old.frames item old.all) (sym same_size) step))
-      (subst (λ n. n ≤ 524288) (sym same_all) good.all_low) (subst (λ n. n ≤ 268435456) (sym same_size) good.size_low)
-      (subst (λ n. IsSettled k n item y mid new) owed set) own
-      (subst (λ v. vec_len old.items + 1 + (old.owed - owed_by x + owed_by y) ≤ vec_capacity v) (sym same_items) (room_behind old k x y good here less));
-  turn = stepped_turn old mid new k x y old.frames item is_mid step.comes (subst (λ n. IsSettled k n item y mid new) owed set);
-  index = i;
-  snap = log_more old new item (set.items ∙ ap (λ is. is ++ item ∷ []) is_mid.items) ∙ ap (λ m. m ∷ log_of old) snap;
-  told = ap (told_count (run_is old) (k + 1)) (log_more old new item (set.items ∙ ap (λ is. is ++ item ∷ []) is_mid.items))
-      ∙ replies_told (run_is old) (item ∷ log_of old) (k + 1) y step.mine ∙ ap length replies ∙ sym (replies_told (run_is old) (log_of old) (k + 1) x (good.state.each k x here));
-}
+    IsStep (run_is old) (log_of old) (k + 1) y old.frames old.frames item old.all old.size → HasOwnRoom y → owed_by y + 1 ≤ owed_by x → item ≡ Snap (k + 1) i → y.replies.items ≡ x.replies.items → (y.doing ≡ Idle → ⊥) →
+    turns_left (old.items.items ++ item ∷ []) y y.doing ≤ most_turns (run_is old) (log_of old) → before ≡ owed_by x → IsSettled k before item y mid new → Snapped k old new
+snapped old mid new k before i x y item good here is_mid same_items same_all same_size step own less snap replies busy few owed set =
+    let there : slice_get new.sessions.items k ≡ Some y = ap (λ ss. slice_get ss k) (set.sessions ∙ is_mid.sessions) ∙ get_put old.sessions.items k y (get_below old.sessions.items k x here) in
+    let items : new.items.items ≡ old.items.items ++ item ∷ [] = set.items ∙ ap (λ is. is ++ item ∷ []) is_mid.items in record {
+      busy = λ z at e. busy (let same = get_same new.sessions.items k z y at there in ap (λ (q : Session). q.doing) (sym same) ∙ e);
+      few = subst (λ o. left_of_statement new.items.items o ≤ most_turns (run_is old) (log_of old)) (sym there) (subst (λ is. turns_left is y y.doing ≤ most_turns (run_is old) (log_of old)) (sym items) few);
+      others = leaves_others old new k y (item ∷ []) good items (set.sessions ∙ is_mid.sessions);
+      good = stepped_good old mid new k x y old.frames item good here is_mid
+          (subst (λ n. IsStep (run_is old) (log_of old) (k + 1) y old.frames old.frames item n mid.size) (sym same_all)
+          (subst (IsStep (run_is old) (log_of old) (k + 1) y old.frames old.frames item old.all) (sym same_size) step))
+          (subst (λ n. n ≤ 524288) (sym same_all) good.all_low) (subst (λ n. n ≤ 268435456) (sym same_size) good.size_low)
+          (subst (λ n. IsSettled k n item y mid new) owed set) own
+          (subst (λ v. vec_len old.items + 1 + (old.owed - owed_by x + owed_by y) ≤ vec_capacity v) (sym same_items) (room_behind old k x y good here less));
+      turn = stepped_turn old mid new k x y old.frames item is_mid step.comes (subst (λ n. IsSettled k n item y mid new) owed set);
+      index = i;
+      snap = log_more old new item (set.items ∙ ap (λ is. is ++ item ∷ []) is_mid.items) ∙ ap (λ m. m ∷ log_of old) snap;
+      told = ap (told_count (run_is old) (k + 1)) (log_more old new item (set.items ∙ ap (λ is. is ++ item ∷ []) is_mid.items))
+          ∙ replies_told (run_is old) (item ∷ log_of old) (k + 1) y step.mine ∙ ap length replies ∙ sym (replies_told (run_is old) (log_of old) (k + 1) x (good.state.each k x here));
+    }
 
 -- the state between the Snap of a check that finds no memory and its end
 pub record ShortStart (st one : State) (k before : ℕ) (x : Session) : Type 0 where
@@ -338,24 +339,6 @@ low_owed st good =
     let few = good.few in
     let owed = good.owed_is in
     omega (arith, sum, few, owed)
-  where
-    pending_low : (x : Session) → HasOwnRoom x → pending_of x.doing ≤ 8192
-    pending_low x room = let a = room.announced in let b = room.used in omega (arith, a, b)
-
-    owed_low : (x : Session) → HasOwnRoom x → owed_by x ≤ 1000000
-    owed_low x room =
-        let a = room.announced in
-        let b = room.used in
-        let c = room.short in
-        omega (arith, a, b, c)
-
-    sum_low : (xs : List Session) → ((k : ℕ) (x : Session) → slice_get xs k ≡ Some x → owed_by x ≤ 1000000) → sum_by owed_by xs ≤ 1000000 * length xs
-    sum_low [] all = omega arith
-    sum_low (x ∷ xs) all =
-        let here = all 0 x refl in
-        let rest = sum_low xs (λ k y e. all (suc k) y e) in
-        let more = sum_more owed_by x xs in
-        omega (arith, here, rest, more)
 
 -- a session that has begun a check is in the middle of it
 pub is_busy : (place : Place) (check : Check) (x y : Session) (item : Record) → Begins place check x y item → y.doing ≡ Idle → ⊥

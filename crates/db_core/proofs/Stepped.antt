@@ -1,7 +1,7 @@
 -- A step of a statement that is under way fits into the pages, and keeps the core's state.
-use Rattle.std.proofs.Common.{◌≡◌, ℕ, zero, suc, ◌+◌, ◌-◌, ◌<◌, ◌≤◌, max, Bool, true, false, eqb, ltb, leb, List, [], ◌∷◌, ◌++◌, length, map, reverse, Option, Some, None, inl, inr, refl, sym, ap, ◌∙◌, subst, arith}
-use Rattle.std.specs.Prelude.{if◌then◌else◌, slice_get, slice_set}
-use Rattle.std.proofs.lemmas.List.{reverse-append, length-reverse}
+use Rattle.std.proofs.Common.{◌≡◌, ℕ, zero, suc, ◌+◌, ◌-◌, ◌<◌, ◌≤◌, Bool, true, false, eqb, ltb, leb, List, [], ◌∷◌, ◌++◌, length, map, reverse, Option, Some, None, inl, inr, refl, sym, ap, ◌∙◌, subst, arith}
+use Rattle.std.specs.Prelude.{if◌then◌else◌, slice_get}
+use Rattle.std.proofs.lemmas.List.{reverse-append, length-reverse, reverse-reverse}
 use Rattle.std.proofs.lemmas.Bool.{eq-eqb, ne_eqb, eqb-true, cond_both, cases_Bool, and_parts, leb-true, ltb-true, ltb-false, both_ways}
 use Rattle.spec_file.specs.declared.geometry.Geometry.{Geometry}
 use Rattle.spec_file.specs.Image.{Image}
@@ -10,7 +10,7 @@ use Rattle.spec_log.specs.declared.item.Cell.{Cell}
 use Rattle.spec_log.specs.declared.item.Cell.TheVariants.{Bytes, Bit}
 use Rattle.spec_log.specs.declared.item.Record.{Record}
 use Rattle.spec_log.specs.declared.item.Record.TheVariants.{Start, Change, Undo, Commit, Abort, Snap, Failed, CheckEnd}
-use Rattle.spec_log.specs.Items.{tran_of, has_cell_form}
+use Rattle.spec_log.specs.Items.{has_cell_form}
 use Rattle.spec_log.specs.Log.{item_at, left_of}
 use Rattle.spec_log.specs.Limits.{all_changes, all_bytes}
 use Rattle.spec_log.specs.Cover.{IsCovered, byte_guard_by, bit_guard_by}
@@ -39,11 +39,7 @@ use Rattle.db_core.proofs.Next.{change_comes, ChangeKept, change_goes, change_en
 
 -- lists read from their ends
 pub reverse_back : {A : Type 0} (xs ys : List A) → reverse xs ≡ ys → xs ≡ reverse ys
-reverse_back xs ys e = sym (twice xs) ∙ ap reverse e
-  where
-    twice : {A : Type 0} (xs : List A) → reverse (reverse xs) ≡ xs
-    twice [] = refl
-    twice (x ∷ xs) = ap reverse (reverse-append (x ∷ []) xs) ∙ reverse-append (reverse xs) (x ∷ []) ∙ ap (λ ys. x ∷ ys) (twice xs)
+reverse_back xs ys e = sym (reverse-reverse xs) ∙ ap reverse e
 
 get_front : (xs : List Record) (y : Record) (i : ℕ) → i < length xs → slice_get (xs ++ y ∷ []) i ≡ slice_get xs i
 get_front [] y i lt = absurd (omega (arith, lt))
@@ -74,15 +70,15 @@ none_zero [] = refl
 none_zero (x ∷ older) = ap (λ b. if b then Some x else item_at older 0) (ne_eqb 0 (length older + 1) (λ e. omega (arith, e))) ∙ none_zero older
 
 -- a cell that is covered is one of the file
-cell_inside : (g : Geometry) (pages : ℕ) (log : List Record) (t : ℕ) (cell : Cell) (size : ℕ) → 0 < size → IsCovered g pages log t cell size → page_of_cell cell < pages
+pub cell_inside : (g : Geometry) (pages : ℕ) (log : List Record) (t : ℕ) (cell : Cell) (size : ℕ) → 0 < size → IsCovered g pages log t cell size → page_of_cell cell < pages
 cell_inside g pages log t (Bytes p off) size some c = (guarded_inside log t pages p.0 (byte_guard_by (role_of g p.0) g pages p.0 (off + 0)) (c.0 0 some)).0
 cell_inside g pages log t (Bit p n) size some c = (guarded_inside log t pages p.0 (bit_guard_by (role_of g p.0) g pages p.0 n) c).0
 
-cell_some : (cell : Cell) (before after : List ℕ) → has_cell_form cell before after ≡ true → 0 < length after
+pub cell_some : (cell : Cell) (before after : List ℕ) → has_cell_form cell before after ≡ true → 0 < length after
 cell_some (Bytes p off) before after h = ltb-true 0 (length after) (and_parts (ltb 0 (length after)) _ (and_parts _ (eqb (length before) (length after)) h).0).0
 cell_some (Bit p n) before after h = let e = eqb-true (length after) 1 (and_parts _ (eqb (length after) 1) (and_parts _ _ h).0).1 in omega (arith, e)
 
-cell_fits : (cell : Cell) (before after bytes : List ℕ) → has_cell_form cell before after ≡ true → length bytes ≡ length after → FitsCell cell bytes
+pub cell_fits : (cell : Cell) (before after bytes : List ℕ) → has_cell_form cell before after ≡ true → length bytes ≡ length after → FitsCell cell bytes
 cell_fits (Bytes p off) before after bytes h e =
     let a = leb-true (off + length after) 8192 (and_parts _ (leb (off + length after) 8192) (and_parts _ (eqb (length before) (length after)) h).0).1 in omega (arith, a, e)
 cell_fits (Bit p n) before after bytes h e =
@@ -265,11 +261,3 @@ stepped run log s number old new pages after x start legal hs mine count (Ending
 stepped run log s number old new pages after x start legal hs mine count Undoing doing may st =
     back_step run log s old new pages after x start legal hs doing mine (reverse old.left.items) refl may st
 stepped run log s number old new pages after x start legal hs mine count (Checking check) doing may st = absurd st
-
--- the whole state behind it
-pub stepped_state : (run : Setting) (log : List Record) (pages after : Image) (sessions : List Session) (last all size k : ℕ) (x : Record) (new : Session) → IsState run log pages sessions last all size →
-    k < length run.scripts → IsStepped run log (k + 1) new pages after x → IsState run (x ∷ log) after (slice_set sessions k new) (max (tran_of x) last) all size
-stepped_state run log pages after sessions last all size k x new state lt st =
-    subst (λ p. IsState run (x ∷ log) p (slice_set sessions k new) (max (tran_of x) last) all size) (sym st.pages_are)
-    (keeps run log pages sessions last all size k x new (max (tran_of x) last) all size state lt st.comes st.mine
-    (ap (max (tran_of x)) state.last_is) (state.all_is ∙ sym st.all_same) (state.size_is ∙ sym st.size_same))

@@ -10,7 +10,7 @@ use Rattle.law_run.specs.Fresh.{not_ended_above}
 use Rattle.law_undo.specs.Views.{sound_rules}
 use Rattle.spec_script.specs.declared.reply.Reply.TheVariants.{Done, Refused}
 use Rattle.spec_script.specs.declared.statement.Statement.{Statement}
-use Rattle.spec_plan.specs.Refusals.{plain_refusal}
+use Rattle.spec_script.specs.Refusals.{plain_refusal}
 use Rattle.spec_run.specs.Shapes.{plain_start, Opening, Refused as Refusing, Committing, RollingBack}
 use Rattle.spec_run.specs.Begun.{Setting, Begun, surely, begun}
 use Rattle.spec_run.specs.Progress.{Progress, progress_of}
@@ -26,9 +26,10 @@ use Rattle.db_core.specs.declared.starts.Word.TheVariants.{Begin, Commit, Rollba
 use Rattle.db_core.specs.States.{whole_log, IsAt, IsOpen, IsSession, Keeps}
 use Rattle.db_core.specs.Words.{statement_of, IsRefusal, IsOpening, IsGoing, StartsBy}
 use Rattle.db_core.proofs.Keeps.{steps_of}
+use Rattle.db_core.proofs.Next.{some_abort}
 use Rattle.db_core.proofs.Opens.{open_start, open_fresh}
 use Rattle.db_core.proofs.Records.{IsBegun, begun_comes, begun_ends, begun_goes}
-use Rattle.db_core.proofs.Stepped.{IsStepped}
+use Rattle.db_core.proofs.Stepped.{IsStepped, some_commit}
 
 -- a Start without changes of the session's open transaction
 pub kept_opens : (run : Setting) (log : List Record) (s number : ℕ) (place : Place) (old new : Session) → IsStart run → IsLegal run log → IsSession run log s old → Keeps old new → new.left.items ≡ old.left.items →
@@ -126,13 +127,6 @@ opening_step run log s last place old new st b pages x h ps pi last_is is_b r =
           started = or_left (eqb (greatest_of g + 1) (greatest_of g + 1)) (has_started g (greatest_of g + 1)) (eq-eqb (greatest_of g + 1) (greatest_of g + 1) refl);
           not_ended = ap not (not_ended_above g (greatest_of g + 1) above);
         })
-
-some_commit : (t : ℕ) → change_items t [] true ≡ [] → ⊥
-some_commit t e = cc
-
-some_abort : (t : ℕ) (ps : List (ℕ × Record)) → abort_items t ps ≡ [] → ⊥
-some_abort t [] e = cc
-some_abort t (p ∷ ps) e = cc
 
 choose_yes : (t : ℕ) (x y : Begun) → t ≡ 0 → (if eqb t 0 then x else y) ≡ x
 choose_yes t x y e = ap (λ c. if c then x else y) (eq-eqb t 0 e)

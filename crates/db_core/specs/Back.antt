@@ -1,5 +1,5 @@
 -- A check takes items back from its pages.
-use Rattle.std.specs.Prelude.{if◌then◌else◌, ◌≡◌, ℕ, ◌+◌, ◌<◌, ◌≤◌, Bool, true, List, length, reverse, take, slice_get, Option, Some, ◌⊎◌}
+use Rattle.std.specs.Prelude.{if◌then◌else◌, ◌≡◌, ℕ, ◌+◌, ◌<◌, ◌≤◌, Bool, true, List, length, reverse, take, slice_get, count_by, Option, Some, ◌⊎◌}
 use Rattle.spec_file.specs.Image.{Image}
 use Rattle.spec_log.specs.declared.item.Record.{Record}
 use Rattle.spec_log.specs.declared.item.Record.TheVariants.{Change, Undo}
@@ -61,6 +61,10 @@ pub record GoesBack (items : List Record) (old new : Check) : Type 0 where
 abbrev pub last_step : Bool → ℕ
 last_step undone = if undone then 0 else 1
 
+-- how many of the first items are of these transactions
+abbrev pub theirs_among : List ℕ → List Record → ℕ → ℕ
+theirs_among ongoing items place = count_by (λ x. is_among ongoing (tran_of x)) (take place items)
+
 -- how many steps a check takes at most until it knows that none is left
-abbrev pub steps_left : Check → ℕ
-steps_left check = check.place + last_step check.undone
+abbrev pub steps_left : List Record → Check → ℕ
+steps_left items check = theirs_among check.ongoing.items items check.place + last_step check.undone

@@ -17,7 +17,8 @@ use Rattle.db_core.specs.declared.starts.Place.{Place}
 use Rattle.db_core.specs.declared.state.State.{State}
 use Rattle.db_core.specs.Back.{GoesBack}
 use Rattle.db_core.specs.States.{Keeps, KeepsRoom}
-use Rattle.db_core.specs.Store.{run_is, log_of, told_count, IsGood, IsTurn}
+use Rattle.db_core.specs.Bounds.{most_turns}
+use Rattle.db_core.specs.Store.{run_is, log_of, left_at, told_count, IsGood, IsTurn, LeavesOthers}
 use Rattle.db_core.specs.Views.{open_trans}
 
 -- a check is under way
@@ -86,6 +87,7 @@ pub record Checked (at : ℕ) (old new : State) : Type 0 where
   pub told : (told_count (run_is old) (at + 1) (log_of old) ≤ told_count (run_is old) (at + 1) (log_of new))
       × (told_count (run_is old) (at + 1) (log_of new) ≤ told_count (run_is old) (at + 1) (log_of old) + 1)
   pub idle : (y : Session) → slice_get new.sessions.items at ≡ Some y → y.doing ≡ Idle → told_count (run_is old) (at + 1) (log_of new) ≡ told_count (run_is old) (at + 1) (log_of old) + 1
+  pub others : LeavesOthers at old new
 
 -- the turn that appends the Snap of a check that goes on
 pub record Snapped (at : ℕ) (old new : State) : Type 0 where
@@ -95,6 +97,8 @@ pub record Snapped (at : ℕ) (old new : State) : Type 0 where
   pub snap : log_of new ≡ Snap (at + 1) index ∷ log_of old
   pub told : told_count (run_is old) (at + 1) (log_of new) ≡ told_count (run_is old) (at + 1) (log_of old)
   pub busy : (y : Session) → slice_get new.sessions.items at ≡ Some y → y.doing ≡ Idle → ⊥
+  pub few : left_at new at ≤ most_turns (run_is old) (log_of old)
+  pub others : LeavesOthers at old new
 
 -- the answer is that the check goes on, or that it ended for want of memory
 abbrev pub SnapsOr : ℕ → State → State → Result Unit NoMemory → Type 0

@@ -1,4 +1,5 @@
 pub mod Back
+pub mod Bounds
 pub mod States
 pub mod Words
 pub mod Rooms

@@ -9,7 +9,7 @@ use Rattle.spec_script.specs.declared.reply.Reply.TheVariants.{Rows, Refused}
 use Rattle.spec_script.specs.declared.statement.Statement.{Statement}
 use Rattle.spec_plan.specs.declared.plan.Planned.{Planned}
 use Rattle.spec_plan.specs.Planned.{planned_size}
-use Rattle.spec_plan.specs.Refusals.{plain_refusal}
+use Rattle.spec_script.specs.Refusals.{plain_refusal}
 use Rattle.spec_plan.specs.Sight.{Outcome}
 use Rattle.law_plan.specs.Good.{HaveCells}
 use Rattle.spec_run.specs.Begun.{Begun, begun, by_outcome}

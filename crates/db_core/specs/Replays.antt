@@ -7,7 +7,6 @@ use Rattle.db_core.specs.declared.session.Doing.TheVariants.{Idle}
 use Rattle.db_core.specs.declared.session.Session.{Session}
 use Rattle.spec_run.specs.Turns.{Run}
 use Rattle.db_core.specs.declared.state.State.{State}
-use Rattle.db_core.specs.Rooms.{turns_left}
 use Rattle.db_core.specs.Runs.{turns_of, rest_from}
 use Rattle.db_core.specs.States.{entries_of}
 use Rattle.db_core.specs.Store.{run_is, log_of, IsGood, told_count}
@@ -57,11 +56,6 @@ pub record EndsSessions (old new : State) : Type 0 where
   pub all : length counts ≡ length old.sessions.items
   pub follows : Follows (rest_from 1 counts) old new
   pub done : (s : ℕ) → 0 < s → s ≤ length old.sessions.items → next_of (run_is old) s (log_of new) ≡ None
-
--- what is left of a session's statement, none where there is no session
-abbrev pub left_of_statement : Option Session → ℕ
-left_of_statement None = 0
-left_of_statement (Some x) = turns_left x x.doing
 
 -- how many of a session's statements aren't answered
 abbrev pub unanswered : Option Session → ℕ

@@ -2,7 +2,7 @@
 use Rattle.std.proofs.Common.{◌≡◌, ℕ, ◌+◌, Bool, true, false, ◌||◌, eqb, List, [], ◌∷◌, ◌++◌, length, reverse, Option, Some, None, refl, ap, ◌∙◌, subst, sym}
 use Rattle.std.specs.Prelude.{slice_get}
 use Rattle.std.specs.List.{list_any}
-use Rattle.std.proofs.lemmas.Bool.{cond_both}
+use Rattle.std.proofs.lemmas.Bool.{cond_both, or_from}
 use Rattle.std.proofs.lemmas.List.Folds.{list_any-append}
 use Rattle.std.proofs.lemmas.Grind.{reverse_onto}
 use Rattle.spec_file.specs.declared.geometry.Geometry.{Geometry}
@@ -41,9 +41,6 @@ IsSilent telling = tells_terminated telling ≡ false
 record IsSilentSo (p : Progress) : Type 0 where
   told : list_any tells_terminated p.told ≡ false
   telling : IsSilent p.telling
-
-neither : (a b : Bool) → a ≡ false → b ≡ false → (a || b) ≡ false
-neither a b first second = ap (λ c. c || b) first ∙ second
 
 or_swap : (a b : Bool) → (a || (b || false)) ≡ (b || a)
 or_swap true true = refl
@@ -96,7 +93,7 @@ moved_silent w x silent = cond_both (is_short x) (cut_short w x) (moved_to w x (
     (λ _. record { told = silent.told; telling = silent.telling }) (λ _. by_rest (rest_of w.due))
   where
     by_rest : (rest : List Record) → IsSilentSo (moved_to w x rest)
-    by_rest [] = record { told = neither (tells_terminated w.telling) (list_any tells_terminated w.told) silent.telling silent.told; telling = silent.telling }
+    by_rest [] = record { told = or_from (tells_terminated w.telling) (list_any tells_terminated w.told) silent.telling silent.told; telling = silent.telling }
     by_rest (y ∷ rest) = record { told = silent.told; telling = silent.telling }
 
 progress_silent : (run : Setting) (s : ℕ) (log : List Record) → run.opened ≡ [] → IsSilentSo (progress_of run s log)

@@ -1,5 +1,6 @@
 -- Room that the core keeps, so that what it has begun never wants memory.
-use Rattle.std.specs.Prelude.{ℕ, ◌+◌, ◌-◌, ◌*◌, ◌≤◌, Bool, true, false, length, vec_capacity}
+use Rattle.std.specs.Prelude.{ℕ, ◌+◌, ◌-◌, ◌*◌, ◌≤◌, Bool, true, false, List, length, vec_capacity, Option, Some, None}
+use Rattle.spec_log.specs.declared.item.Record.{Record}
 use Rattle.db_core.specs.declared.session.Doing.{Doing}
 use Rattle.db_core.specs.declared.session.Doing.TheVariants.{Idle, Changing, Ending, Undoing, Checking}
 use Rattle.db_core.specs.declared.session.Session.{Session}
@@ -42,10 +43,15 @@ pub record HasOwnRoom (x : Session) : Type 0 where
   pub announced : length x.left.items + pending_of x.doing ≤ x.used
   pub used : x.used ≤ 8192
 
--- how many turns a statement that is under way still takes at most
-abbrev pub turns_left : Session → Doing → ℕ
-turns_left x Idle = 0
-turns_left x (Changing next later own rows) = length later.items + 2
-turns_left x (Ending rows) = 1
-turns_left x Undoing = length x.left.items + 1
-turns_left x (Checking check) = steps_left check + 1
+-- how many turns a statement that is under way still takes at most, over these items
+abbrev pub turns_left : List Record → Session → Doing → ℕ
+turns_left items x Idle = 0
+turns_left items x (Changing next later own rows) = length later.items + 2
+turns_left items x (Ending rows) = 1
+turns_left items x Undoing = length x.left.items + 1
+turns_left items x (Checking check) = steps_left items check + 1
+
+-- how many its session's has left, none where there is no session
+abbrev pub left_of_statement : List Record → Option Session → ℕ
+left_of_statement items None = 0
+left_of_statement items (Some x) = turns_left items x x.doing

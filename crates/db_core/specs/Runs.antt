@@ -4,14 +4,8 @@ use Rattle.spec_file.specs.Image.{Image}
 use Rattle.spec_file.specs.declared.geometry.Geometry.TheVariants.{Small}
 use Rattle.spec_script.specs.declared.statement.Statement.{Statement}
 use Rattle.spec_run.specs.Begun.{Setting}
-use Rattle.spec_run.specs.Entries.{Entry}
-use Rattle.spec_run.specs.Turns.{Run}
 use Rattle.db_core.specs.declared.session.Doing.TheVariants.{Idle}
 use Rattle.db_core.specs.declared.session.Session.{Session}
-
--- so many turns of one session
-abbrev pub TurnsOf : Setting → ℕ → ℕ → List Entry → List Entry → Type 0
-TurnsOf run s n old new = Run run old (replicate n s) new
 
 -- the turns of a schedule: of each session so many
 abbrev pub turns_of : List (ℕ × ℕ) → List ℕ

@@ -1,5 +1,5 @@
 -- What the core keeps of each session, tied to the history.
-use Rattle.std.specs.Prelude.{◌≡◌, ℕ, ◌+◌, ◌-◌, ◌<◌, ◌≤◌, ◌==◌, Bool, true, false, List, [], ◌∷◌, ◌++◌, length, map, reverse, take, slice_get, vec_capacity, Option, Some, None, ◌⊎◌}
+use Rattle.std.specs.Prelude.{◌≡◌, ℕ, ◌+◌, ◌-◌, ◌<◌, ◌≤◌, ◌==◌, Bool, true, false, List, [], ◌∷◌, ◌++◌, length, map, reverse, take, slice_get, slice_index, vec_capacity, Option, Some, None, ◌⊎◌}
 use Rattle.std.specs.List.{list_any}
 use Rattle.spec_file.specs.declared.data.Resource.{Resource}
 use Rattle.spec_file.specs.declared.geometry.Geometry.TheVariants.{Small}
@@ -27,10 +27,16 @@ use Rattle.db_core.specs.declared.session.Doing.TheVariants.{Idle, Changing, End
 use Rattle.db_core.specs.declared.session.Check.{Check}
 use Rattle.db_core.specs.declared.session.Session.{Session}
 
--- what contracts see of the core: what the run began with, and its history, the newest entry first
+-- what contracts see of the core: what the run began with, its history, the newest entry first, and for each session
+-- how many turns its statement that is under way still takes at most
 pub record Db : Type 0 where
   pub run : Setting
   pub entries : List Entry
+  pub left : List ℕ
+
+-- how many these are for a session, counted from 1
+abbrev pub left_in : Db → ℕ → ℕ
+left_in db s = slice_index db.left (s - 1)
 
 -- the history as its entries
 abbrev pub entries_of : List Record → List Entry
@@ -163,23 +169,6 @@ StepsBy number items old new pages after x (Ending rows) =
 StepsBy number items old new pages after x Undoing = StepsBack (reverse old.left.items) items old new pages after x
 StepsBy number items old new pages after x (Checking check) = ⊥
 
--- an item of a statement that isn't a check
-abbrev pub is_step : Record → Bool
-is_step (CheckEnd session index outcome) = false
-is_step other = true
-
--- with these items due, a statement that isn't a check is under way
-abbrev pub owes_step : List Record → Bool
-owes_step [] = false
-owes_step (x ∷ due) = is_step x
-
-abbrev pub is_under_way : Doing → Bool
-is_under_way Idle = false
-is_under_way (Changing next later own rows) = true
-is_under_way (Ending rows) = true
-is_under_way Undoing = true
-is_under_way (Checking check) = false
-
 -- the sessions differ in their room alone
 pub record IsSame (old new : Session) : Type 0 where
   pub kept : Keeps old new
@@ -190,7 +179,3 @@ pub record IsSame (old new : Session) : Type 0 where
 -- what a run over these pages begins with, with sessions that have these scripts
 abbrev pub run_of : Image → List Session → Setting
 run_of image sessions = record { geometry = Small; opened = []; image = image; scripts = map (λ (x : Session). x.script.items) sessions }
-
--- sessions that have done nothing
-abbrev pub AreIdle : List Session → Type 0
-AreIdle sessions = (k : ℕ) (x : Session) → slice_get sessions k ≡ Some x → (x.replies.items ≡ []) × (x.tran ≡ 0) × (x.doing ≡ Idle)

@@ -1,5 +1,5 @@
 -- The core's state as a whole, and what a turn makes of it.
-use Rattle.std.specs.Prelude.{◌≡◌, ℕ, ◌+◌, ◌-◌, ◌<◌, ◌≤◌, max, Bool, true, false, List, [], ◌∷◌, ◌++◌, length, reverse, sum_by, slice_get, vec_len, vec_capacity, Some, None, ◌⊎◌}
+use Rattle.std.specs.Prelude.{◌≡◌, ℕ, ◌+◌, ◌-◌, ◌<◌, ◌≤◌, max, Bool, true, false, List, [], ◌∷◌, ◌++◌, length, map, reverse, sum_by, slice_get, vec_len, vec_capacity, Some, None, ◌⊎◌}
 use Rattle.spec_file.specs.declared.geometry.Geometry.TheVariants.{Small}
 use Rattle.spec_log.specs.declared.item.Record.{Record}
 use Rattle.spec_log.specs.declared.item.Record.TheVariants.{Snap}
@@ -9,13 +9,14 @@ use Rattle.spec_run.specs.Progress.{progress_of, next_of, script_of}
 use Rattle.spec_script.specs.declared.statement.Statement.{Statement}
 use Rattle.spec_script.specs.Lines.{is_statement}
 use Rattle.spec_run.specs.Turns.{Turn}
-use Rattle.ck_facts.specs.Maps.{HasShape}
+use Rattle.spec_file.specs.Places.{HasShape}
 use Rattle.db_core.specs.declared.session.Doing.TheVariants.{Idle}
 use Rattle.db_core.specs.declared.session.Session.{Session}
 use Rattle.db_core.specs.declared.state.State.{State}
 use Rattle.db_core.specs.declared.out.TurnOut.{TurnOut}
 use Rattle.db_core.specs.declared.out.TurnOut.TheVariants as out
-use Rattle.db_core.specs.Rooms.{owed_by, HasOwnRoom, turns_left}
+use Rattle.db_core.specs.Bounds.{most_turns}
+use Rattle.db_core.specs.Rooms.{owed_by, HasOwnRoom, turns_left, left_of_statement}
 use Rattle.db_core.specs.States.{Db, IsState, run_of, entries_of}
 
 -- what the run began with, and what it has appended, the newest first
@@ -25,9 +26,13 @@ run_is st = run_of st.base.value st.first.value.items
 abbrev pub log_of : State → List Record
 log_of st = reverse st.items.items
 
+-- how many turns the statement of session `at`, counted from 0, still takes at most
+abbrev pub left_at : State → ℕ → ℕ
+left_at st at = left_of_statement st.items.items (slice_get st.sessions.items at)
+
 -- what contracts see of the state
 abbrev pub db_of : State → Db
-db_of st = record { run = run_is st; entries = entries_of (log_of st) }
+db_of st = record { run = run_is st; entries = entries_of (log_of st); left = map (λ (x : Session). turns_left st.items.items x x.doing) st.sessions.items }
 
 -- each statement of a script is one of the language
 abbrev pub AreProper : Setting → Type 0
@@ -65,7 +70,8 @@ SaysOut run s old new out.Finished = (next_of run s old ≡ None) × (new ≡ ol
 SaysOut run s old new (out.Answered index) = (told_count run s new ≡ index) × (told_count run s old + 1 ≡ index)
 SaysOut run s old new out.Checking = (told_count run s new ≡ told_count run s old) × ((index : ℕ) × (new ≡ Snap s index ∷ old))
 SaysOut run s old new out.Moved =
-    (told_count run s new ≡ told_count run s old) × ((index : ℕ) → new ≡ Snap s index ∷ old → ⊥)
+    (told_count run s old < length (script_of run.scripts s)) × (told_count run s new ≡ told_count run s old)
+    × ((index : ℕ) → new ≡ Snap s index ∷ old → ⊥)
 
 -- an item was put behind the others, and the room that session `at` owes is counted again
 pub record IsSettled (at before : ℕ) (item : Record) (x : Session) (old new : State) : Type 0 where
@@ -81,6 +87,14 @@ pub record IsSettled (at before : ℕ) (item : Record) (x : Session) (old new : 
   pub size_is : new.size ≡ old.size
   pub owed : new.owed ≡ old.owed - before + owed_by x
 
+-- each other session has as many turns left as before
+abbrev pub LeavesOthers : ℕ → State → State → Type 0
+LeavesOthers at old new = (j : ℕ) → (j ≡ at → ⊥) → left_at new j ≡ left_at old j
+
+-- a check that begins has no more turns than its bound
+abbrev pub BeginsFew : ℕ → State → State → Type 0
+BeginsFew at old new = (index : ℕ) → log_of new ≡ Snap (at + 1) index ∷ log_of old → left_at new at ≤ most_turns (run_is old) (log_of old)
+
 -- a turn that appended one item, not the Snap of a check
 pub record Went (at : ℕ) (old new : State) : Type 0 where
   pub good : IsGood new
@@ -88,11 +102,12 @@ pub record Went (at : ℕ) (old new : State) : Type 0 where
   pub item : Record
   pub appended : log_of new ≡ item ∷ log_of old
   pub silent : is_snap item ≡ false
+  pub others : LeavesOthers at old new
 
 -- what session `at` has still to do became less
 abbrev pub IsNearer : ℕ → State → State → Type 0
 IsNearer at old new = (x y : Session) → slice_get old.sessions.items at ≡ Some x → slice_get new.sessions.items at ≡ Some y →
-    turns_left y y.doing < turns_left x x.doing
+    turns_left new.items.items y y.doing < turns_left old.items.items x x.doing
 
 -- a turn of session `at`: the state stays good, and what it answers is so
 pub record Advanced (at : ℕ) (old new : State) (answer : TurnOut) : Type 0 where
@@ -103,11 +118,13 @@ pub record Advanced (at : ℕ) (old new : State) (answer : TurnOut) : Type 0 whe
   pub rests : (x : Session) → slice_get old.sessions.items at ≡ Some x → answer ≡ out.Finished → (x.doing ≡ Idle) × (slice_get x.script.items (length x.replies.items) ≡ None)
   pub idle : (y : Session) → slice_get new.sessions.items at ≡ Some y → y.doing ≡ Idle →
       (answer ≡ out.Finished) ⊎ (told_count (run_is old) (at + 1) (log_of new) ≡ told_count (run_is old) (at + 1) (log_of old) + 1)
+  pub begins : BeginsFew at old new
+  pub others : LeavesOthers at old new
 
 -- a session that is in the middle of a statement comes nearer to its end
 abbrev pub GoesNearer : ℕ → State → State → Type 0
 GoesNearer at old new = (x y : Session) → slice_get old.sessions.items at ≡ Some x → slice_get new.sessions.items at ≡ Some y →
-    (x.doing ≡ Idle → ⊥) → turns_left y y.doing < turns_left x x.doing
+    (x.doing ≡ Idle → ⊥) → turns_left new.items.items y y.doing < turns_left old.items.items x x.doing
 
 -- a session with these many replies before the turn answers so behind it
 abbrev pub Answers : ℕ → Session → TurnOut → Type 0

@@ -18,13 +18,13 @@ use Rattle.law_undo.specs.Holders.{unfinished_parts}
 use Rattle.law_undo.specs.Views.{sound_rules}
 use Rattle.law_undo.specs.Shapes.{final_shape}
 use Rattle.law_run.specs.Doing.{Owns}
-use Rattle.law_run.specs.Fresh.{none_ended}
+use Rattle.law_undo.specs.Law.{zero_open}
 use Rattle.law_run.specs.Legal.{IsRight, legal_right, doing_opens}
 use Rattle.law_run.specs.Ongoing.{unfinished_is_open}
 use Rattle.law_pages.specs.Laws.{ListsHolders}
 use Rattle.law_pages.specs.Pages.{file_is_shown}
 use Rattle.law_pages.specs.Sessions.{holder_is_session, first_is_among}
-use Rattle.db_heap.specs.Sizes.{HasSize}
+use Rattle.spec_file.specs.Places.{HasShape}
 use Rattle.db_core.specs.declared.session.Session.{Session}
 use Rattle.db_core.specs.declared.state.State.{State}
 use Rattle.db_core.specs.States.{whole_log, IsSession}
@@ -64,7 +64,7 @@ ongoing_of st o good opens = by_session o opens
     none : IsOngoing (run_is st).opened (log_of st) 0
     none = (
       refl,
-      none_ended (run_is st).geometry (length (run_is st).image) (whole_log (run_is st) (log_of st))
+      zero_open (run_is st).geometry (length (run_is st).image) (whole_log (run_is st) (log_of st))
           (sound_rules (run_is st).geometry (length (run_is st).image) (run_is st).opened (run_is st).image (log_of st) (right_of st good).sound),
     )
 
@@ -87,11 +87,11 @@ good_shows st at good =
     (file_is_shown (run_is st) (log_of st) (tran_at st.sessions.items at) (right_of st good).sound good.state.start.whole good.state.start.many
     (tran_ongoing st at good))
 
-pub good_size : (st : State) → IsGood st → HasSize Small (length st.frames)
+pub good_size : (st : State) → IsGood st → HasShape Small (length st.frames)
 good_size st good =
     let count : length st.base.value ≡ length st.frames =
     sym (ap length good.state.pages_are ∙ (final_shape (run_is st).opened (log_of st) (run_is st).image).pages) in
-    subst (HasSize Small) count (record { low = good.shape.low; eights = good.shape.whole; limit = good.shape.high })
+    subst (HasShape Small) count good.shape
 
 -- what a session's transaction holds
 none_held : (x : Session) (r : Resource) → eqb x.tran 0 ≡ true → has_held x r ≡ false
@@ -162,11 +162,11 @@ shown_by st at good = record {
   header = λ p lt. ∥∥₁_elim good (Coded-set coded_bool _ _) (λ g. (good_shows st at g).header p lt);
 }
 
-pub size_by : (st : State) → ∥ IsGood st ∥₁ → HasSize Small (length st.frames)
+pub size_by : (st : State) → ∥ IsGood st ∥₁ → HasShape Small (length st.frames)
 size_by st good = record {
   low = ∥∥₁_elim good le_prop (λ g. (good_size st g).low);
-  eights = ∥∥₁_elim good (Coded-set coded_ℕ _ _) (λ g. (good_size st g).eights);
-  limit = ∥∥₁_elim good le_prop (λ g. (good_size st g).limit);
+  high = ∥∥₁_elim good le_prop (λ g. (good_size st g).high);
+  whole = ∥∥₁_elim good (Coded-set coded_ℕ _ _) (λ g. (good_size st g).whole);
 }
 
 pub holder_by : (st : State) (at : ℕ) (r : Resource) → ∥ IsGood st ∥₁ →

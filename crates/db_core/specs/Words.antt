@@ -5,7 +5,7 @@ use Rattle.spec_script.specs.declared.reply.Reply.{Reply}
 use Rattle.spec_script.specs.declared.reply.Reply.TheVariants.{Done, Refused}
 use Rattle.spec_script.specs.declared.statement.Statement.{Statement}
 use Rattle.spec_script.specs.declared.statement.Statement.TheVariants as statement
-use Rattle.spec_plan.specs.Refusals.{plain_refusal}
+use Rattle.spec_script.specs.Refusals.{plain_refusal}
 use Rattle.spec_run.specs.Shapes.{plain_start}
 use Rattle.db_core.specs.declared.session.Doing.{Doing}
 use Rattle.db_core.specs.declared.session.Doing.TheVariants.{Idle, Ending, Undoing}

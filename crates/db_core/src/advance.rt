@@ -1,5 +1,5 @@
 //! One turn of a session.
-ghost use Rattle.std.specs.Prelude.{◌≡◌, ◌+◌, ◌<◌, length, slice_get, Some};
+ghost use Rattle.std.specs.Prelude.{◌≡◌, ◌<◌, length, slice_get, Some};
 ghost use Rattle.db_core.specs.Plans.{IsPlanned};
 ghost use Rattle.db_core.specs.Rooms.{HasOwnRoom};
 ghost use Rattle.db_core.specs.Stages.{IsStage};

@@ -1,5 +1,5 @@
 //! A check takes items back from the pages that it holds.
-ghost use Rattle.std.specs.Prelude.{◌≡◌, ◌+◌, ◌-◌, ◌<◌, ◌≤◌, true, false, length, reverse, slice_get, Some};
+ghost use Rattle.std.specs.Prelude.{◌≡◌, ◌-◌, ◌<◌, ◌≤◌, true, false, length, reverse, slice_get, Some};
 ghost use Rattle.spec_file.specs.Image.{Image};
 ghost use Rattle.spec_log.specs.declared.item.Record.{Record};
 ghost use Rattle.spec_log.specs.Items.{tran_of};
@@ -9,8 +9,7 @@ ghost use Rattle.db_core.specs.States.{is_among};
 ghost use Rattle.db_core.specs.Back.{first_back, without, MayPutLeft, MayTakeBack, MayGoBack, GoesBack};
 
 use crate::session::Check;
-use crate::state::tran_of_item;
-use spec_log::Record;
+use spec_log::{Record, tran_of_item};
 use vol_pool::Frames;
 
 /// Whether an item is of one of these transactions.

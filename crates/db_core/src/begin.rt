@@ -1,6 +1,5 @@
 //! Sessions that have done nothing yet.
-ghost use Rattle.std.specs.Prelude.{◌≡◌, ◌+◌, ◌<◌, ◌≤◌, ◌^◌, [], length, map, slice_get, sum_by, Some, IfOk, OnOk, OnErr, ℕ, List, vec_len, vec_capacity};
-ghost use Rattle.spec_script.specs.declared.statement.Statement.{Statement as AnyStatement};
+ghost use Rattle.std.specs.Prelude.{◌≡◌, ◌+◌, ◌<◌, ◌≤◌, ◌^◌, map, slice_get, sum_by, Some, IfOk, ℕ, vec_len, vec_capacity};
 ghost use Rattle.db_core.specs.Rooms as rooms;
 ghost use Rattle.db_core.specs.declared.session.Session.{Session as AnySession};
 ghost use Rattle.db_core.specs.Runs.{AreNew, IsNew};

@@ -1,8 +1,8 @@
 //! The turns of a check.
-ghost use Rattle.std.specs.Prelude.{◌≡◌, ◌+◌, ◌<◌, ◌^◌, length, slice_get, Some, true, false, IfErr, IfOk, vec_len, vec_capacity};
+ghost use Rattle.std.specs.Prelude.{◌≡◌, ◌+◌, ◌<◌, length, slice_get, Some, true, false, IfErr, IfOk, vec_len, vec_capacity};
 ghost use Rattle.spec_file.specs.declared.geometry.Geometry.TheVariants.{Small};
 ghost use Rattle.spec_tables.specs.Written.{IsCheckOf};
-ghost use Rattle.ck_facts.specs.Maps.{HasShape};
+ghost use Rattle.spec_file.specs.Places.{HasShape};
 ghost use Rattle.db_core.specs.Back.{MayGoBack};
 ghost use Rattle.db_core.specs.Checks.{BacksIn, Begins, Checked, EndsAtOnce, EndsBy, IsChecking, IsFresh, Snapped, SnapsOr};
 ghost use Rattle.db_core.specs.Stages.{IsStage};
@@ -13,7 +13,7 @@ ghost use Rattle.pg_base.specs.declared.reader.ReadStop.TheVariants as stops;
 
 use crate::back::go_back;
 use crate::session::{Check, Doing, Session};
-use crate::starts::{Place, refusal};
+use crate::starts::Place;
 use crate::state::{State, owed_by, settle};
 use crate::steps::end;
 use crate::turns::place_of;
@@ -24,7 +24,7 @@ use pg_base::{Geometry, ReadStop};
 use spec_check::CheckReport;
 use spec_file::{Lsn, NoMemory};
 use spec_log::Record;
-use spec_script::Reply;
+use spec_script::{Refusal, Reply};
 use std::alloc::Global;
 use vol_pool::{Frames, FramesReader};
 
@@ -124,7 +124,7 @@ fn short_end(alloc: Global, session: &mut Session, place: Place) -> Record
     requires { vec_len session.old.replies < vec_capacity session.old.replies }
     ensures { EndsAtOnce place session.old session.new result }
 {
-    end(session, Reply::Refused(refusal(alloc, 701)));
+    end(session, Reply::Refused(Refusal::plain(alloc, 701)));
     Record::CheckEnd {
         session: place.session,
         index: place.index,

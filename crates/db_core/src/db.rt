@@ -9,10 +9,11 @@ ghost use Rattle.spec_script.specs.Lines.{is_statement};
 ghost use Rattle.spec_script.specs.declared.statement.Statement.{Statement as AnyStatement};
 ghost use Rattle.spec_run.specs.Entries.{items_of};
 ghost use Rattle.spec_run.specs.Turns.{AreTold, told_to, IsLegal, IsWhole, Run};
-ghost use Rattle.ck_facts.specs.Maps.{HasShape};
+ghost use Rattle.spec_file.specs.Places.{HasShape};
+ghost use Rattle.db_core.specs.Bounds.{HasBound};
 ghost use Rattle.db_core.specs.Reports.{is_terminated};
 ghost use Rattle.db_core.specs.Runs.{rest_from, setting_of, turns_of};
-ghost use Rattle.db_core.specs.States.{TurnIn};
+ghost use Rattle.db_core.specs.States.{TurnIn, left_in};
 ghost use Rattle.db_core.specs.Store.{SaysOut};
 ghost use Rattle.spec_log.specs.declared.item.Record.{Record as AnyRecord};
 
@@ -59,7 +60,7 @@ impl Core {
         requires few { length scripts.items ≤ 16 }
         requires short { (k : ℕ) (script : List AnyStatement) → slice_get (map (λ s. s.items) scripts.items) k ≡ Some script → length script ≤ 65536 }
         requires proper { (k n : ℕ) (script : List AnyStatement) (st : AnyStatement) → slice_get (map (λ s. s.items) scripts.items) k ≡ Some script → slice_get script n ≡ Some st → is_statement st ≡ true }
-        ensures { IfOk result (λ core. core ≡ record { run = setting_of frames (map (λ s. s.items) scripts.items); entries = [] }) }
+        ensures { IfOk result (λ core. (core.run ≡ setting_of frames (map (λ s. s.items) scripts.items)) × (core.entries ≡ []) × ((s : ℕ) → left_in core s ≡ 0)) }
     {
         let sessions = sessions_of(alloc, scripts)?;
         let mut items = Vec::new(alloc);
@@ -86,6 +87,7 @@ impl Core {
         requires within { session ≤ length self.old.run.scripts }
         ensures turn { TurnIn session self.old self.new }
         ensures says { SaysOut self.old.run session (items_of self.old.entries) (items_of self.new.entries) result }
+        ensures bound { HasBound session self.old self.new }
     {
         advance(&mut self.state, session as usize - 1)
     }

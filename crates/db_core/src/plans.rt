@@ -1,19 +1,16 @@
 //! INSERT and COUNT begin, as they were planned.
-ghost use Rattle.std.specs.Prelude.{◌≡◌, ◌≢◌, ◌+◌, ◌*◌, ◌<◌, ◌≤◌, ◌^◌, ◌==◌, [], ◌∷◌, ◌++◌, length, reverse, slice_get, Some, Ok, Err, IfOk, OnOk, true, false, vec_len, vec_capacity, ◌⊎◌};
+ghost use Rattle.std.specs.Prelude.{◌≡◌, ◌+◌, ◌*◌, ◌<◌, ◌≤◌, ◌^◌, ◌==◌, [], ◌++◌, length, reverse, slice_get, Some, Ok, Err, IfOk, true, false, vec_len, vec_capacity};
 ghost use Rattle.spec_plan.specs.Planned.{planned_size};
 ghost use Rattle.spec_script.specs.declared.reply.Reply.TheVariants as reply;
-ghost use Rattle.spec_plan.specs.Refusals.{plain_refusal};
-ghost use Rattle.spec_run.specs.Shapes.{plain_start as start_of};
 ghost use Rattle.law_plan.specs.Good.{HaveCells};
-ghost use Rattle.db_core.specs.Rooms.{HasOwnRoom};
 ghost use Rattle.db_core.specs.States.{KeepsRoom, IsSame};
-ghost use Rattle.db_core.specs.Store.{IsGood, Went, run_is, log_of};
+ghost use Rattle.db_core.specs.Store.{IsGood, LeavesOthers, Went, run_is, log_of};
 ghost use Rattle.db_core.specs.Plans as spec;
 ghost use Rattle.db_core.specs.Plans.{BeginsAs, BeginsBy, HasRoomFor, IsPlanned, IsProper, IsReady, IsRoomier, IsWriting, Writes};
 ghost use Rattle.db_core.specs.Words.{IsEnded};
 
 use crate::session::Session;
-use crate::starts::{Place, plain_start, refusal, refuse, refuse_by};
+use crate::starts::{Place, plain_start, refuse, refuse_by};
 use crate::state::{State, owed_by, settle};
 use crate::steps::{end, go_on};
 use crate::turns::place_of;
@@ -21,7 +18,7 @@ use db_heap::Plan;
 use spec_file::{NoMemory, Resource, Tran};
 use spec_log::{Record, Values};
 use spec_plan::Planned;
-use spec_script::Reply;
+use spec_script::{Refusal, Reply};
 use std::alloc::Global;
 
 /// The bytes that planned changes have in the log.
@@ -71,7 +68,7 @@ fn limited(alloc: Global, used: u64, all: u64, size: u64, plan: Plan) -> Plan
         Plan::Written { takes, changes } => {
             let bytes = size_of(&changes);
             if exceeds(used, all, size, changes.len() as u64, bytes) {
-                Plan::Refused(refusal(alloc, 9002))
+                Plan::Refused(Refusal::plain(alloc, 9002))
             } else {
                 Plan::Written { takes, changes }
             }
@@ -306,6 +303,7 @@ fn prepare(state: &mut State, at: usize, plan: Result<Plan, NoMemory>) -> Result
     ensures run { run_is state.new ≡ run_is state.old }
     ensures log { log_of state.new ≡ log_of state.old }
     ensures few { length state.new.sessions.items ≡ length state.old.sessions.items }
+    ensures others { LeavesOthers at state.old state.new }
     ensures ready { (y : Session) → slice_get state.new.sessions.items at ≡ Some y → IsReady state.new at y result }
 {
     let used = used_now(&state.sessions[at]);

@@ -1,5 +1,5 @@
 //! The turns of a whole run.
-ghost use Rattle.std.specs.Prelude.{◌≡◌, ◌+◌, ◌<◌, ◌≤◌, length, slice_get, Some, None, ℕ, true, false, MatchBool};
+ghost use Rattle.std.specs.Prelude.{◌≡◌, ◌<◌, ◌≤◌, length, slice_get, Some, ℕ, true, false, MatchBool};
 ghost use Rattle.db_core.specs.Replays.{EndsSession, EndsSessions, EndsStatement, IsDoneSession, MayGoOn, RunsTurns, RunsSchedule};
 ghost use Rattle.db_core.specs.Store.{IsGood};
 ghost use Rattle.db_core.specs.declared.out.TurnOut.TheVariants as outs;

@@ -1,7 +1,4 @@
 //! What the core keeps of each session.
-ghost use Rattle.std.specs.Prelude.{◌≡◌};
-ghost use Rattle.db_core.specs.States.{is_under_way};
-ghost use Rattle.db_core.specs.Rooms.{is_checking, owed_by};
 
 use spec_file::Resource;
 use spec_plan::Planned;

@@ -1,17 +1,16 @@
 //! The records of statements that need no plan: BEGIN, COMMIT, ROLLBACK, and a refusal.
-ghost use Rattle.std.specs.Prelude.{◌≡◌, ◌+◌, ◌^◌, ◌<◌, [], ◌∷◌, ◌++◌, vec_len, vec_capacity, length, false, None, Some, MatchOption, slice_get};
+ghost use Rattle.std.specs.Prelude.{◌≡◌, ◌+◌, ◌^◌, ◌<◌, [], ◌∷◌, ◌++◌, vec_len, vec_capacity, None};
 ghost use Rattle.spec_run.specs.Shapes.{plain_start as start_of};
 ghost use Rattle.spec_script.specs.declared.reply.Reply.TheVariants.{Done, Refused};
-ghost use Rattle.spec_plan.specs.Refusals.{plain_refusal};
 ghost use Rattle.db_core.specs.States.{Keeps, KeepsRoom};
 ghost use Rattle.db_core.specs.declared.session.Doing.TheVariants.{Idle, Ending, Undoing};
-ghost use Rattle.db_core.specs.Words.{StartsBy, IsEnded, IsRefusal, IsNextWord, statement_of};
+ghost use Rattle.db_core.specs.Words.{StartsBy, IsEnded, IsRefusal};
 
 use crate::session::{Doing, Session};
 use crate::steps::end;
-use spec_file::{PageNo, Tran};
+use spec_file::Tran;
 use spec_log::{Record, Values};
-use spec_script::{Name, Refusal, Reply, Statement};
+use spec_script::{Refusal, Reply, Statement};
 use std::alloc::Global;
 
 /// Which statement of which session, both from 1.
@@ -44,20 +43,6 @@ pub fn plain_start(alloc: Global, place: Place, tran: u64, number: u16) -> Recor
     }
 }
 
-/// A refusal that names nothing.
-pub fn refusal(alloc: Global, number: u16) -> Refusal
-    ensures { result ≡ plain_refusal number }
-{
-    Refusal {
-        number,
-        name: Name::empty(alloc),
-        key: 0,
-        page: PageNo(0),
-        resource: None,
-        by: Tran(0),
-    }
-}
-
 /// The statement is refused, with what refuses it, and its transaction stands as before.
 pub fn refuse_by(alloc: Global, session: &mut Session, place: Place, refusal: Refusal) -> Record
     requires { vec_len session.old.replies < vec_capacity session.old.replies }
@@ -76,7 +61,7 @@ pub fn refuse(alloc: Global, session: &mut Session, place: Place, number: u16) -
     ensures ended { IsRefusal place number session.old session.new result }
     ensures kept_room { KeepsRoom session.old session.new }
 {
-    refuse_by(alloc, session, place, refusal(alloc, number))
+    refuse_by(alloc, session, place, Refusal::plain(alloc, number))
 }
 
 /// BEGIN: the session has this transaction open from here on.

@@ -1,11 +1,10 @@
 //! All that the core keeps, and how an item is appended.
 ghost use Rattle.std.specs.Prelude.{◌≡◌, ◌+◌, ◌-◌, ◌<◌, ◌≤◌, ◌^◌, [], ◌∷◌, ◌++◌, length, max, slice_get, Some, vec_len, vec_capacity};
-ghost use Rattle.spec_log.specs.Items.{tran_of};
 ghost use Rattle.db_core.specs.Rooms as rooms;
 ghost use Rattle.db_core.specs.Store.{IsSettled};
 
 use crate::session::{Doing, Session};
-use spec_log::Record;
+use spec_log::{Record, tran_of_item};
 use std::alloc::Global;
 use std::snapshot::Snapshot;
 use vol_pool::Frames;
@@ -28,29 +27,6 @@ pub struct State {
     pub size: u64,
     /// For how many items there has to be room.
     pub owed: usize,
-}
-
-/// The transaction of an item, 0 where it has none.
-pub fn tran_of_item(item: &Record) -> u64
-    ensures { result ≡ tran_of item.now }
-{
-    match item {
-        Record::Start { tran, .. } => tran.0,
-        Record::Change { tran, .. } => tran.0,
-        Record::Undo { tran, .. } => tran.0,
-        Record::Commit { tran } => tran.0,
-        Record::Abort { tran } => tran.0,
-        Record::Snap { .. } => 0,
-        Record::Failed { .. } => 0,
-        Record::CheckEnd { .. } => 0,
-    }
-}
-
-/// The greater of two numbers.
-fn greater(a: u64, b: u64) -> u64
-    ensures { result ≡ max a b }
-{
-    if a > b { a } else { b }
 }
 
 /// One item more, for which there is room.
@@ -105,7 +81,7 @@ pub fn settle(state: &mut State, at: usize, before: usize, item: Record)
     requires low { state.old.owed < 2 ^ 63 }
     ensures { (x : Session) → slice_get state.old.sessions.items at ≡ Some x → IsSettled at before item x state.old state.new }
 {
-    state.last = greater(tran_of_item(&item), state.last);
+    state.last = tran_of_item(&item).max(state.last);
     state.owed = state.owed - before + owed_by(&state.sessions[at]);
     push_item(&mut state.items, item);
 }

@@ -1,5 +1,5 @@
 //! Turns of a session by what it is in the middle of, but for checks.
-ghost use Rattle.std.specs.Prelude.{◌≡◌, ◌+◌, ◌<◌, ◌^◌, length, slice_get, Some};
+ghost use Rattle.std.specs.Prelude.{◌≡◌, ◌+◌, ◌<◌, length, slice_get, Some};
 ghost use Rattle.db_core.specs.States.{IsUnderWay};
 ghost use Rattle.db_core.specs.Rooms.{HasOwnRoom};
 ghost use Rattle.db_core.specs.Store.{IsGood, IsNearer, Went};

@@ -1,5 +1,5 @@
 ghost use Rattle.std.specs.Prelude.{◌≡◌, [], ◌∷◌, IfOk, length};
-ghost use Rattle.ck_facts.specs.Maps.{HasShape};
+ghost use Rattle.spec_file.specs.Places.{HasShape};
 ghost use Rattle.spec_file.specs.declared.geometry.Geometry.TheVariants.{Small};
 ghost use Rattle.spec_log.specs.Cells.{HasWholePages};
 ghost use Rattle.spec_script.specs.declared.statement.Statement.TheVariants as words;

@@ -1,5 +1,4 @@
-ghost use Rattle.std.specs.Prelude.{◌≡◌, ◌+◌, ◌<◌, ◌≤◌, IfOk, length, vec_len, vec_capacity};
-ghost use Rattle.law_plan.specs.Good.{HaveCells};
+ghost use Rattle.std.specs.Prelude.{◌+◌, ◌<◌, ◌≤◌, IfOk, length, vec_len, vec_capacity};
 
 use super::*;
 use crate::session::Doing;

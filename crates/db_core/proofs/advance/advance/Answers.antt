@@ -6,7 +6,7 @@ use Rattle.db_core.specs.Words.{IsNextWord}
 use Rattle.db_core.specs.ViewLaws.{get_within}
 use Rattle.db_core.proofs.Good.{get_at, get_same}
 use Rattle.db_core.proofs.CheckTurns.{went_checked}
-use Rattle.db_core.proofs.Advances.{done_advanced, checked_advanced, snapped_advanced, same_many}
+use Rattle.db_core.proofs.Advances.{done_advanced, statement_left, checked_advanced, snapped_advanced, same_many}
 use Rattle.db_core.proofs.advance.advance.Goals as goal
 
 pub go_on_check-requires-clause-checking : goal.go_on_check-requires-clause-checking
@@ -53,7 +53,8 @@ returns-in-UnderWay-clause-advanced c =
     let here = get_at st.sessions.items c.args.at x c.requires.at c.index.ensures in
     let checked = went_checked c.args.at st c.go_on.new.state c.requires.good c.go_on.ensures.went in
     let found = get_within c.go_on.new.state.sessions.items c.args.at (same_many st c.go_on.new.state c.args.at c.requires.good checked.good checked.turn.0 c.requires.at) in
-    checked_advanced st c.go_on.new.state c.args.at c.len-before.result x found.0 c.told.result c.requires.good here checked (c.len-before.ensures ∙ x.replies.ok.0) found.1 (c.told.ensures found.0 found.1)
+    let more = statement_left st c.args.at x c.index-2.result.now stages.UnderWay c.requires.good here (get_at st.sessions.items c.args.at c.index-2.result.now c.requires.at c.index-2.ensures) c.in-UnderWay.ensures (λ e. cc) in
+    checked_advanced st c.go_on.new.state c.args.at c.len-before.result x found.0 c.told.result c.requires.good here more checked (c.len-before.ensures ∙ x.replies.ok.0) found.1 (c.told.ensures found.0 found.1)
 
 pub returns-in-Checking-clause-advanced : goal.returns-in-Checking-clause-advanced
 returns-in-Checking-clause-advanced c =
@@ -62,7 +63,8 @@ returns-in-Checking-clause-advanced c =
     let here = get_at st.sessions.items c.args.at x c.requires.at c.index.ensures in
     let checked = c.go_on_check.ensures.checked in
     let found = get_within c.go_on_check.new.state.sessions.items c.args.at (same_many st c.go_on_check.new.state c.args.at c.requires.good checked.good checked.turn.0 c.requires.at) in
-    checked_advanced st c.go_on_check.new.state c.args.at c.len-before.result x found.0 c.told-in-Checking.result c.requires.good here checked (c.len-before.ensures ∙ x.replies.ok.0) found.1 (c.told-in-Checking.ensures found.0 found.1)
+    let more = statement_left st c.args.at x c.index-2.result.now stages.Checking c.requires.good here (get_at st.sessions.items c.args.at c.index-2.result.now c.requires.at c.index-2.ensures) c.in-Checking.ensures (λ e. cc) in
+    checked_advanced st c.go_on_check.new.state c.args.at c.len-before.result x found.0 c.told-in-Checking.result c.requires.good here more checked (c.len-before.ensures ∙ x.replies.ok.0) found.1 (c.told-in-Checking.ensures found.0 found.1)
 
 pub returns-in-Word-clause-advanced : goal.returns-in-Word-clause-advanced
 returns-in-Word-clause-advanced c =
@@ -71,7 +73,8 @@ returns-in-Word-clause-advanced c =
     let here = get_at st.sessions.items c.args.at x c.requires.at c.index.ensures in
     let checked = went_checked c.args.at st c.begin_word.new.state c.requires.good c.begin_word.ensures.went in
     let found = get_within c.begin_word.new.state.sessions.items c.args.at (same_many st c.begin_word.new.state c.args.at c.requires.good checked.good checked.turn.0 c.requires.at) in
-    checked_advanced st c.begin_word.new.state c.args.at c.len-before.result x found.0 c.told-in-Word.result c.requires.good here checked (c.len-before.ensures ∙ x.replies.ok.0) found.1 (c.told-in-Word.ensures found.0 found.1)
+    let more = statement_left st c.args.at x c.index-2.result.now (stages.Word c.in-Word.word) c.requires.good here (get_at st.sessions.items c.args.at c.index-2.result.now c.requires.at c.index-2.ensures) c.in-Word.ensures (λ e. cc) in
+    checked_advanced st c.begin_word.new.state c.args.at c.len-before.result x found.0 c.told-in-Word.result c.requires.good here more checked (c.len-before.ensures ∙ x.replies.ok.0) found.1 (c.told-in-Word.ensures found.0 found.1)
 
 pub returns-in-Word-clause-nearer : goal.returns-in-Word-clause-nearer
 returns-in-Word-clause-nearer c p q ep eq busy =
@@ -87,7 +90,8 @@ returns-in-Table-clause-advanced c =
     let here = get_at st.sessions.items c.args.at x c.requires.at c.index.ensures in
     let checked = went_checked c.args.at st c.begin_planned.new.state c.requires.good c.begin_planned.ensures.went in
     let found = get_within c.begin_planned.new.state.sessions.items c.args.at (same_many st c.begin_planned.new.state c.args.at c.requires.good checked.good checked.turn.0 c.requires.at) in
-    checked_advanced st c.begin_planned.new.state c.args.at c.len-before.result x found.0 c.told-in-Table.result c.requires.good here checked (c.len-before.ensures ∙ x.replies.ok.0) found.1 (c.told-in-Table.ensures found.0 found.1)
+    let more = statement_left st c.args.at x c.index-2.result.now stages.Table c.requires.good here (get_at st.sessions.items c.args.at c.index-2.result.now c.requires.at c.index-2.ensures) c.in-Table.ensures (λ e. cc) in
+    checked_advanced st c.begin_planned.new.state c.args.at c.len-before.result x found.0 c.told-in-Table.result c.requires.good here more checked (c.len-before.ensures ∙ x.replies.ok.0) found.1 (c.told-in-Table.ensures found.0 found.1)
 
 pub returns-in-Table-clause-nearer : goal.returns-in-Table-clause-nearer
 returns-in-Table-clause-nearer c p q ep eq busy =
@@ -113,7 +117,8 @@ returns-in-Err-clause-advanced c =
     let here = get_at st.sessions.items c.args.at x c.requires.at c.index.ensures in
     let checked = c.in-Err.ensures in
     let found = get_within c.begin_check.new.state.sessions.items c.args.at (same_many st c.begin_check.new.state c.args.at c.requires.good checked.good checked.turn.0 c.requires.at) in
-    checked_advanced st c.begin_check.new.state c.args.at c.len-before.result x found.0 c.told-in-Err.result c.requires.good here checked (c.len-before.ensures ∙ x.replies.ok.0) found.1 (c.told-in-Err.ensures found.0 found.1)
+    let more = statement_left st c.args.at x c.index-2.result.now stages.Check c.requires.good here (get_at st.sessions.items c.args.at c.index-2.result.now c.requires.at c.index-2.ensures) c.in-Check.ensures (λ e. cc) in
+    checked_advanced st c.begin_check.new.state c.args.at c.len-before.result x found.0 c.told-in-Err.result c.requires.good here more checked (c.len-before.ensures ∙ x.replies.ok.0) found.1 (c.told-in-Err.ensures found.0 found.1)
 
 pub returns-in-Err-clause-nearer : goal.returns-in-Err-clause-nearer
 returns-in-Err-clause-nearer c p q ep eq busy =

@@ -71,5 +71,5 @@ returns-clause-nearer c =
     let index = c.place_of-place.ensures.index ∙ ap (λ q. length q.replies.items + 1) (get_same st.sessions.items c.args.at c.index-2.result.now x second here) in
     let e = end_good st c.args.at c.place_of-place.result x y c.end_in-item.result c.requires.good here (λ check. c.requires.undone x check here) c.place_of-place.ensures.session index c.end_in-item.ensures in
     nearer_by st _ c.settle.new.state c.args.at _ x y st.frames c.end_in-item.result c.requires.at here
-    (record { base = refl; first = refl; items = refl; len = refl; frames = refl; sessions = refl; last = refl; owed = refl }) e.3
+    (record { base = refl; first = refl; items = refl; len = refl; frames = refl; sessions = refl; last = refl; owed = refl }) (e.3 st.items.items c.settle.new.state.items.items)
     (c.settle.ensures y (get_put st.sessions.items c.args.at y c.requires.at))

@@ -2,6 +2,7 @@ use Rattle.std.proofs.Common.{◌+◌, length, refl, ap, ◌∙◌, subst, arith
 use Rattle.db_core.specs.Rooms.{owed_by, HasOwnRoom}
 use Rattle.db_core.proofs.Good.{get_at, get_same, get_put}
 use Rattle.db_core.proofs.GoOn.{room_for}
+use Rattle.db_core.proofs.Left.{fresh_few}
 use Rattle.db_core.proofs.SnapTurns.{snap_good, snapped, is_busy}
 use Rattle.db_core.proofs.checks.snap_turn.Goals as goal
 
@@ -44,4 +45,5 @@ returns c =
     let e = snap_good st c.args.at next.1.0 c.place_of-place.result c.args.check x y c.begin_in-item.result c.requires.good here next.0 next.1.1 c.requires.fresh c.place_of-place.ensures.session index c.begin_in-item.ensures in
     snapped st _ c.settle.new.state c.args.at c.owed_by-before.result _ x y c.begin_in-item.result c.requires.good here
     (record { base = refl; first = refl; items = refl; len = refl; frames = refl; sessions = refl; last = refl; owed = refl }) refl refl refl
-    e.0 e.1 e.2 e.3 c.begin_in-item.ensures.replies (is_busy c.place_of-place.result c.args.check x y c.begin_in-item.result c.begin_in-item.ensures) before (c.settle.ensures y (get_put st.sessions.items c.args.at y c.requires.at))
+    e.0 e.1 e.2 e.3 c.begin_in-item.ensures.replies (is_busy c.place_of-place.result c.args.check x y c.begin_in-item.result c.begin_in-item.ensures)
+    (fresh_few st c.place_of-place.result c.args.check x y c.begin_in-item.result c.requires.good c.requires.fresh c.begin_in-item.ensures) before (c.settle.ensures y (get_put st.sessions.items c.args.at y c.requires.at))

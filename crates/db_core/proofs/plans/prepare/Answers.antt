@@ -3,7 +3,7 @@ use Rattle.std.proofs.lemmas.Result.{err_from_is_err_and}
 use Rattle.db_core.specs.Plans.{IsProper, IsPlanned, IsReady, HasRoomFor, limited, changes_in, takes_in, used_now}
 use Rattle.db_core.proofs.Good.{get_at}
 use Rattle.db_core.proofs.PlanRooms.{used_low}
-use Rattle.db_core.proofs.Ready.{roomier_good, roomier_few, limited_planned, few_in, ready_limited, ready_want, want_ready}
+use Rattle.db_core.proofs.Ready.{roomier_good, roomier_few, roomier_others, limited_planned, few_in, ready_limited, ready_want, want_ready}
 use Rattle.db_core.proofs.plans.prepare.Goals as goal
 
 pub returns-in_err-plan-clause-ready : goal.returns-in_err-plan-clause-ready
@@ -47,6 +47,12 @@ returns-in_err-make_room_at-clause-few c =
     let here = get_at c.args.state.now.sessions.items c.args.at x c.requires.at c.index.ensures in
     roomier_few c.args.at c.args.state.now c.make_room_at.new.state x here c.make_room_at.ensures.roomier
 
+pub returns-in_err-make_room_at-clause-others : goal.returns-in_err-make_room_at-clause-others
+returns-in_err-make_room_at-clause-others c =
+    let x = c.index.result.now in
+    let here = get_at c.args.state.now.sessions.items c.args.at x c.requires.at c.index.ensures in
+    roomier_others c.args.at c.args.state.now c.make_room_at.new.state x here c.make_room_at.ensures.roomier c.requires.good
+
 pub returns-in_err-make_room_at-clause-ready : goal.returns-in_err-make_room_at-clause-ready
 returns-in_err-make_room_at-clause-ready c y at =
     let st = c.args.state.now in
@@ -68,6 +74,12 @@ returns-clause-few c =
     let x = c.index.result.now in
     let here = get_at c.args.state.now.sessions.items c.args.at x c.requires.at c.index.ensures in
     roomier_few c.args.at c.args.state.now c.make_room_at.new.state x here c.make_room_at.ensures.roomier
+
+pub returns-clause-others : goal.returns-clause-others
+returns-clause-others c =
+    let x = c.index.result.now in
+    let here = get_at c.args.state.now.sessions.items c.args.at x c.requires.at c.index.ensures in
+    roomier_others c.args.at c.args.state.now c.make_room_at.new.state x here c.make_room_at.ensures.roomier c.requires.good
 
 pub returns-clause-ready : goal.returns-clause-ready
 returns-clause-ready c y at =

@@ -3,7 +3,7 @@ use Rattle.db_core.specs.States.{MayStep, StepsBy}
 use Rattle.db_core.specs.Rooms.{owed_by, HasOwnRoom}
 use Rattle.db_core.proofs.Good.{get_at, get_same, get_put}
 use Rattle.db_core.proofs.RoomSteps.{step_lighter}
-use Rattle.db_core.proofs.GoOn.{good_may, good_step, room_for, went, nearer}
+use Rattle.db_core.proofs.GoOn.{good_may, good_step, room_for, went, nearer_by}
 use Rattle.db_core.proofs.turns.go_on.Goals as goal
 
 pub step-item-requires-clause-fits : goal.step-item-requires-clause-fits
@@ -56,6 +56,6 @@ returns-clause-nearer c =
     let y = c.step-item.new.session in
     let here = get_at st.sessions.items c.args.at x c.requires.at c.index_mut.ensures.value in
     let light = step_lighter (c.len.result + 1) c.deref.result.now x y st.frames c.step-item.new.frames c.step-item.result x.doing refl (c.requires.good.each_room c.args.at x here) c.step-item.ensures.kept_room c.step-item.ensures.steps in
-    nearer st _ c.settle.new.state c.args.at _ x y c.step-item.new.frames c.step-item.result c.requires.at here
-    (record { base = refl; first = refl; items = refl; len = refl; frames = refl; sessions = refl; last = refl; owed = refl }) light.0
+    nearer_by st _ c.settle.new.state c.args.at _ x y c.step-item.new.frames c.step-item.result c.requires.at here
+    (record { base = refl; first = refl; items = refl; len = refl; frames = refl; sessions = refl; last = refl; owed = refl }) (light.0.nearer st.items.items c.settle.new.state.items.items)
     (c.settle.ensures y (get_put st.sessions.items c.args.at y c.requires.at))

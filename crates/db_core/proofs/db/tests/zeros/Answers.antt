@@ -6,7 +6,7 @@ use Rattle.spec_file.specs.Image.{page_size}
 use Rattle.spec_log.specs.Cells.{HasWholePages}
 use Rattle.pg_base.specs.Zeros.{zero_page}
 use Rattle.spec_file.specs.declared.geometry.Geometry.TheVariants.{Small}
-use Rattle.ck_facts.specs.Maps.{HasShape}
+use Rattle.spec_file.specs.Places.{HasShape}
 use Rattle.db_core.proofs.db.tests.zeros.Goals as goal
 
 zeros_long : length zero_page ≡ 8192

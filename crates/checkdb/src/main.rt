@@ -1,8 +1,9 @@
-//! `checkdb check DATA` writes the report of a data file to standard output. `checkdb replay DATA LOG SCHEDULE
-//! SCRIPT..` runs scripts as sessions over a data file and its log, in turns on one thread.
+//! `checkdb check DATA` writes the report of a data file to standard output, `checkdb page DATA P` the header and
+//! the slots of one page. `checkdb replay DATA LOG SCHEDULE SCRIPT..` runs scripts as sessions over a data file and
+//! its log, in turns on one thread.
 #![tactic(auto)]
 
-ghost use Rattle.std.specs.Prelude.{◌<◌, ◌≤◌, length, IfOk};
+ghost use Rattle.std.specs.Prelude.{◌≡◌, length, IfOk};
 
 use app_words::{Names, names_of};
 use checkdb_top::{Device, FileWhy, NoGate, Outcome, ScriptWhy, Status, plain_top};
@@ -32,23 +33,17 @@ fn words_of<R: Env + AllocGlobal>(rt: &R) -> Result<Words, NoMemory> {
     Ok(words)
 }
 
-// The sources of these names. Where there is none it is one that fails, on which no call is made.
+// The sources of these names, in their order; none for a command that names none.
 fn sources_of<R: Files>(
     rt: &R,
     alloc: Global,
     names: &[String],
 ) -> Result<Vec<FileSource<R::File>>, NoMemory>
-    ensures some { IfOk result (λ sources. 0 < length sources.items) }
-    ensures few { IfOk result (λ sources. length sources.items ≤ 17) }
+    ensures { IfOk result (λ sources. length sources.items ≡ length names.now) }
 {
     let mut sources = Vec::new(alloc);
-    'names: for name in names {
-        if sources.len() < 17 {
-            sources.push(FileSource::at(rt, name.as_str()))?;
-        }
-    }
-    if sources.is_empty() {
-        sources.push(FileSource::at(rt, ""))?;
+    for name in names {
+        sources.push(FileSource::at(rt, name.as_str()))?;
     }
     Ok(sources)
 }

@@ -1,75 +1,91 @@
--- From what a status says of an image to what it says of the file.
-use Rattle.std.proofs.Common.{◌≡◌, ℕ, Bool, false, IsTrue, List, Option, Some, None, IfSome, option_map, length, sym, ◌∙◌, refl, not, if◌then◌else◌}
+-- From what was read of an image to what a command answers of its file.
+use Rattle.std.proofs.Common.{◌≡◌, ◌≢◌, ℕ, ◌<◌, ◌≤◌, Bool, true, false, IsTrue, List, Option, Some, None, IfSome, option_map, length, refl, sym, ◌∙◌, ap, subst, arith}
+use Rattle.std.specs.Option.{ForSome}
 use Rattle.spec_file.specs.declared.geometry.Geometry.{Geometry}
-use Rattle.spec_file.specs.Image.{pages_of}
+use Rattle.spec_file.specs.Image.{pages_of, page}
 use Rattle.spec_file.specs.FileForm.{size_passes}
 use Rattle.spec_check.specs.declared.report.CheckReport.{CheckReport}
 use Rattle.spec_tables.specs.Written.{IsCheckOf}
+use Rattle.pg_base.specs.declared.reader.ReadStop.{ReadStop}
+use Rattle.pg_base.specs.declared.reader.ReadStop.TheVariants.{Fault, Ended, NoMemory}
+use Rattle.spec_file.specs.declared.data.PageNo.{PageNo}
+use Rattle.app_words.specs.Words.{Asks}
+use Rattle.app_words.specs.declared.command.Command.TheVariants.{ShowPage}
+use Rattle.checkdb_top.specs.declared.status.Device.{Device}
 use Rattle.checkdb_top.specs.declared.status.Device.TheVariants as device
-use Rattle.run_file.specs.declared.why.FileWhy.{FileWhy}
-use Rattle.run_file.specs.declared.why.FileWhy.TheVariants as why
 use Rattle.checkdb_top.specs.declared.status.Status.{Status}
-use Rattle.checkdb_top.specs.declared.status.Status.TheVariants as status
-use Rattle.checkdb_top.specs.Form.{IsRefusedFor, IsChecked, IsRefusedAs, IsOpenedAs}
-use Rattle.run_file.specs.OpeningLaws.{after_size}
-use Rattle.checkdb_top.specs.Answers.{Answers, AnswersImage, StopsAtSize, IsReportOf}
+use Rattle.checkdb_top.specs.Form.{Passes, NamesGeometry}
+use Rattle.checkdb_top.specs.Printings.{check_printing, page_printing}
+use Rattle.checkdb_top.specs.Answers.{IsDevice, IsWordsAt, Printing, HasValue, HasNone, ended, stopped, Stops, Refused, Unread, OutOfMemory, Answers, Printed, Lacking, Stopped, AllPrinted, FrontPrinted}
 
-pub refused : (bytes : List ℕ) (w : FileWhy) → IsTrue (size_passes (length bytes)) → IsRefusedAs w (pages_of bytes) → IsRefusedFor w bytes
-refused bytes w passes left = sym (after_size bytes passes) ∙ left
+-- a stop in reading a file whose size has passed
+pub stops_reading : (told : Option (List ℕ)) (stop : ReadStop) → IfSome told (λ file. IsTrue (size_passes (length file))) → Stops told (stopped stop)
+stops_reading told (Fault p) passes = Unread refl
+stops_reading told Ended passes = OutOfMemory refl passes
+stops_reading told NoMemory passes = OutOfMemory refl passes
 
-checked : (bytes : List ℕ) (g : Geometry) → IsTrue (size_passes (length bytes)) → IsOpenedAs g (pages_of bytes) → IsChecked g bytes
-checked bytes g passes opened = record {
-  passes = sym (after_size bytes passes) ∙ opened.passes;
-  geometry = opened.geometry;
+-- the report of the image is that of its file
+pub has_report : (told : Option (List ℕ)) (g : Geometry) (report : CheckReport) → IfSome told Passes → IfSome told (NamesGeometry g)
+    → IfSome (option_map pages_of told) (λ image. IsCheckOf g image report) → IfSome told (HasValue check_printing report)
+has_report None g report passes names is = tt
+has_report (Some file) g report passes names is = record { passes = passes; has = (g, names, is) }
+
+-- a page of the image is one of its file
+pub has_page : (told : Option (List ℕ)) (pages p : ℕ) (bytes : List ℕ) → ForSome (option_map pages_of told) (λ image. length image ≡ pages)
+    → IfSome told Passes → p < pages → IfSome (option_map pages_of told) (λ image. bytes ≡ page image p)
+    → IfSome told (HasValue (page_printing p) bytes)
+has_page None pages p bytes whole passes inside is = tt
+has_page (Some file) pages p bytes whole passes inside is =
+    let below : p < length (pages_of file) = rw (whole (pages_of file) refl) inside in
+    record { passes = passes; has = (below, is) }
+
+-- an image that ends before a page has none
+pub has_no_page : (told : Option (List ℕ)) (pages p : ℕ) → ForSome (option_map pages_of told) (λ image. length image ≡ pages)
+    → IfSome told Passes → pages ≤ p → IfSome told (HasNone (page_printing p))
+has_no_page None pages p whole passes past = tt
+has_no_page (Some file) pages p whole passes past = record {
+  passes = passes;
+  none = λ bytes has. absurd (omega (arith, has.0, whole (pages_of file) refl, past));
 }
 
-reported : (told : Option (List ℕ)) (report : CheckReport) → IfSome told (λ bytes. IsTrue (size_passes (length bytes)))
-    → IfSome (option_map pages_of told) (λ image. (g : Geometry) × IsOpenedAs g image × IsCheckOf g image report) → IsReportOf told report
-reported None report passes h = tt
-reported (Some bytes) report passes (g, taken, is) = (g, checked bytes g passes taken, is)
+no_device : (b : Bool) (d : Device) → IsDevice d (ended b) → ⊥
+no_device true d is = is
+no_device false d is = is
 
-pub left : (told : Option (List ℕ)) (w : FileWhy) → IfSome told (λ bytes. IsTrue (size_passes (length bytes)))
-    → IfSome (option_map pages_of told) (IsRefusedAs w) → IfSome told (IsRefusedFor w)
-left None w passes h = tt
-left (Some bytes) w passes h = refused bytes w passes h
+no_word : (b : Bool) (at : ℕ) → IsWordsAt at (ended b) → ⊥
+no_word true at is = is
+no_word false at is = is
 
-pub answers_file : (told before after : Option (List ℕ)) (s : Status) → IfSome told (λ bytes. IsTrue (size_passes (length bytes)))
-    → AnswersImage (option_map pages_of told) before after s → Answers told before after s
-answers_file told before after status.Clean passes (report, is, reports) = (report, reported told report passes is, reports.0, reports.1)
-answers_file told before after status.Errors passes (report, is, reports) = (report, reported told report passes is, reports.0, reports.1)
-answers_file told before after (status.Words at) passes h = h
-answers_file told before after (status.File w) passes h = (left told w passes h.0, h.1)
-answers_file told before after (status.Device device.Volume) passes h = h
-answers_file told before after (status.Device device.Log) passes h = h
-answers_file told before after (status.Device device.Source) passes h = h
-answers_file told before after (status.Script script line why) passes h = h
-answers_file told before after status.LogSize passes h = h
-answers_file told before after status.LogLater passes h = h
-answers_file told before after status.NoReport passes h = h
-answers_file told before after (status.Device device.Sink) passes (report, is, reports) = (report, reported told report passes is, reports)
-answers_file told before after status.Memory passes h = (passes, h)
+-- a command names no device but the file's and the output's
+not_named : (c : Printing) (told before after : Option (List ℕ)) (s : Status) (d : Device) → Answers c told before after s
+    → d ≢ device.Volume → d ≢ device.Sink → IsDevice d s → ⊥
+not_named c told before after s d (Printed x has (AllPrinted said wrote)) volume sink is = no_device (c.tells_error x) d (subst (IsDevice d) said is)
+not_named c told before after s d (Printed x has (FrontPrinted said wrote)) volume sink is = sink (sym (subst (IsDevice d) said is))
+not_named c told before after s d (Lacking at word none said kept) volume sink is = subst (IsDevice d) said is
+not_named c told before after s d (Stopped (Refused why said for) kept) volume sink is = subst (IsDevice d) said is
+not_named c told before after s d (Stopped (Unread said) kept) volume sink is = volume (sym (subst (IsDevice d) said is))
+not_named c told before after s d (Stopped (OutOfMemory said right) kept) volume sink is = subst (IsDevice d) said is
 
--- a file of a wrong size fails that test first
-fails_first : (size : Bool) (fault : Option FileWhy) → size ≡ false → (if not size then Some why.Size else fault) ≡ Some why.Size
-fails_first size fault fails = rw fails refl
+-- a word that a command names is the one that is wrong where an image lacks what it prints
+word_named : (c : Printing) (told before after : Option (List ℕ)) (s : Status) (at : ℕ) → Answers c told before after s
+    → IsWordsAt at s → c.word ≡ Some at
+word_named c told before after s at (Printed x has (AllPrinted said wrote)) is = absurd (no_word (c.tells_error x) at (subst (IsWordsAt at) said is))
+word_named c told before after s at (Printed x has (FrontPrinted said wrote)) is = absurd (subst (IsWordsAt at) said is)
+word_named c told before after s at (Lacking place word none said kept) is = word ∙ ap (λ n. Some n) (subst (IsWordsAt at) said is)
+word_named c told before after s at (Stopped (Refused why said for) kept) is = absurd (subst (IsWordsAt at) said is)
+word_named c told before after s at (Stopped (Unread said) kept) is = absurd (subst (IsWordsAt at) said is)
+word_named c told before after s at (Stopped (OutOfMemory said right) kept) is = absurd (subst (IsWordsAt at) said is)
 
-pub told_fails : (told : Option (List ℕ)) (size : ℕ) (passed : Bool) → IfSome told (λ bytes. size ≡ length bytes)
-    → passed ≡ size_passes size → passed ≡ false → IfSome told (IsRefusedFor why.Size)
-told_fails None size passed is tested no_ = tt
-told_fails (Some bytes) size passed is tested no_ = fails_first (size_passes (length bytes)) _ (rw (← is) (sym tested ∙ no_))
+pub never_log : (c : Printing) (told before after : Option (List ℕ)) (s : Status) → Answers c told before after s → IsDevice device.Log s → ⊥
+never_log c told before after s answers is = not_named c told before after s device.Log answers (λ same. cc) (λ same. cc) is
 
--- what ends a command before the file is read as an image, for a check
-pub stops_check : (told before after : Option (List ℕ)) (s : Status) → StopsAtSize told s → after ≡ before → Answers told before after s
-stops_check told before after (status.File w) h kept = (h, kept)
-stops_check told before after (status.Device device.Volume) h kept = kept
-stops_check told before after (status.Device device.Log) h kept = absurd h
-stops_check told before after (status.Device device.Source) h kept = absurd h
-stops_check told before after (status.Device device.Sink) h kept = absurd h
-stops_check told before after status.Clean h kept = absurd h
-stops_check told before after status.Errors h kept = absurd h
-stops_check told before after (status.Words at) h kept = absurd h
-stops_check told before after (status.Script script line why) h kept = absurd h
-stops_check told before after status.LogSize h kept = absurd h
-stops_check told before after status.LogLater h kept = absurd h
-stops_check told before after status.NoReport h kept = absurd h
-stops_check told before after status.Memory h kept = absurd h
+pub never_source : (c : Printing) (told before after : Option (List ℕ)) (s : Status) → Answers c told before after s → IsDevice device.Source s → ⊥
+never_source c told before after s answers is = not_named c told before after s device.Source answers (λ same. cc) (λ same. cc) is
+
+-- a check names no word
+pub check_names_no_word : (told before after : Option (List ℕ)) (s : Status) (at : ℕ) → Answers check_printing told before after s → IsWordsAt at s → ⊥
+check_names_no_word told before after s at answers is = let none : None ≡ Some at = word_named check_printing told before after s at answers is in cc
+
+-- words ask for one page
+pub same_page : (words : List (List ℕ)) (p q : PageNo) → Asks (ShowPage p) words → Asks (ShowPage q) words → p ≡ q
+same_page words p q one other = let same : Some (ShowPage p) ≡ Some (ShowPage q) = sym one.0 ∙ other.0 in cc

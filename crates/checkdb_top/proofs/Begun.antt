@@ -6,9 +6,8 @@ use Rattle.spec_file.specs.declared.geometry.Geometry.TheVariants.{Small}
 use Rattle.spec_script.specs.Lines.{is_statement}
 use Rattle.spec_plan.specs.ReplayForm.{IsReplayForm}
 use Rattle.spec_run.specs.Begun.{Setting}
-use Rattle.spec_run.specs.Entries.{items_of}
-use Rattle.spec_run.specs.Turns.{IsLegal}
-use Rattle.ck_facts.specs.Maps.{HasShape}
+use Rattle.spec_file.specs.Places.{HasShape}
+use Rattle.law_run.specs.Laws.{IsStart}
 use Rattle.db_core.specs.Runs.{setting_of}
 use Rattle.db_core.specs.States.{Db}
 use Rattle.run_file.specs.Opening.{AreAllPages}
@@ -31,11 +30,16 @@ may_begin start n form shape count few short proper inside = record {
   inside = subst (λ m. AreTurnsOf m start.texts.schedule.items) (sym count) inside;
 }
 
+pub starts : (start : Start) (core : Db) → IsOver start.frames start.texts.schedule.items (scripts_of start) core
+    → IsReplayForm Small start.frames → HasShape Small (length start.frames) → IsStart core.run
+starts start core over form shape =
+    subst IsStart (sym over.run) (record { forms = tt; rules = tt; whole = form.whole; many = shape.low })
+
 pub is_run : (lefts : List (Option (List ℕ))) (file log : Option (List ℕ)) (start : Start) (core : Db)
     → IsOver start.frames start.texts.schedule.items (scripts_of start) core → AreTexts lefts start.texts.schedule.items (scripts_of start)
-    → IsReplayForm Small start.frames → IfSome file (AreAllPages start.frames) → IfSome log IsEmptyLog → IsLegal core.run (items_of core.entries)
+    → IsReplayForm Small start.frames → IfSome file (AreAllPages start.frames) → IfSome log IsEmptyLog
     → IsRunOf lefts file log core.run core.entries
-is_run lefts file log start core over texts form pages empty legal = record {
+is_run lefts file log start core over texts form pages empty = record {
   turns = start.texts.schedule.items;
   counts = over.counts;
   begins = over.run ∙ sym (ap (λ (r : Setting). setting_of r.image r.scripts) over.run);
@@ -45,6 +49,5 @@ is_run lefts file log start core over texts form pages empty legal = record {
   empty = empty;
   rest = over.rest ∙ sym (ap (λ (r : Setting). length r.scripts) over.run);
   taken = over.taken;
-  legal = legal;
   whole = over.whole;
 }

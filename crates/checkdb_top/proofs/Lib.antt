@@ -4,6 +4,4 @@ pub mod RunCompleteness
 pub mod Forms
 pub mod Running
 pub mod Closings
-pub mod Starting
 pub mod Begun
-pub mod Showing

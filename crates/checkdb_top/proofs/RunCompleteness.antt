@@ -1,10 +1,13 @@
 -- The status of a run is fixed by its sources, its file and its log, where no device fails.
-use Rattle.std.proofs.Common.{◌≡◌, ◌≢◌, ℕ, suc, ◌+◌, ◌<◌, Bool, true, false, ◌||◌, List, [], ◌∷◌, length, Option, Some, None, IfSome, refl, sym, ap, ◌∙◌, subst, inl, inr, arith, if◌then◌else◌}
+use Rattle.std.proofs.Common.{◌≡◌, ◌≢◌, ◌⊎◌, ℕ, suc, ◌+◌, ◌<◌, Bool, true, false, ◌||◌, List, [], ◌∷◌, length, get_or, Option, Some, None, IfSome, refl, sym, ap, ◌∙◌, subst, inl, inr, ⊎_elim, arith, if◌then◌else◌}
 use Rattle.std.specs.Prelude.{slice_get}
 use Rattle.std.specs.List.{list_any}
+use Rattle.std.proofs.lemmas.Option.{slice_get_within, get_or_from_slice_get}
+use Rattle.spec_log.specs.Bytes.{log_bytes}
 use Rattle.spec_log.specs.declared.item.Record.{Record}
 use Rattle.spec_script.specs.declared.reply.Reply.{Reply}
 use Rattle.spec_script.specs.declared.stop.ScriptWhy.{ScriptWhy}
+use Rattle.spec_script.specs.Replies.{text_of}
 use Rattle.spec_run.specs.Begun.{Setting}
 use Rattle.spec_run.specs.Entries.{Entry, items_of}
 use Rattle.db_core.specs.Reports.{is_terminated, none_terminated}
@@ -17,9 +20,10 @@ use Rattle.checkdb_top.specs.declared.status.Device.{Device}
 use Rattle.checkdb_top.specs.declared.status.Device.TheVariants as device
 use Rattle.checkdb_top.specs.declared.status.Status.{Status}
 use Rattle.checkdb_top.specs.declared.status.Status.TheVariants as status
-use Rattle.checkdb_top.specs.Answers.{IsDevice}
+use Rattle.checkdb_top.specs.Answers.{IsDevice, ended}
 use Rattle.checkdb_top.specs.Completeness.{CompletesRun, IsWholeEnd}
-use Rattle.checkdb_top.specs.Runs.{AreAllTold, Whole, AtSink, AtVolume, AtLog, Ends, Stops, Runs, IsRunOf, ended_as, ends_short, has_errors}
+use Rattle.checkdb_top.specs.Runs.{AreAllTold, replies_to, Closes, Ends, Stops, Runs, IsRunOf, last_of, ended_as, ends_short, has_errors}
+use Rattle.checkdb_top.specs.Writes.{Writes, AllWritten, AtSink, AtVolume, AtLog}
 use Rattle.checkdb_top.specs.Start.{HaveTexts, StopsStart}
 
 each_false : {A : Type 0} (p : A → Bool) (xs : List A) → ((k : ℕ) (x : A) → slice_get xs k ≡ Some x → p x ≡ false) → list_any p xs ≡ false
@@ -27,25 +31,42 @@ each_false p [] all = refl
 each_false p (x ∷ xs) all = ap (λ b. b || list_any p xs) (all 0 x refl) ∙ each_false p xs (λ k y at. all (suc k) y at)
 
 -- over an empty log no session is told of a check without a report
-pub none_without : (run : Setting) (log : List Record) (replies : List (List Reply)) → run.opened ≡ [] → AreAllTold run log replies
-    → list_any (list_any is_terminated) replies ≡ false
-none_without run log replies opened told =
-    each_false (list_any is_terminated) replies (λ k session at. none_terminated run (k + 1) log session opened (told.1 k session at))
+pub none_without : (run : Setting) (log : List Record) (replies : List (List Reply)) → run.opened ≡ [] → length replies ≡ length run.scripts
+    → AreAllTold run log (replies_to replies) → list_any (list_any is_terminated) replies ≡ false
+none_without run log replies opened count told = each_false (list_any is_terminated) replies (λ k session at.
+    let below = slice_get_within replies k session at in
+    let same : replies_to replies (k + 1) ≡ session = ap (λ n. get_or replies n []) (omega arith) ∙ get_or_from_slice_get replies k session [] at in
+    subst (λ r. list_any is_terminated r ≡ false) same
+    (none_terminated run (k + 1) log (replies_to replies (k + 1)) opened (told (k + 1) (omega arith, omega (arith, below, count)))))
 
 whole_end : (log : List Record) (replies : List (List Reply)) → list_any (list_any is_terminated) replies ≡ false → IsWholeEnd (ended_as log replies)
 whole_end log replies none = by_cases (list_any (list_any is_terminated) replies) (list_any ends_short log) (list_any (list_any has_errors) replies) none where
-  by_cases : (a b e : Bool) → a ≡ false → IsWholeEnd (if a then status.NoReport else (if b then status.Memory else (if e then status.Errors else status.Clean)))
+  by_cases : (a b e : Bool) → a ≡ false → IsWholeEnd (if a then status.NoReport else (if b then status.Memory else ended e))
   by_cases true b e none = cc
   by_cases false true e none = inr refl
   by_cases false false true none = inl (inr refl)
   by_cases false false false none = inl (inl refl)
 
--- the status of a run that is closed whole
-closed_whole : (lefts : List (Option (List ℕ))) (file log : Option (List ℕ)) (run : Setting) (entries : List Entry) (replies : List (List Reply)) (s : Status)
-    → IsRunOf lefts file log run entries → AreAllTold run (items_of entries) replies → s ≡ ended_as (items_of entries) replies → IsWholeEnd s
-closed_whole lefts file log run entries replies s is told said =
+-- the status of a run of which all is written
+closed_whole : (lefts : List (Option (List ℕ))) (file log : Option (List ℕ)) (run : Setting) (entries : List Entry) (file_now log_now out out_now : Option (List ℕ))
+    (s : Status) → IsRunOf lefts file log run entries → (closes : Closes run entries file file_now log log_now out out_now s)
+    → s ≡ ended_as (items_of entries) closes.replies → IsWholeEnd s
+closed_whole lefts file log run entries file_now log_now out out_now s is closes said =
     subst IsWholeEnd (sym said)
-    (whole_end (items_of entries) replies (none_without run (items_of entries) replies (ap (λ (r : Setting). r.opened) is.begins) told))
+    (whole_end (items_of entries) closes.replies
+    (none_without run (items_of entries) closes.replies (ap (λ (r : Setting). r.opened) is.begins) closes.count closes.legal.told))
+
+-- a run that is closed ends so, or names the device that failed
+closed_as : (lefts : List (Option (List ℕ))) (file log : Option (List ℕ)) (run : Setting) (entries : List Entry) (file_now log_now out out_now : Option (List ℕ))
+    (s : Status) → IsRunOf lefts file log run entries → Closes run entries file file_now log log_now out out_now s
+    → IsWholeEnd s ⊎ ((d : Device) × (s ≡ status.Device d))
+closed_as lefts file log run entries file_now log_now out out_now s is closes = by_writes closes.writes where
+  by_writes : Writes (log_bytes (items_of entries)) closes.changed (last_of run entries) (text_of closes.replies) (ended_as (items_of entries) closes.replies)
+      file file_now log log_now out out_now s → IsWholeEnd s ⊎ ((d : Device) × (s ≡ status.Device d))
+  by_writes (AllWritten said a b c) = inl (closed_whole lefts file log run entries file_now log_now out out_now s is closes said)
+  by_writes (AtSink said a b c) = inr (device.Sink, said)
+  by_writes (AtVolume said a b c) = inr (device.Volume, said)
+  by_writes (AtLog said a b c) = inr (device.Log, said)
 
 not_without : (s : Status) → IsWholeEnd s → s ≢ status.NoReport
 not_without s (inl (inl clean)) without = let e : status.Clean ≡ status.NoReport = sym clean ∙ without in cc
@@ -58,11 +79,9 @@ device_apart d s is without = let e : status.Device d ≡ status.NoReport = sym 
 pub never_without : (lefts lefts_now : List (Option (List ℕ))) (file file_now log log_now out out_now : Option (List ℕ)) (s : Status)
     → Ends lefts lefts_now file file_now log log_now out out_now s → s ≢ status.NoReport
 never_without lefts lefts_now file file_now log log_now out out_now s (Stops stops a b c) = λ without. subst (StopsStart lefts file log) without stops
-never_without lefts lefts_now file file_now log log_now out out_now s (Runs run entries is read (Whole replies told said a b c)) =
-    not_without s (closed_whole lefts file log run entries replies s is told said)
-never_without lefts lefts_now file file_now log log_now out out_now s (Runs run entries is read (AtSink replies told said a b c)) = device_apart device.Sink s said
-never_without lefts lefts_now file file_now log log_now out out_now s (Runs run entries is read (AtVolume changed marks same said a b c)) = device_apart device.Volume s said
-never_without lefts lefts_now file file_now log log_now out out_now s (Runs run entries is read (AtLog said a b c)) = device_apart device.Log s said
+never_without lefts lefts_now file file_now log log_now out out_now s (Runs run entries is read closes) =
+    ⊎_elim (λ whole. not_without s whole) (λ device. device_apart device.0 s device.1)
+    (closed_as lefts file log run entries file_now log_now out out_now s is closes)
 
 same_script : (k j line other : ℕ) (why because : ScriptWhy) → k ≡ j → line ≡ other → why ≡ because → status.Script k line why ≡ status.Script j other because
 same_script k j line other why because a b c =
@@ -136,15 +155,10 @@ module _ (lefts : List (Option (List ℕ))) (bytes log : List ℕ) (some : 0 < l
   ends_completes : (lefts_now : List (Option (List ℕ))) (file_now log_now out out_now : Option (List ℕ)) (s : Status)
       → Ends lefts lefts_now (Some bytes) file_now (Some log) log_now out out_now s → ((d : Device) → IsDevice d s → ⊥) → CompletesRun lefts bytes log s
   ends_completes lefts_now file_now log_now out out_now s (Stops stops a b c) none = stops_completes s stops none
-  ends_completes lefts_now file_now log_now out out_now s (Runs run entries is read (Whole replies told said a b c)) none =
-      closed_completes s (is.turns, run.scripts, is.texts) (run_file run.image (Some bytes) is.form is.pages) is.empty
-      (closed_whole lefts (Some bytes) (Some log) run entries replies s is told said)
-  ends_completes lefts_now file_now log_now out out_now s (Runs run entries is read (AtSink replies told said a b c)) none =
-      absurd (none device.Sink (subst (IsDevice device.Sink) (sym said) refl))
-  ends_completes lefts_now file_now log_now out out_now s (Runs run entries is read (AtVolume changed marks same said a b c)) none =
-      absurd (none device.Volume (subst (IsDevice device.Volume) (sym said) refl))
-  ends_completes lefts_now file_now log_now out out_now s (Runs run entries is read (AtLog said a b c)) none =
-      absurd (none device.Log (subst (IsDevice device.Log) (sym said) refl))
+  ends_completes lefts_now file_now log_now out out_now s (Runs run entries is read closes) none =
+      ⊎_elim (λ whole. closed_completes s (is.turns, run.scripts, is.texts) (run_file run.image (Some bytes) is.form is.pages) is.empty whole)
+      (λ device. absurd (none device.0 (subst (IsDevice device.0) (sym device.1) refl)))
+      (closed_as lefts (Some bytes) (Some log) run entries file_now log_now out out_now s is closes)
 
 pub completes_run : (lefts lefts_now : List (Option (List ℕ))) (file file_now log log_now out out_now : Option (List ℕ)) (s : Status)
     (RoseVolume RoseLog RoseSink RoseSource : Type 0) → 0 < length lefts → Ends lefts lefts_now file file_now log log_now out out_now s

@@ -1,22 +1,17 @@
 -- Lists of scripts and replies, one after another.
-use Rattle.std.proofs.Common.{◌≡◌, ℕ, zero, suc, ◌+◌, ◌<◌, ◌⊎◌, subst, Bool, true, ◌||◌, List, [], ◌∷◌, ◌++◌, length, take, drop, map, get_or, Option, Some, All, refl, sym, ap, ◌∙◌, inl, inr, ⊎_elim, append_assoc, append-nil, arith}
+use Rattle.std.proofs.Common.{◌≡◌, ℕ, zero, suc, ◌+◌, ◌-◌, ◌<◌, ◌≤◌, ◌⊎◌, subst, Bool, true, ◌||◌, List, [], ◌∷◌, ◌++◌, length, take, drop, map, get_or, Option, Some, All, refl, sym, ap, ◌∙◌, inl, inr, ⊎_elim, append_assoc, append-nil, arith}
 use Rattle.std.specs.Prelude.{slice_get}
 use Rattle.std.specs.List.{list_any, list_all}
 use Rattle.std.specs.Io.KnownBytes.{append_known}
 use Rattle.std.proofs.lemmas.Bool.{and_parts}
-use Rattle.std.proofs.lemmas.Option.{same_Some, slice_get_within, unwrap_or-slice_get}
-use Rattle.std.proofs.lemmas.List.Elements.{All-append}
+use Rattle.std.proofs.lemmas.Option.{same_Some, slice_get_within, slice_get-get_or, unwrap_or-slice_get}
 use Rattle.std.specs.Prelude.{unwrap_or}
-use Rattle.std.proofs.Math.Seq.{take-append_seam}
 use Rattle.std.proofs.lemmas.List.{take_more, take-append-drop, length-take-le}
 use Rattle.spec_script.specs.declared.reply.Reply.{Reply}
 use Rattle.spec_script.specs.Replies.{session_text, texts_from, text_of}
+use Rattle.checkdb_top.specs.Runs.{replies_to}
 use Rattle.vol_dev.specs.Devices.{WroteFront}
 use Rattle.vol_dev.specs.DeviceLaws.{append_known-then, WroteFront-after}
-
--- a part that was written is read again
-pub written_back : {A : Type 0} (xs ys : List A) (n : ℕ) → length xs ≡ n → take n (xs ++ ys) ≡ xs
-written_back xs ys n is = ap (λ m. take m (xs ++ ys)) (sym is) ∙ take-append_seam xs ys
 
 pub any_mapped : {A B : Type 0} (f : A → B) (p : B → Bool) (xs : List A) → list_any (λ x. p (f x)) xs ≡ list_any p (map f xs)
 any_mapped f p [] = refl
@@ -93,10 +88,10 @@ pub told_more : (P : ℕ → List Reply → Type 0) (xs : List (List Reply)) (x 
 told_more P xs x n many before last k r is =
     ⊎_elim (λ at. before k r at) (λ here. subst (λ m. P m r) (sym (here.0 ∙ many)) (subst (P n) here.1 last)) (in_longer xs x r k is)
 
--- one that is alone
-pub all_one : {A : Type 0} (P : A → Type 0) (x : A) → P x → All P (x ∷ [])
-all_one P x is zero d below = is
-all_one P x is (suc k) d below = absurd (omega (arith, below))
-
-pub all_more : {A : Type 0} (P : A → Type 0) (xs : List A) (x : A) → All P xs → P x → All P (xs ++ x ∷ [])
-all_more P xs x all is = All-append P xs (x ∷ []) all (all_one P x is)
+-- the same by the sessions' numbers, from 1
+pub told_each : (P : ℕ → List Reply → Type 0) (xs : List (List Reply)) (n : ℕ) → length xs ≡ n
+    → ((k : ℕ) (r : List Reply) → slice_get xs k ≡ Some r → P (k + 1) r) → (s : ℕ) → 0 < s → s ≤ n → P s (replies_to xs s)
+told_each P xs n many each s above within =
+    let same : s - 1 + 1 ≡ s = omega (arith, above) in
+    let below : s - 1 < length xs = omega (arith, above, within, many) in
+    subst (λ m. P m (replies_to xs s)) same (each (s - 1) (replies_to xs s) (slice_get-get_or xs (s - 1) [] below))

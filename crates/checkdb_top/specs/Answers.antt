@@ -1,20 +1,17 @@
--- What the status of a check says of the file and of the output.
-use Rattle.std.specs.Prelude.{◌≡◌, ◌≢◌, ℕ, IsTrue, List, [], length, Option, IfSome, ⊤}
+-- What the status of a command over a still file says of the file and of the output.
+use Rattle.std.specs.Prelude.{◌≡◌, ℕ, Bool, true, false, IsTrue, List, length, Option, Some, IfSome}
 use Rattle.std.specs.Io.KnownBytes.{append_known}
-use Rattle.spec_file.specs.declared.geometry.Geometry.{Geometry}
 use Rattle.spec_file.specs.Image.{Image, pages_of}
 use Rattle.spec_file.specs.FileForm.{size_passes}
-use Rattle.spec_check.specs.declared.report.CheckReport.{CheckReport}
-use Rattle.spec_tables.specs.Written.{IsCheckOf}
-use Rattle.spec_check.specs.Text.{report_text}
 use Rattle.vol_dev.specs.Devices.{WroteFront}
+use Rattle.run_file.specs.declared.why.FileWhy.{FileWhy}
+use Rattle.pg_base.specs.declared.reader.ReadStop.{ReadStop}
+use Rattle.pg_base.specs.declared.reader.ReadStop.TheVariants.{Fault, Ended, NoMemory}
 use Rattle.checkdb_top.specs.declared.status.Device.{Device}
 use Rattle.checkdb_top.specs.declared.status.Device.TheVariants as device
 use Rattle.checkdb_top.specs.declared.status.Status.{Status}
 use Rattle.checkdb_top.specs.declared.status.Status.TheVariants as status
-use Rattle.pg_base.specs.declared.reader.ReadStop.{ReadStop}
-use Rattle.pg_base.specs.declared.reader.ReadStop.TheVariants.{Fault, Ended, NoMemory}
-use Rattle.checkdb_top.specs.Form.{IsRefusedFor, IsRefusedAs, IsChecked, IsOpenedAs}
+use Rattle.checkdb_top.specs.Form.{IsRefusedFor, Passes}
 
 -- the status names this device
 abbrev pub IsDevice : Device → Status → Type 0
@@ -26,60 +23,49 @@ abbrev pub IsWordsAt : ℕ → Status → Type 0
 IsWordsAt at (status.Words place) = place ≡ at
 IsWordsAt at _ = ⊥
 
--- the file passes its tests, and the report is its written check, where the file is told
-abbrev pub IsReportOf : Option (List ℕ) → CheckReport → Type 0
-IsReportOf told report = IfSome told (λ bytes. (g : Geometry) × IsChecked g bytes × IsCheckOf g (pages_of bytes) report)
+-- the status of what is written whole: whether it tells of an error
+abbrev pub ended : Bool → Status
+ended true = status.Errors
+ended false = status.Clean
 
--- what each status of a check says of the file, and of the output before and after: the whole report
--- was added at Clean and Errors, a front of it after a failure of the output, and else nothing. No
--- memory is wanted before the size has passed.
-abbrev pub Answers : Option (List ℕ) → Option (List ℕ) → Option (List ℕ) → Status → Type 0
-Answers told before after status.Clean =
-    (report : CheckReport) × IsReportOf told report × (report.errors ≡ []) × (after ≡ append_known before (report_text report))
-Answers told before after status.Errors =
-    (report : CheckReport) × IsReportOf told report × (report.errors ≢ []) × (after ≡ append_known before (report_text report))
-Answers told before after (status.File why) = IfSome told (IsRefusedFor why) × (after ≡ before)
-Answers told before after (status.Device device.Volume) = after ≡ before
-Answers told before after (status.Device device.Sink) =
-    (report : CheckReport) × IsReportOf told report × WroteFront before after (report_text report)
-Answers told before after status.Memory = IfSome told (λ bytes. IsTrue (size_passes (length bytes))) × (after ≡ before)
-Answers told before after (status.Device device.Log) = ⊥
-Answers told before after (status.Device device.Source) = ⊥
-Answers told before after (status.Words at) = ⊥
-Answers told before after (status.Script script line why) = ⊥
-Answers told before after status.LogSize = ⊥
-Answers told before after status.LogLater = ⊥
-Answers told before after status.NoReport = ⊥
+-- what a command prints: a value that an image has, its text, and whether it tells of an error; and, where an image may have
+-- none, the word of the command line that is wrong then
+pub record Printing : Type 1 where
+  pub Value : Type 0
+  pub Has : Value → Image → Type 0
+  pub text : Value → List ℕ
+  pub tells_error : Value → Bool
+  pub word : Option ℕ
 
--- what the status says of a file that isn't read as an image: it fails, or its size is wrong
-abbrev pub StopsAtSize : Option (List ℕ) → Status → Type 0
-StopsAtSize told (status.File why) = IfSome told (IsRefusedFor why)
-StopsAtSize told (status.Device device.Volume) = ⊤
-StopsAtSize told _ = ⊥
+-- the file passes its tests and has this value
+pub record HasValue (c : Printing) (x : c.Value) (file : List ℕ) : Type 0 where
+  pub passes : Passes file
+  pub has : c.Has x (pages_of file)
 
--- what writing a report says of the output
-abbrev pub Reports : CheckReport → Option (List ℕ) → Option (List ℕ) → Status → Type 0
-Reports report before after status.Clean = (report.errors ≡ []) × (after ≡ append_known before (report_text report))
-Reports report before after status.Errors = (report.errors ≢ []) × (after ≡ append_known before (report_text report))
-Reports report before after (status.Device device.Sink) = WroteFront before after (report_text report)
-Reports report before after _ = ⊥
+-- the file passes its tests and has none
+pub record HasNone (c : Printing) (file : List ℕ) : Type 0 where
+  pub passes : Passes file
+  pub none : (x : c.Value) → c.Has x (pages_of file) → ⊥
 
--- the same for the image of a file whose size has passed
-abbrev pub AnswersImage : Option Image → Option (List ℕ) → Option (List ℕ) → Status → Type 0
-AnswersImage told before after (status.File why) = IfSome told (IsRefusedAs why) × (after ≡ before)
-AnswersImage told before after (status.Device device.Volume) = after ≡ before
-AnswersImage told before after status.Memory = after ≡ before
-AnswersImage told before after (status.Words at) = ⊥
-AnswersImage told before after (status.Device device.Log) = ⊥
-AnswersImage told before after (status.Device device.Source) = ⊥
-AnswersImage told before after (status.Script script line why) = ⊥
-AnswersImage told before after status.LogSize = ⊥
-AnswersImage told before after status.LogLater = ⊥
-AnswersImage told before after status.NoReport = ⊥
-AnswersImage told before after s =
-    (report : CheckReport) × IfSome told (λ image. (g : Geometry) × IsOpenedAs g image × IsCheckOf g image report) × Reports report before after s
+-- a text was written, and the status is this one; or the output failed, and has a front of the text
+pub data Prints (text : List ℕ) (whole : Status) (before after : Option (List ℕ)) (s : Status) : Type 0 where
+  AllPrinted : s ≡ whole → after ≡ append_known before text → Prints text whole before after s
+  FrontPrinted : s ≡ status.Device device.Sink → WroteFront before after text → Prints text whole before after s
 
--- the status of a check that met a stop in reading
+-- a command ends before it has what it prints: a test of the file fails, or the file, or memory, which isn't wanted before
+-- the size has passed
+pub data Stops (told : Option (List ℕ)) (s : Status) : Type 0 where
+  Refused : (why : FileWhy) → s ≡ status.File why → IfSome told (IsRefusedFor why) → Stops told s
+  Unread : s ≡ status.Device device.Volume → Stops told s
+  OutOfMemory : s ≡ status.Memory → IfSome told (λ file. IsTrue (size_passes (length file))) → Stops told s
+
+-- what the status of a command says of the file, and of the output before and after
+pub data Answers (c : Printing) (told before after : Option (List ℕ)) (s : Status) : Type 0 where
+  Printed : (x : c.Value) → IfSome told (HasValue c x) → Prints (c.text x) (ended (c.tells_error x)) before after s → Answers c told before after s
+  Lacking : (at : ℕ) → c.word ≡ Some at → IfSome told (HasNone c) → s ≡ status.Words at → after ≡ before → Answers c told before after s
+  Stopped : Stops told s → after ≡ before → Answers c told before after s
+
+-- the status of a command that met a stop in reading
 abbrev pub stopped : ReadStop → Status
 stopped (Fault p) = status.Device device.Volume
 stopped Ended = status.Memory

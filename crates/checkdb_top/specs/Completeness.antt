@@ -1,6 +1,6 @@
 -- Which status a check or a run ends with where no device fails.
-use Rattle.std.specs.Prelude.{◌≡◌, ◌≢◌, ◌⊎◌, ℕ, ◌<◌, ◌≤◌, false, List, [], length, Option}
-use Rattle.spec_file.specs.declared.geometry.Geometry.{Geometry}
+use Rattle.std.specs.Prelude.{◌≡◌, ◌≢◌, ◌⊎◌, ℕ, ◌<◌, ◌≤◌, false, List, [], length, Option, Some}
+use Rattle.spec_file.specs.Image.{Image, pages_of}
 use Rattle.spec_file.specs.FileForm.{size_passes}
 use Rattle.run_file.specs.declared.why.FileWhy.{FileWhy}
 use Rattle.run_file.specs.declared.why.FileWhy.TheVariants.{Size}
@@ -10,19 +10,25 @@ use Rattle.run_file.specs.Sources.{IsFirstOf}
 use Rattle.spec_script.specs.declared.stop.ScriptWhy.{ScriptWhy}
 use Rattle.checkdb_top.specs.declared.status.Status.{Status}
 use Rattle.checkdb_top.specs.declared.status.Status.TheVariants as status
-use Rattle.checkdb_top.specs.Form.{IsRefusedFor, IsChecked}
+use Rattle.checkdb_top.specs.Form.{IsRefusedFor, Passes}
+use Rattle.checkdb_top.specs.Answers.{Printing, ended}
 use Rattle.checkdb_top.specs.Start.{HaveTexts}
-
--- a file of a wrong size is refused for that; one that is refused for anything else, or that is checked,
--- ends so unless memory runs out
-pub record Completes (bytes : List ℕ) (s : Status) : Type 0 where
-  pub size : size_passes (length bytes) ≡ false → s ≡ status.File Size
-  pub refused : (why : FileWhy) → IsRefusedFor why bytes → (s ≡ status.File why) ⊎ (s ≡ status.Memory)
-  pub checked : (g : Geometry) → IsChecked g bytes → ((s ≡ status.Clean) ⊎ (s ≡ status.Errors)) ⊎ (s ≡ status.Memory)
 
 -- this status, or want of memory
 abbrev pub IsOrMemory : Status → Status → Type 0
 IsOrMemory expected s = (s ≡ expected) ⊎ (s ≡ status.Memory)
+
+-- the status says of an image what it has, or that it has none
+pub data Tells (c : Printing) (image : Image) (s : Status) : Type 0 where
+  OfValue : (x : c.Value) → c.Has x image → s ≡ ended (c.tells_error x) → Tells c image s
+  OfNone : (at : ℕ) → c.word ≡ Some at → ((x : c.Value) → c.Has x image → ⊥) → s ≡ status.Words at → Tells c image s
+
+-- a file of a wrong size is refused for that; one that is refused for anything else, and one that passes its tests,
+-- ends a command so unless memory runs out
+pub record Completes (c : Printing) (file : List ℕ) (s : Status) : Type 0 where
+  pub size : size_passes (length file) ≡ false → s ≡ status.File Size
+  pub refused : (why : FileWhy) → IsRefusedFor why file → IsOrMemory (status.File why) s
+  pub passes : Passes file → Tells c (pages_of file) s ⊎ (s ≡ status.Memory)
 
 -- the status of a run that is closed whole, with each check's report or want of memory
 abbrev pub IsWholeEnd : Status → Type 0

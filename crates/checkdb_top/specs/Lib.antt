@@ -1,10 +1,10 @@
 pub mod Status
 pub mod WholeFiles
 pub mod Form
-pub mod Opening
 pub mod Answers
-pub mod Shows
+pub mod Printings
 pub mod Completeness
 pub mod Start
+pub mod Writes
 pub mod Runs
 pub mod Readiness

@@ -1,23 +1,17 @@
 -- What a run begins with, and where its sessions stand when all are done.
-use Rattle.std.specs.Prelude.{◌≡◌, ℕ, ◌<◌, ◌≤◌, ◌^◌, All, List, [], ◌++◌, length, map, Option}
+use Rattle.std.specs.Prelude.{◌≡◌, ℕ, ◌<◌, ◌≤◌, ◌^◌, All, List, [], ◌++◌, length, map}
 use Rattle.spec_file.specs.declared.geometry.Geometry.TheVariants.{Small}
 use Rattle.spec_file.specs.Image.{Image}
 use Rattle.spec_script.specs.declared.statement.Statement.{Statement}
 use Rattle.spec_script.specs.declared.reply.Reply.{Reply}
 use Rattle.spec_plan.specs.ReplayForm.{IsReplayForm}
+use Rattle.spec_run.specs.Begun.{Setting}
+use Rattle.spec_run.specs.Entries.{Entry}
 use Rattle.spec_run.specs.Turns.{IsWhole, Run}
-use Rattle.ck_facts.specs.Maps.{HasShape}
+use Rattle.spec_file.specs.Places.{HasShape}
 use Rattle.db_core.specs.Runs.{rest_from, setting_of, turns_of}
 use Rattle.db_core.specs.States.{Db}
 use Rattle.run_file.specs.Sources.{AreShort, AreTurnsOf}
-use Rattle.std.specs.Io.KnownBytes.{append_known}
-use Rattle.spec_script.specs.Replies.{text_of}
-use Rattle.vol_dev.specs.Devices.{WroteFront}
-use Rattle.vol_pool.specs.Writing.{Leaves, StopsWriting}
-use Rattle.run_close.specs.declared.close.Close.{Close}
-use Rattle.checkdb_top.specs.declared.status.Device.TheVariants as device
-use Rattle.checkdb_top.specs.declared.status.Status.{Status}
-use Rattle.checkdb_top.specs.declared.status.Status.TheVariants as status
 use Rattle.checkdb_top.specs.declared.start.Start.{Start}
 use Rattle.checkdb_top.specs.Runs.{AreStatements}
 
@@ -34,6 +28,10 @@ pub record MayBegin (start : Start) : Type 0 where
   pub proper : AreStatements (scripts_of start)
   pub inside : AreTurnsOf (length start.texts.scripts.items) start.texts.schedule.items
 
+-- turns have made the history, from its beginning
+abbrev pub IsMade : Setting → List Entry → Type 0
+IsMade run entries = (turns : List ℕ) × Run run [] turns entries
+
 -- the sessions have had their turns and are done
 pub record IsOver (image : Image) (turns : List (ℕ × ℕ)) (scripts : List (List Statement)) (core : Db) : Type 0 where
   pub run : core.run ≡ setting_of image scripts
@@ -45,14 +43,3 @@ pub record IsOver (image : Image) (turns : List (ℕ × ℕ)) (scripts : List (L
 -- the replies of each session can be numbered
 abbrev pub AreFew : List (List Reply) → Type 0
 AreFew replies = All (λ session. length session < 2 ^ 32) replies
-
--- what was written: all, or up to where a device failed
-pub data Written (close : Close) (image : Image) (replies : List (List Reply)) (known : Status) (file file_now log log_now out out_now : Option (List ℕ)) (s : Status) : Type 0 where
-  IsAll : s ≡ known → log_now ≡ append_known log close.bytes.items → Leaves (λ before. image) file file_now
-      → out_now ≡ append_known out (text_of replies) → Written close image replies known file file_now log log_now out out_now s
-  NoOutput : s ≡ status.Device device.Sink → log_now ≡ append_known log close.bytes.items → Leaves (λ before. image) file file_now
-      → WroteFront out out_now (text_of replies) → Written close image replies known file file_now log log_now out out_now s
-  NoFile : s ≡ status.Device device.Volume → log_now ≡ append_known log close.bytes.items
-      → StopsWriting close.changed.items image file file_now → out_now ≡ out → Written close image replies known file file_now log log_now out out_now s
-  NoLog : s ≡ status.Device device.Log → WroteFront log log_now close.bytes.items → file_now ≡ file
-      → out_now ≡ out → Written close image replies known file file_now log log_now out out_now s

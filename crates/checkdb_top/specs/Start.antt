@@ -1,6 +1,5 @@
 -- What a run begins with, and why it doesn't begin.
 use Rattle.std.specs.Prelude.{◌≡◌, ◌≢◌, ℕ, ◌<◌, ◌≤◌, List, [], length, Option, IfSome, ⊤}
-use Rattle.pg_base.specs.Faults.{Rose}
 use Rattle.spec_script.specs.declared.statement.Statement.{Statement}
 use Rattle.run_file.specs.declared.stop.SourcesStop.{SourcesStop}
 use Rattle.run_file.specs.declared.stop.SourcesStop.TheVariants as sources
@@ -11,7 +10,7 @@ use Rattle.run_file.specs.declared.log.LogWhy.TheVariants as log
 use Rattle.checkdb_top.specs.declared.status.Device.TheVariants as device
 use Rattle.checkdb_top.specs.declared.status.Status.{Status}
 use Rattle.checkdb_top.specs.declared.status.Status.TheVariants as status
-use Rattle.run_file.specs.Sources.{AreTexts, IsFirstOf, OneRose}
+use Rattle.run_file.specs.Sources.{AreTexts, IsFirstOf}
 use Rattle.run_file.specs.Opening.{IsRefusedForRun, IsRunFile}
 use Rattle.run_file.specs.Log.{longest_log}
 
@@ -60,10 +59,3 @@ StopsStart lefts told log_told status.Clean = ⊥
 StopsStart lefts told log_told status.Errors = ⊥
 StopsStart lefts told log_told (status.Words at) = ⊥
 StopsStart lefts told log_told status.NoReport = ⊥
-
--- a device is named only where its count rose
-abbrev pub StartFault : List ℕ → List ℕ → ℕ → ℕ → ℕ → ℕ → Status → Type 0
-StartFault before now volume volume_now log_before log_now (status.Device device.Source) = OneRose before now
-StartFault before now volume volume_now log_before log_now (status.Device device.Volume) = Rose volume volume_now
-StartFault before now volume volume_now log_before log_now (status.Device device.Log) = Rose log_before log_now
-StartFault before now volume volume_now log_before log_now _ = ⊤

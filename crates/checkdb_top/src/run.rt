@@ -1,24 +1,25 @@
 // A run of sessions on one thread, from its sources to the text of its replies.
-ghost use Rattle.std.specs.Prelude.{◌≡◌, ◌+◌, ◌-◌, ◌<◌, ◌≤◌, ◌^◌, [], All, length, map, reverse, IfOk, IfErr, IfSome, OnOk, OnErr, IsTrue, List, ℕ, ◌++◌, false};
+ghost use Rattle.std.specs.Prelude.{◌≡◌, ◌+◌, ◌-◌, ◌<◌, ◌≤◌, ◌^◌, [], length, map, IfOk, IfSome, OnOk, OnErr, false};
 ghost use Rattle.std.specs.List.{list_any};
 ghost use Rattle.std.specs.Io.KnownBytes.{append_known};
 ghost use Rattle.pg_base.specs.Faults.{Rose};
 ghost use Rattle.vol_dev.specs.Devices.{WroteFront};
 ghost use Rattle.spec_script.specs.Replies.{text_of};
 ghost use Rattle.spec_run.specs.Entries.{items_of};
-ghost use Rattle.spec_run.specs.Turns.{IsLegal};
-ghost use Rattle.run_file.specs.Sources.{NoneFell, OneRose};
+ghost use Rattle.spec_run.specs.Turns.{IsWhole};
+ghost use Rattle.law_run.specs.Laws.{IsStart};
+ghost use Rattle.run_file.specs.Sources.{HasFailedSource, NoneFell};
 ghost use Rattle.run_file.specs.Opening.{AreAllPages};
-ghost use Rattle.spec_plan.specs.ReplayForm.{IsReplayForm};
-ghost use Rattle.spec_file.specs.declared.geometry.Geometry.TheVariants.{Small};
 ghost use Rattle.checkdb_top.specs.Answers.{IsDevice};
-ghost use Rattle.checkdb_top.specs.Runs.{ends_short, has_errors, ended_as, AreAllTold, Closes, Ends};
+ghost use Rattle.checkdb_top.specs.Runs.{ends_short, has_errors, ended_as, replies_to, AreAllTold, Closes, Ends};
+ghost use Rattle.checkdb_top.specs.Writes.{Writes};
 ghost use Rattle.db_core.specs.Reports.{is_terminated};
-ghost use Rattle.checkdb_top.specs.Readiness.{IsOver, MayBegin, AreFew, Written};
+ghost use Rattle.checkdb_top.specs.Readiness.{IsMade, IsOver, MayBegin, AreFew};
 ghost use Rattle.run_close.specs.Close.{MayClose};
 ghost use Rattle.checkdb_top.specs.declared.status.Device.{Device as AnyDevice};
 ghost use Rattle.checkdb_top.specs.declared.status.Device.TheVariants.{Volume, Log, Source, Sink};
 
+use crate::check::has_error;
 use crate::start::{Start, start_run};
 use crate::{Device, Status};
 use db_core::Core;
@@ -45,7 +46,8 @@ fn replayed(alloc: Global, start: Start) -> Result<Core, NoMemory>
 
 // What all sessions answered.
 fn replies_of(alloc: Global, core: &Core) -> Result<Vec<&[Reply]>, NoMemory>
-    ensures told { IfOk result (λ all. AreAllTold core.now.run (items_of core.now.entries) (map (λ r. r.now) all.items)) }
+    ensures count { IfOk result (λ all. length all.items ≡ length core.now.run.scripts) }
+    ensures told { IfOk result (λ all. AreAllTold core.now.run (items_of core.now.entries) (replies_to (map (λ r. r.now) all.items))) }
     ensures few { IfOk result (λ all. AreFew (map (λ r. r.now) all.items)) }
 {
     let mut all = Vec::new(alloc);
@@ -65,7 +67,7 @@ fn is_with_errors(reply: &Reply) -> bool
     ensures { result ≡ has_errors reply.now }
 {
     match reply {
-        Reply::Report { report, .. } => !report.errors.is_empty(),
+        Reply::Report { report, .. } => has_error(report),
         _ => false,
     }
 }
@@ -137,8 +139,8 @@ fn write_run<V: vol_dev::Volume, L: LogFile, K: vol_dev::Sink>(
     requires few { AreFew (map (λ r. r.now) replies.now) }
     requires sessions { length replies.now < 2 ^ 32 }
     requires known { (d : AnyDevice) → ¬ IsDevice d known }
-    ensures written { Written close.now frames.now (map (λ r. r.now) replies.now) known (V.contents volume.old) (V.contents volume.new)
-        (L.contents log.old) (L.contents log.new) (K.contents out.old) (K.contents out.new) result }
+    ensures writes { Writes close.now.bytes.items close.now.changed.items frames.now (text_of (map (λ r. r.now) replies.now)) known
+        (V.contents volume.old) (V.contents volume.new) (L.contents log.old) (L.contents log.new) (K.contents out.old) (K.contents out.new) result }
     ensures volume_fault { IsDevice Volume result → Rose (V.faults volume.old) (V.faults volume.new) }
     ensures log_fault { IsDevice Log result → Rose (L.faults log.old) (L.faults log.new) }
     ensures sink_fault { IsDevice Sink result → Rose (K.faults out.old) (K.faults out.new) }
@@ -173,12 +175,14 @@ fn close_run<V: vol_dev::Volume, L: LogFile, K: vol_dev::Sink>(
     out: &mut K,
 ) -> Result<Status, NoMemory>
     requires opened { core.now.run.opened ≡ [] }
+    requires start { IsStart core.now.run }
+    requires made { IsMade core.now.run core.now.entries }
+    requires whole { IsWhole core.now.run core.now.entries }
     requires few { length core.now.run.image ≤ 88 }
     requires sessions { length core.now.run.scripts ≤ 16 }
     requires file { IfSome (V.contents volume.old) (AreAllPages core.now.run.image) }
     ensures closes { IfOk result (Closes core.now.run core.now.entries (V.contents volume.old) (V.contents volume.new)
         (L.contents log.old) (L.contents log.new) (K.contents out.old) (K.contents out.new)) }
-    ensures legal { IfOk result (λ _. IsLegal core.now.run (items_of core.now.entries)) }
     ensures volume { OnErr result (V.contents volume.new ≡ V.contents volume.old) }
     ensures log { OnErr result (L.contents log.new ≡ L.contents log.old) }
     ensures out { OnErr result (K.contents out.new ≡ K.contents out.old) }
@@ -213,7 +217,7 @@ pub fn run<V: vol_dev::Volume, L: LogFile, S: vol_dev::Source, K: vol_dev::Sink>
     ensures volume_fault { IsDevice Volume result → Rose (V.faults volume.old) (V.faults volume.new) }
     ensures log_fault { IsDevice Log result → Rose (L.faults log.old) (L.faults log.new) }
     ensures sink_fault { IsDevice Sink result → Rose (K.faults out.old) (K.faults out.new) }
-    ensures source_fault { IsDevice Source result → OneRose (map S.faults sources.old) (map S.faults sources.new) }
+    ensures source_fault { IsDevice Source result → HasFailedSource (map S.left sources.old) (map S.faults sources.old) (map S.faults sources.new) }
     ensures volume_faults { V.faults volume.old ≤ V.faults volume.new }
     ensures log_faults { L.faults log.old ≤ L.faults log.new }
     ensures sink_faults { K.faults out.old ≤ K.faults out.new }

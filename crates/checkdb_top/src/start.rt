@@ -1,17 +1,20 @@
 // What a run begins with: its texts, the pages of its file, and an empty log.
 ghost use Rattle.std.specs.Prelude.{◌≡◌, ◌-◌, ◌<◌, ◌≤◌, All, length, map, IfOk, IfErr, OnOk, IfSome};
 ghost use Rattle.std.specs.Io.KnownBytes.{IsAtEnd};
+ghost use Rattle.pg_base.specs.Faults.{Rose};
 ghost use Rattle.spec_file.specs.declared.geometry.Geometry.TheVariants.{Small};
 ghost use Rattle.spec_plan.specs.ReplayForm.{IsReplayForm};
-ghost use Rattle.ck_facts.specs.Maps.{HasShape};
+ghost use Rattle.spec_file.specs.Places.{HasShape};
 ghost use Rattle.run_file.specs.Opening.{AreAllPages};
-ghost use Rattle.run_file.specs.Sources.{AreProper, AreShort, AreTexts, AreTurnsOf, NoneFell};
-ghost use Rattle.checkdb_top.specs.Start.{IsEmptyLog, StopsStart, StartFault, sources_start, file_start, log_start};
+ghost use Rattle.run_file.specs.Sources.{AreProper, AreShort, AreTexts, AreTurnsOf, HasFailedSource, NoneFell};
+ghost use Rattle.checkdb_top.specs.Answers.{IsDevice};
+ghost use Rattle.checkdb_top.specs.Start.{IsEmptyLog, StopsStart, sources_start, file_start, log_start};
+ghost use Rattle.checkdb_top.specs.declared.status.Device.TheVariants.{Volume, Log, Source, Sink};
 
 use crate::{Device, Status};
 use run_file::{FileStop, LogWhy, SourcesStop, Texts, open_file, open_log, read_sources};
 use std::alloc::Global;
-use vol_dev::{LogFile, Source, Volume};
+use vol_dev::LogFile;
 use vol_pool::Frames;
 
 /// What a run begins with.
@@ -58,7 +61,7 @@ fn of_log(stop: LogWhy) -> Status
 
 /// What a run begins with, or the status of one that doesn't begin. The sources are read first, in their order, then the file, then the log;
 /// nothing is written.
-pub fn start_run<V: Volume, L: LogFile, S: Source>(
+pub fn start_run<V: vol_dev::Volume, L: LogFile, S: vol_dev::Source>(
     alloc: Global,
     volume: &mut V,
     log: &mut L,
@@ -77,8 +80,10 @@ pub fn start_run<V: Volume, L: LogFile, S: Source>(
     ensures pages { IfOk result (λ start. IfSome (V.contents volume.old) (AreAllPages start.frames)) }
     ensures empty { OnOk result (IfSome (L.contents log.old) IsEmptyLog) }
     ensures stops { IfErr result (StopsStart (map S.left sources.old) (V.contents volume.old) (L.contents log.old)) }
-    ensures fault { IfErr result (StartFault (map S.faults sources.old) (map S.faults sources.new) (V.faults volume.old) (V.faults volume.new)
-        (L.faults log.old) (L.faults log.new)) }
+    ensures volume_fault { IfErr result (λ s. IsDevice Volume s → Rose (V.faults volume.old) (V.faults volume.new)) }
+    ensures log_fault { IfErr result (λ s. IsDevice Log s → Rose (L.faults log.old) (L.faults log.new)) }
+    ensures source_fault { IfErr result (λ s. IsDevice Source s → HasFailedSource (map S.left sources.old) (map S.faults sources.old) (map S.faults sources.new)) }
+    ensures sink_fault { IfErr result (λ s. ¬ IsDevice Sink s) }
     ensures volume { V.contents volume.new ≡ V.contents volume.old }
     ensures log { L.contents log.new ≡ L.contents log.old }
     ensures source_faults { NoneFell (map S.faults sources.old) (map S.faults sources.new) }

@@ -3,11 +3,11 @@ ghost use Rattle.pg_base.specs.Faults.{Rose};
 ghost use Rattle.app_words.specs.Words.{first_wrong, Asks, AsksStill};
 ghost use Rattle.app_words.specs.declared.command.Command.TheVariants.{Check, ShowPage, Replay};
 ghost use Rattle.spec_file.specs.declared.data.PageNo.{PageNo};
-ghost use Rattle.run_file.specs.Sources.{AreKnown, NoneFell, OneRose};
+ghost use Rattle.run_file.specs.Sources.{AreKnown, HasFailedSource, NoneFell, OneRose};
 ghost use Rattle.checkdb_top.specs.Runs.{Ends};
 ghost use Rattle.checkdb_top.specs.Answers.{Answers, IsDevice, IsWordsAt};
 ghost use Rattle.checkdb_top.specs.Completeness.{Completes, CompletesRun};
-ghost use Rattle.checkdb_top.specs.Shows.{Shows, CompletesPage};
+ghost use Rattle.checkdb_top.specs.Printings.{check_printing, page_printing};
 ghost use Rattle.checkdb_top.specs.declared.status.Device.TheVariants.{Volume, Sink};
 ghost use Rattle.checkdb_top.specs.declared.status.Status.TheVariants.{NoReport};
 
@@ -55,24 +55,28 @@ pub fn plain_top<V: vol_dev::Volume, L: LogFile, S: Source, K: vol_dev::Sink, G:
         (result.volume ≡ volume) × (result.log ≡ log) × (sources.new ≡ sources.old) × (out.new ≡ out.old) }
 
     // What each status of a check says of the file and of the output; nothing but the output changes.
-    ensures answers { Asks Check words.now → Answers (V.contents volume) (K.contents out.old) (K.contents out.new) result.status }
+    ensures answers { Asks Check words.now → Answers check_printing (V.contents volume) (K.contents out.old) (K.contents out.new) result.status }
     ensures volume { AsksStill words.now → V.contents result.volume ≡ V.contents volume }
     ensures log { AsksStill words.now → result.log ≡ log }
     ensures sources { AsksStill words.now → sources.new ≡ sources.old }
 
-    // What each status of `page` says of the file and of the output.
-    ensures shows { (p : PageNo) → Asks (ShowPage p) words.now → Shows p.0 (V.contents volume) (K.contents out.old) (K.contents out.new) result.status }
+    // The same of `page`.
+    ensures shows { (p : PageNo) → Asks (ShowPage p) words.now → Answers (page_printing p.0) (V.contents volume) (K.contents out.old) (K.contents out.new) result.status }
 
     // How a run ends.
     ensures ends { Asks Replay words.now → Ends (map S.left sources.old.items) (map S.left sources.new.items)
         (V.contents volume) (V.contents result.volume) (L.contents log) (L.contents result.log) (K.contents out.old) (K.contents out.new) result.status }
 
-    // A device is named only where its count of faults rose, also where it tells nothing; a check
-    // never names log and sources.
+    // No source is dropped or added.
+    ensures count { length sources.new.items ≡ length sources.old.items }
+
+    // A device is named only where its count of faults rose, also where it tells nothing, and a source only
+    // where those before it are right; a check never names log and sources.
     ensures volume_fault { IsDevice Device.Volume result.status → Rose (V.faults volume) (V.faults result.volume) }
     ensures sink_fault { IsDevice Device.Sink result.status → Rose (K.faults out.old) (K.faults out.new) }
     ensures log_fault { IsDevice Device.Log result.status → Rose (L.faults log) (L.faults result.log) }
-    ensures source_fault { IsDevice Device.Source result.status → OneRose (map S.faults sources.old.items) (map S.faults sources.new.items) }
+    ensures source_fault { IsDevice Device.Source result.status →
+        HasFailedSource (map S.left sources.old.items) (map S.faults sources.old.items) (map S.faults sources.new.items) }
     ensures volume_faults { V.faults volume ≤ V.faults result.volume }
     ensures log_faults { L.faults log ≤ L.faults result.log }
     ensures source_faults { NoneFell (map S.faults sources.old.items) (map S.faults sources.new.items) }
@@ -82,10 +86,10 @@ pub fn plain_top<V: vol_dev::Volume, L: LogFile, S: Source, K: vol_dev::Sink, G:
     // memory.
     ensures complete { Asks Check words.now → IfSome (V.contents volume) (λ bytes.
         ¬ Rose (V.faults volume) (V.faults result.volume) → ¬ Rose (K.faults out.old) (K.faults out.new) →
-        Completes bytes result.status) }
+        Completes check_printing bytes result.status) }
     ensures complete_page { (p : PageNo) → Asks (ShowPage p) words.now → IfSome (V.contents volume) (λ bytes.
         ¬ Rose (V.faults volume) (V.faults result.volume) → ¬ Rose (K.faults out.old) (K.faults out.new) →
-        CompletesPage p.0 bytes result.status) }
+        Completes (page_printing p.0) bytes result.status) }
 
     // Where a run is asked for, all that it reads is told and no device fails, the sources, the file and
     // the log fix the status, but for want of memory.

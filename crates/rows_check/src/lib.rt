@@ -1,25 +1,14 @@
-//! The worked rows of the check of a still file and of runs of sessions, run through `plain_top` over devices in memory.
+//! The worked rows of the check of a still file's maps, chains and uses, and of the words, the file's tests and
+//! the devices.
 #![tactic(auto)]
 
 #[cfg(test)]
 mod chain_tests;
 #[cfg(test)]
-mod fault_tests;
+mod file_tests;
 #[cfg(test)]
-mod files;
+mod interval_tests;
 #[cfg(test)]
-mod link_tests;
+mod map_tests;
 #[cfg(test)]
-mod objects;
-#[cfg(test)]
-mod page_rule_tests;
-#[cfg(test)]
-mod page_tests;
-#[cfg(test)]
-mod replay_tests;
-#[cfg(test)]
-mod tests;
-#[cfg(test)]
-mod tree_tests;
-#[cfg(test)]
-mod trees;
+mod use_tests;

@@ -1,7 +1,5 @@
 // The close of a run: its log, and then its pages.
-ghost use Rattle.std.specs.Prelude.{◌≡◌, ◌*◌, ◌≤◌, ◌^◌, All, IsTrue, flat_map, length, IfOk, OnOk, OnErr, IfSome};
-ghost use Rattle.std.specs.Option.{ForSome};
-ghost use Rattle.pg_base.specs.Faults.{Rose};
+ghost use Rattle.std.specs.Prelude.{◌≡◌, ◌≤◌, All, IsTrue, flat_map, IfOk};
 ghost use Rattle.spec_log.specs.Bytes.{item_bytes};
 ghost use Rattle.spec_log.specs.Items.{has_form};
 ghost use Rattle.run_close.specs.Close.{IsCloseOf, MayClose, ClosesBy, CloseFault};

@@ -1,5 +1,5 @@
-use Rattle.std.proofs.Common.{◌≤◌, length}
+use Rattle.std.proofs.Common.{◌≡◌, length}
 use Rattle.checkdb.proofs.sources_of.Given as goal
 
-abbrev pub invariant-names : goal.invariant-names
-invariant-names g l = length l.sources.items ≤ 17
+abbrev pub invariant-loop-name : goal.invariant-loop-name
+invariant-loop-name g l = length l.sources.items ≡ l.name-index

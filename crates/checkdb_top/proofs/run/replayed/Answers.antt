@@ -2,6 +2,7 @@ use Rattle.std.proofs.Common.{length, subst, sym, ap, ◌∙◌, ◌≤◌}
 use Rattle.std.specs.List.{list_all}
 use Rattle.std.proofs.lemmas.List.{length-map}
 use Rattle.spec_script.specs.Lines.{is_statement}
+use Rattle.spec_run.specs.Begun.{Setting}
 use Rattle.run_file.specs.Sources.{IsTurnOf}
 use Rattle.checkdb_top.proofs.Running.{at_place, passes_at}
 use Rattle.checkdb_top.proofs.run.replayed.Goals as goal
@@ -13,5 +14,5 @@ begin-requires-clause-proper c = λ k n script st at within.
 pub replay-requires : goal.replay-requires
 replay-requires c = λ k p at.
     let turn = at_place (IsTurnOf (length c.args.start.texts.scripts.items)) _ k p c.requires.inside (rw (← c.deref.ensures.value) at) in
-    let many = ap (λ core. length core.run.scripts) c.in_ok-core.ensures ∙ length-map c.args.start.texts.scripts.items (λ script. script.items) in
+    let many = ap (λ (r : Setting). length r.scripts) c.in_ok-core.ensures.0 ∙ length-map c.args.start.texts.scripts.items (λ script. script.items) in
     (turn.0, subst (λ m. p.0 ≤ m) (sym many) turn.1)

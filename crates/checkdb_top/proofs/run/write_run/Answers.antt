@@ -1,4 +1,7 @@
+use Rattle.std.proofs.Common.{refl}
 use Rattle.checkdb_top.specs.declared.status.Device.TheVariants.{Volume, Log, Source, Sink}
+use Rattle.checkdb_top.specs.Writes.{AllWritten, AtSink}
+use Rattle.checkdb_top.proofs.Closings.{whole_file}
 use Rattle.checkdb_top.proofs.run.write_run.Goals as goal
 
 pub returns-in-Ok-write_replies-clause-volume_fault : goal.returns-in-Ok-write_replies-clause-volume_fault
@@ -12,3 +15,11 @@ returns-in-Ok-write_replies-clause-sink_fault g c = λ is. absurd (c.requires.kn
 
 pub returns-in-Ok-write_replies-clause-source_fault : goal.returns-in-Ok-write_replies-clause-source_fault
 returns-in-Ok-write_replies-clause-source_fault g c = λ is. c.requires.known Source is
+
+pub returns-in-Err-clause-writes : goal.returns-in-Err-clause-writes
+returns-in-Err-clause-writes g c =
+    AtSink refl c.in-Ok.ensures.closes.0 (whole_file _ _ _ c.requires.may.size c.in-Ok.ensures.closes.1) c.in-Err.ensures.err
+
+pub returns-in-Ok-write_replies-clause-writes : goal.returns-in-Ok-write_replies-clause-writes
+returns-in-Ok-write_replies-clause-writes g c =
+    AllWritten refl c.in-Ok.ensures.closes.0 (whole_file _ _ _ c.requires.may.size c.in-Ok.ensures.closes.1) c.in-Ok-write_replies.ensures.ok

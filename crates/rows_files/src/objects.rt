@@ -42,6 +42,7 @@ pub fn only(object: u8) -> Iam {
     }
 }
 
+/// An IAM page with these links, without slots and marks.
 pub fn iam_page(file: &mut Vec<u8>, p: u16, page: &Iam) {
     let at = PAGE * usize::from(p);
     place(file, p, 10);

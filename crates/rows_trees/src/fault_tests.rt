@@ -1,7 +1,7 @@
 // The page test in a check: its first fault is the one error of a page, which then isn't seen.
-use crate::files::reports;
-use crate::trees::{add_row, data_row, empty_heap, offset, one_leaf, put_in};
 use checkdb_top::Status;
+use rows_files::still::reports;
+use rows_files::trees::{add_row, data_row, empty_heap, offset, one_leaf, put_in};
 use std::alloc::Global;
 use std::test::Fail;
 

@@ -1,17 +1,14 @@
 // The header and the slots of one page of a still file.
-use crate::files::{PAGE, base, put, run};
-use crate::objects::{heap_page, place};
-use crate::trees::{add_row, offset, put_in};
 use checkdb_top::{Device, FileWhy, Status};
-use pg_base::PageNo;
+use rows_files::files::{PAGE, base, put};
+use rows_files::objects::{heap_page, place};
+use rows_files::still::{failing_read, run};
+use rows_files::trees::{add_row, offset, put_in};
 use std::alloc::Global;
 use std::test::Fail;
-use vol_dev::FailAt;
 
 const HEAP_HEAD: &str =
     "page 10\ntype 1 level 0 object 1\nprev 0 next 0\nslots 1 free 8082 freedata 108 ghosts 0\n";
-
-const HEAP_SLOT: &str = "slot 0 offset 96\n";
 
 // A new file of 16 pages whose page 10 is a heap page with a row that has a payload of one byte.
 fn with_row(alloc: Global) -> Result<Vec<u8>, Fail> {
@@ -22,47 +19,23 @@ fn with_row(alloc: Global) -> Result<Vec<u8>, Fail> {
     Ok(file)
 }
 
-// A read of a page that fails the first time.
-fn failing(alloc: Global, page: u32) -> Result<Vec<FailAt>, Fail> {
-    let read = FailAt {
-        page: PageNo(page),
-        write: false,
-        nth: 1,
-    };
-    Ok(vec![in alloc; read]?)
-}
-
 fn show(alloc: Global, file: Vec<u8>, p: &str) -> Result<(Status, Vec<u8>), Fail> {
     run(alloc, &["page", "d", p], file, Vec::new(alloc), None)
 }
 
-#[test]
-fn page_nine_of_a_new_file(rt: HostRuntime) -> Result<(), Fail> {
-    let alloc = rt.alloc();
-    let (status, text) = show(alloc, base(alloc, 16)?, "9")?;
-    let due =
-        "page 9\ntype 13 level 0 object 0\nprev 0 next 0\nslots 0 free 0 freedata 0 ghosts 0\n";
-    assert_eq!(rt; status, Status::Clean);
-    assert_eq!(rt; text.as_slice(), due.as_bytes());
-    Ok(())
+// A page, and what is shown of it.
+#[derive(Drop)]
+struct Shown<'a> {
+    page: &'a str,
+    text: &'a str,
 }
 
+// Also a GAM page of a wrong type and number, and page 12, whose links and counts no page should have.
 #[test]
-fn a_heap_page_has_a_line_for_its_slot(rt: HostRuntime) -> Result<(), Fail> {
+fn each_page_is_shown_as_it_is(rt: HostRuntime) -> Result<(), Fail> {
     let alloc = rt.alloc();
-    let (status, text) = show(alloc, with_row(alloc)?, "10")?;
-    let mut due = Vec::new(alloc);
-    due.extend_from_slice(HEAP_HEAD.as_bytes())?;
-    due.extend_from_slice(HEAP_SLOT.as_bytes())?;
-    assert_eq!(rt; status, Status::Clean);
-    assert_eq!(rt; text.as_slice(), due.as_slice());
-    Ok(())
-}
-
-#[test]
-fn a_tree_page_has_its_level_and_neighbours(rt: HostRuntime) -> Result<(), Fail> {
-    let alloc = rt.alloc();
-    let mut file = base(alloc, 16)?;
+    let mut file = with_row(alloc)?;
+    put(&mut file, 2 * PAGE + 1, &[0, 0, 0, 7]);
     place(&mut file, 12, 2);
     put_in(&mut file, 12, 2, &[3]);
     put_in(
@@ -74,11 +47,33 @@ fn a_tree_page_has_its_level_and_neighbours(rt: HostRuntime) -> Result<(), Fail>
     put_in(&mut file, 12, 20, &[2, 0, 0xff, 0xff, 0, 0x20, 1, 0]);
     offset(&mut file, 12, 0, 109);
     offset(&mut file, 12, 1, 96);
-    let due =
-        "page 12\ntype 2 level 3 object 256\nprev 11 next 4294967295\nslots 2 free 65535 freedata 8192 ghosts 1\nslot 0 offset 109\nslot 1 offset 96\n";
-    let (status, text) = show(alloc, file, "12")?;
-    assert_eq!(rt; status, Status::Clean);
-    assert_eq!(rt; text.as_slice(), due.as_bytes());
+    let all = [
+        Shown {
+            page: "2",
+            text: "page 2\ntype 0 level 0 object 0\nprev 0 next 0\nslots 0 free 0 freedata 0 ghosts 0\n",
+        },
+        Shown {
+            page: "9",
+            text: "page 9\ntype 13 level 0 object 0\nprev 0 next 0\nslots 0 free 0 freedata 0 ghosts 0\n",
+        },
+        Shown {
+            page: "10",
+            text: "page 10\ntype 1 level 0 object 1\nprev 0 next 0\nslots 1 free 8082 freedata 108 ghosts 0\nslot 0 offset 96\n",
+        },
+        Shown {
+            page: "12",
+            text: "page 12\ntype 2 level 3 object 256\nprev 11 next 4294967295\nslots 2 free 65535 freedata 8192 ghosts 1\nslot 0 offset 109\nslot 1 offset 96\n",
+        },
+        Shown {
+            page: "15",
+            text: "page 15\ntype 0 level 0 object 0\nprev 0 next 0\nslots 0 free 0 freedata 0 ghosts 0\n",
+        },
+    ];
+    for shown in all.iter() {
+        let (status, text) = show(alloc, Vec::from_slice(alloc, &file)?, shown.page)?;
+        assert_eq!(rt; status, Status::Clean);
+        assert_eq!(rt; text.as_slice(), shown.text.as_bytes());
+    }
     Ok(())
 }
 
@@ -103,26 +98,14 @@ fn no_more_slots_are_shown_than_a_page_has(rt: HostRuntime) -> Result<(), Fail> 
     Ok(())
 }
 
-#[test]
-fn a_page_past_the_end_is_a_wrong_word(rt: HostRuntime) -> Result<(), Fail> {
-    let alloc = rt.alloc();
-    for p in ["16", "17", "4294967295"] {
-        let (status, text) = show(alloc, base(alloc, 16)?, p)?;
-        assert_eq!(rt; status, Status::Words { at: 3 });
-        assert!(rt; text.is_empty());
-    }
-    let (status, text) = show(alloc, base(alloc, 16)?, "15")?;
-    let due =
-        "page 15\ntype 0 level 0 object 0\nprev 0 next 0\nslots 0 free 0 freedata 0 ghosts 0\n";
-    assert_eq!(rt; status, Status::Clean);
-    assert_eq!(rt; text.as_slice(), due.as_bytes());
-    Ok(())
-}
-
+// The file has pages 0 to 15.
 #[test]
 fn a_wrong_number_of_a_page_is_a_wrong_word(rt: HostRuntime) -> Result<(), Fail> {
     let alloc = rt.alloc();
-    let lines: [(&[&str], u32); 6] = [
+    let lines: [(&[&str], u32); 9] = [
+        (&["page", "d", "16"], 3),
+        (&["page", "d", "17"], 3),
+        (&["page", "d", "4294967295"], 3),
         (&["page"], 2),
         (&["page", "d"], 3),
         (&["page", "d", "09"], 3),
@@ -157,42 +140,25 @@ fn a_refused_file_shows_no_page(rt: HostRuntime) -> Result<(), Fail> {
     Ok(())
 }
 
-#[test]
-fn a_page_is_shown_as_it_is_in_a_damaged_file(rt: HostRuntime) -> Result<(), Fail> {
-    let alloc = rt.alloc();
-    let mut file = base(alloc, 16)?;
-    put(&mut file, 2 * PAGE + 1, &[0]);
-    put(&mut file, 2 * PAGE + 4, &[7]);
-    let due =
-        "page 2\ntype 0 level 0 object 0\nprev 0 next 0\nslots 0 free 0 freedata 0 ghosts 0\n";
-    let (status, text) = show(alloc, file, "2")?;
-    assert_eq!(rt; status, Status::Clean);
-    assert_eq!(rt; text.as_slice(), due.as_bytes());
-    Ok(())
-}
-
+// Page 0 and the page itself are all that is read.
 #[test]
 fn a_failing_read_of_the_page_names_the_volume(rt: HostRuntime) -> Result<(), Fail> {
     let alloc = rt.alloc();
-    for page in [0, 10] {
-        let fails = failing(alloc, page)?;
+    let which = Device::Volume;
+    let failed = Status::Device { which };
+    for (page, wanted, front) in [
+        (0, failed, ""),
+        (1, Status::Clean, HEAP_HEAD),
+        (2, Status::Clean, HEAP_HEAD),
+        (9, Status::Clean, HEAP_HEAD),
+        (10, failed, ""),
+        (11, Status::Clean, HEAP_HEAD),
+    ] {
+        let fails = failing_read(alloc, page)?;
         let (status, text) = run(alloc, &["page", "d", "10"], with_row(alloc)?, fails, None)?;
-        let which = Device::Volume;
-        assert_eq!(rt; status, Status::Device { which });
-        assert!(rt; text.is_empty());
-    }
-    Ok(())
-}
-
-// Page 0 and the page itself are all that is read.
-#[test]
-fn a_page_is_shown_where_others_cant_be_read(rt: HostRuntime) -> Result<(), Fail> {
-    let alloc = rt.alloc();
-    for page in [1, 2, 3, 9, 11] {
-        let fails = failing(alloc, page)?;
-        let (status, text) = run(alloc, &["page", "d", "10"], with_row(alloc)?, fails, None)?;
-        assert_eq!(rt; status, Status::Clean);
-        assert!(rt; text.as_slice().starts_with(HEAP_HEAD.as_bytes()));
+        assert_eq!(rt; status, wanted);
+        assert!(rt; text.as_slice().starts_with(front.as_bytes()));
+        assert_eq!(rt; text.is_empty(), front.is_empty());
     }
     Ok(())
 }

@@ -1,10 +1,10 @@
 // A page and its neighbours: pages without parents, and where links and index rows lead.
-use crate::files::reports;
-use crate::objects::{heap, heap_page, iam_page, only, pfs, slot};
-use crate::trees::{
+use checkdb_top::Status;
+use rows_files::objects::{heap, heap_page, iam_page, only, pfs, slot};
+use rows_files::still::reports;
+use rows_files::trees::{
     Change, Node, between, changed, clustered, data_row, leaf, low_root, low_tree, table_of,
 };
-use checkdb_top::Status;
 use std::alloc::Global;
 use std::test::Fail;
 

@@ -1,11 +1,12 @@
 // A page and its parents: the rules of trees that speak of levels, keys and the page before.
-use crate::files::{PAGE, base, put, reports};
-use crate::objects::{iam_page, marks, only, pfs};
-use crate::trees::{
+use checkdb_top::Status;
+use rows_files::files::{PAGE, base, put};
+use rows_files::objects::{iam_page, marks, only, pfs};
+use rows_files::still::reports;
+use rows_files::trees::{
     Change, Node, between, changed, clustered, index_page, leaf, low_root, low_tree, one_leaf,
     table_of, tall_tree,
 };
-use checkdb_top::Status;
 use std::alloc::Global;
 use std::test::Fail;
 
@@ -78,22 +79,6 @@ fn a_root_that_has_split_is_clean(rt: HostRuntime) -> Result<(), Fail> {
     leaf(&mut file, 12, &between(11, 0), &[5, 6, 7, 8]);
     let lines = ["Msg 2593: object 1, rows 8, pages 3\n", CLEAN];
     assert!(rt; reports(alloc, file, Status::Clean, &lines)?);
-    Ok(())
-}
-
-// Leaf 15 names 13 as prev. Before is the last child of the index page before, 14.
-#[test]
-fn a_leaf_names_a_page_too_far_before(rt: HostRuntime) -> Result<(), Fail> {
-    let alloc = rt.alloc();
-    let change = Change {
-        bytes: &[(15, 12, &[13])],
-        errors: &[
-            "Msg 8935: object 1, page 15, other 12, slot 0, value 13\n",
-            "Msg 8936: object 1, page 14, other 15, slot 0, value 13\n",
-            "Msg 8978: object 1, page 15, other 13, slot 0, value 0\n",
-        ],
-    };
-    assert!(rt; tall_reports(alloc, &change)?);
     Ok(())
 }
 
@@ -219,6 +204,15 @@ fn last_keys_are_below_the_next_key(rt: HostRuntime) -> Result<(), Fail> {
 fn the_page_before_is_that_of_the_slot_before(rt: HostRuntime) -> Result<(), Fail> {
     let alloc = rt.alloc();
     let changes = [
+        // Leaf 15 names 13 as prev. Before it is the last child of the index page before, 14.
+        Change {
+            bytes: &[(15, 12, &[13])],
+            errors: &[
+                "Msg 8935: object 1, page 15, other 12, slot 0, value 13\n",
+                "Msg 8936: object 1, page 14, other 15, slot 0, value 13\n",
+                "Msg 8978: object 1, page 15, other 13, slot 0, value 0\n",
+            ],
+        },
         // A root has none before it.
         Change {
             bytes: &[(10, 12, &[13])],

@@ -1,8 +1,8 @@
-// The rules of one page that an object owns: that it is ordinary, the order of its keys and its fullness.
-use crate::files::{base, reports};
-use crate::objects::{heap, iam_page, only, pfs, slot};
-use crate::trees::{data_row, empty_heap, one_leaf, put_in};
+// The rules of one page that an object owns: the order of its keys and its fullness.
 use checkdb_top::Status;
+use rows_files::objects::pfs;
+use rows_files::still::reports;
+use rows_files::trees::{data_row, empty_heap, one_leaf, put_in};
 use std::alloc::Global;
 use std::test::Fail;
 
@@ -116,61 +116,5 @@ fn where_fullness_is_asked(rt: HostRuntime) -> Result<(), Fail> {
     let row = "Msg 2593: object 1, rows 1, pages 1\n";
     let end = "Msg 8989: 1 allocation errors, 0 consistency errors\n";
     assert!(rt; reports(alloc, file, Status::Errors, &[full, row, end])?);
-    Ok(())
-}
-
-// A heap whose slot holds page p.
-fn holding(alloc: Global, p: u16) -> Result<Vec<u8>, Fail> {
-    let mut file = base(alloc, 16)?;
-    heap(&mut file, 1, b't', 8);
-    iam_page(&mut file, 8, &only(1));
-    slot(&mut file, 8, p);
-    pfs(&mut file, 8, 0x70);
-    Ok(file)
-}
-
-#[test]
-fn an_owned_page_that_isnt_ordinary(rt: HostRuntime) -> Result<(), Fail> {
-    let alloc = rt.alloc();
-    let boot = "Msg 8928: object 1, page 9, other 0, slot 0, value 0\n";
-    let file = holding(alloc, 9)?;
-    assert!(rt; reports(alloc, file, Status::Errors, &[boot, UNSEEN, ONE])?);
-    // The use of a page of extent 0 makes it a mixed one, 4, and it is the system's, 1.
-    let claims = "Msg 8913: object 0, page 0, other 0, slot 0, value 5\n";
-    let map = "Msg 8928: object 1, page 2, other 0, slot 0, value 0\n";
-    let end = "Msg 8989: 1 allocation errors, 1 consistency errors\n";
-    let file = holding(alloc, 2)?;
-    assert!(rt; reports(alloc, file, Status::Errors, &[claims, map, UNSEEN, end])?);
-    Ok(())
-}
-
-// Page 8 has two uses, and its byte is right for the chain alone.
-#[test]
-fn an_iam_page_in_a_slot_of_its_own(rt: HostRuntime) -> Result<(), Fail> {
-    let alloc = rt.alloc();
-    let file = holding(alloc, 8)?;
-    let lines = [
-        "Msg 8910: object 1, page 8, other 1, slot 0, value 2\n",
-        "Msg 8938: object 1, page 8, other 0, slot 0, value 10\n",
-        "Msg 8948: object 1, page 8, other 0, slot 0, value 112\n",
-        UNSEEN,
-        "Msg 8989: 2 allocation errors, 1 consistency errors\n",
-    ];
-    assert!(rt; reports(alloc, file, Status::Errors, &lines)?);
-    Ok(())
-}
-
-// Page 10 says nothing of itself and its byte is 0, but the slot wants that of a page which it holds.
-#[test]
-fn a_page_of_zeros_in_a_slot(rt: HostRuntime) -> Result<(), Fail> {
-    let alloc = rt.alloc();
-    let file = holding(alloc, 10)?;
-    let lines = [
-        "Msg 8909: object 1, page 10, other 0, slot 0, value 0\n",
-        "Msg 8948: object 1, page 10, other 0, slot 0, value 0\n",
-        UNSEEN,
-        "Msg 8989: 1 allocation errors, 1 consistency errors\n",
-    ];
-    assert!(rt; reports(alloc, file, Status::Errors, &lines)?);
     Ok(())
 }

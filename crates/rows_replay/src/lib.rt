@@ -1,0 +1,9 @@
+//! The worked rows of runs of sessions: their replies, log and file, and what stands after a fault or a refusal.
+#![tactic(auto)]
+
+#[cfg(test)]
+mod close_tests;
+#[cfg(test)]
+mod refused_tests;
+#[cfg(test)]
+mod session_tests;

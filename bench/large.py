@@ -98,7 +98,7 @@ def write_file(path, pages, kind):
 
 
 def timed(words):
-    """Seconds and the most memory in MiB of a command, and the last line that it printed."""
+    """Seconds and the most memory in MiB of a command, the last line that it printed, and its status."""
     with tempfile.TemporaryFile() as out:
         start = time.monotonic()
         child = subprocess.Popen(words, stdout=out)
@@ -108,7 +108,7 @@ def timed(words):
         out.seek(0, os.SEEK_END)
         out.seek(max(0, out.tell() - 200))
         lines = out.read().decode("latin-1").splitlines()
-    return seconds, usage.ru_maxrss / 1024, lines[-1] if lines else ""
+    return seconds, usage.ru_maxrss / 1024, lines[-1] if lines else "", child.returncode
 
 
 def cat_seconds(path):
@@ -123,7 +123,10 @@ def measure(path, pages, kind):
     cat_seconds(path)
     cat = min(cat_seconds(path) for _ in range(5))
     runs = [timed([PROGRAM, "check", path]) for _ in range(5)]
-    check, memory, last = min(runs)
+    check, memory, last, status = min(runs)
+    # A check that ended without its report measures nothing.
+    if status != (0 if kind == "sound" else 1) or not last.startswith("Msg 8989: "):
+        sys.exit(f"{kind}: check ended with status {status}: {last}")
     print(f"{kind:10}  cat {cat:.2f} s  check {check:.2f} s  ratio {check / cat:.2f}  {memory:.0f} MiB  {last}", flush=True)
 
 

@@ -16,8 +16,9 @@ use Rattle.ck_chain.specs.Walks.{IsWalk, IsFound, IsChainRead, TakesPage, GoesOn
 use Rattle.ck_chain.proofs.Looking.{IsOwner, none_of, look_goes, look_ends, goes_to_interval, goes_to_number}
 use Rattle.ck_chain.proofs.Stepping.{step_walk}
 use Rattle.ck_chain.proofs.Finding.{step_found, found_none, finish}
-use Rattle.ck_chain.proofs.Pigeons.{pigeons}
-use Rattle.ck_chain.specs.Inside.{interval_below, goes_inside, goes_nonzero}
+use Rattle.spec_chain.specs.ChainLaws.{chain_is_short}
+use Rattle.spec_chain.specs.Pointers.{goes_nonzero}
+use Rattle.ck_chain.specs.Inside.{interval_below}
 
 -- the walk stands before the k-th page of the object's chain, with what the pages before it give
 pub record IsReadingOf (owner : Owner) (k : ℕ) (walk : Walk) (old now : Found) (image : Image) (row : CatalogRow) : Type 0 where
@@ -52,10 +53,6 @@ begins owner first walk found image link unmet none = λ row id starts. record {
 owned : (owner : Owner) (image : Image) (row : CatalogRow) (k : ℕ) (walk : Walk) → row.id ≡ owner.id → length image ≡ owner.pages
     → length walk.met.items ≡ owner.pages → IsWalk image row k walk → IsOwner image row owner walk k
 owned owner image row k walk id pages met stands = record { id = sym id; pages = sym pages; size = met ∙ sym pages; stands = stands }
-
-first_none : (f1 f2 : Option ChainEnd) → or_else f1 f2 ≡ None → f1 ≡ None
-first_none None f2 h = refl
-first_none (Some a) f2 h = cc
 
 -- it goes on by a page
 pub goes_on : (owner : Owner) (first k : ℕ) (walk new : Walk) (old mid now : Found) (image : Image) (bytes : List ℕ)
@@ -101,20 +98,7 @@ ends owner first k walk old mid now image bytes end pages met looked read errors
 pub never_full : (owner : Owner) (first : ℕ) (walk : Walk) (old now : Found) (image : Image) → 0 < owner.pages → length image ≡ owner.pages
     → (row : CatalogRow) → row.id ≡ owner.id → row.first_iam ≡ first → IsReading owner first owner.pages walk old now image → ⊥
 never_full owner first walk old now image some pages row id starts h =
-    let was = h row id starts in
-    let few = pigeons (λ j. pointer image row j - 1) owner.pages (owner.pages - 1)
-    (λ i j less low same.
-    let a = in_file i (omega (arith, low)) in let b = in_file j (omega (arith, less, low)) in
-    (was.pages i low).1 (j, less, omega (arith, same, a.0, b.0)))
-    (λ i low. let a = in_file i low in omega (arith, a.0, a.1)) in
-    omega (arith, few, some) where
-      in_file : (i : ℕ) → i < owner.pages → (0 < pointer image row i) × (pointer image row i < owner.pages)
-      in_file i low =
-          let goes = (h row id starts).pages i low in
-          let number = first_none (fault_of_number owner.geometry (length image) i (pointer image row i)) _ goes.0 in (
-            let nz = goes_nonzero owner.geometry (length image) i (pointer image row i) number in omega (arith, nz),
-            let inside = goes_inside owner.geometry (length image) i (pointer image row i) number in omega (arith, inside, pages),
-          )
+    let short = chain_is_short owner.geometry image row owner.pages (omega (arith, some, pages)) (h row id starts).pages in omega (arith, short, pages)
 
 -- what a reader tells
 pub told_at : (o : Option Image) (x : Image) (P : Image → Type 0) → o ≡ Some x → IfSome o P → P x

@@ -1,4 +1,4 @@
--- A pointer that goes on names a page of the file.
+-- A page that goes on is an IAM page of an interval of the file.
 use Rattle.std.specs.Prelude.{◌≡◌, ◌≢◌, ℕ, ◌*◌, ◌/◌, ◌<◌, ◌≤◌, ◌==◌, ◌&&◌, Bool, true, false, not, nat_lt, IsTrue, if◌then◌else◌, List, Some, None}
 use Rattle.std.proofs.Common.{refl, subst, arith}
 use Rattle.std.proofs.lemmas.Bool.{and_parts, ltb-true}
@@ -11,18 +11,6 @@ use Rattle.spec_file.specs.Iam.{iam_interval, has_interval, is_iam_page}
 use Rattle.spec_file.specs.Roles.{is_ordinary}
 use Rattle.spec_chain.specs.Chains.{object_of, is_last, fault_of_number, fault_of_bytes}
 
-no_fault : (inside last ordinary : Bool)
-    → (if not inside then Some (if last then end.Whole else end.Outside) else (if not ordinary then Some end.NotIam else None)) ≡ None
-    → inside ≡ true
-no_fault true last ordinary h = refl
-no_fault false true ordinary h = cc
-no_fault false false ordinary h = cc
-
-pub goes_inside : (g : Geometry) (pages n q : ℕ) → fault_of_number g pages n q ≡ None → q < pages
-goes_inside g pages n q h =
-    ltb-true q pages (and_parts (not (q == 0)) (nat_lt q pages) (no_fault (is_inside pages q) (is_last n q) (is_ordinary g q) h)).1
-
--- a page that goes on is an IAM page of the file
 iam_bytes : (says own of_file : Bool)
     → (if not says then Some end.NotIam else (if not own then Some end.OtherObject else (if not of_file then Some end.WrongInterval else None))) ≡ None
     → (says && of_file) ≡ true
@@ -47,13 +35,3 @@ interval_begins Small pages m shape h = let inside = ltb-true _ _ h in let whole
 pub extents_below : (g : Geometry) (pages : ℕ) → HasShape g pages → pages / 8 ≤ 65536
 extents_below Standard pages shape = let high = shape.high in omega (arith, high)
 extents_below Small pages shape = let high = shape.high in omega (arith, high)
-
-not_zero : (zero_ inside : Bool) → (not zero_ && inside) ≡ true → zero_ ≡ false
-not_zero false inside h = refl
-not_zero true inside h = cc
-
-pub goes_nonzero : (g : Geometry) (pages n q : ℕ) → fault_of_number g pages n q ≡ None → q ≢ 0
-goes_nonzero g pages n q h here =
-    let is = not_zero (q == 0) (nat_lt q pages) (no_fault (is_inside pages q) (is_last n q) (is_ordinary g q) h) in
-    let other : (0 == 0) ≡ false = subst (λ k. (k == 0) ≡ false) here is in
-    cc

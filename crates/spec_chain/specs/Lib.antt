@@ -2,3 +2,5 @@ pub mod Chains
 pub mod ChainLaws
 pub mod Marks
 pub mod Uses
+pub mod Pigeons
+pub mod Pointers

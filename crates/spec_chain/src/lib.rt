@@ -4,11 +4,12 @@
 
 mod end;
 
-ghost use Rattle.spec_chain.specs.ChainLaws.{ChainHasOneLength};
+ghost use Rattle.spec_chain.specs.ChainLaws.{ChainHasOneLength, ChainIsShort};
 
 pub use end::ChainEnd;
 
-/// A chain ends at one place.
+/// A chain ends at one place, and has fewer pages than the file.
 pub fn chain_law()
-    ensures { ChainHasOneLength }
+    ensures one { ChainHasOneLength }
+    ensures short { ChainIsShort }
 {}

@@ -1,6 +1,6 @@
-use Rattle.spec_chain.specs.ChainLaws.{chain_has_one_length}
+use Rattle.spec_chain.specs.ChainLaws.{chain_has_one_length, chain_is_short}
 use Rattle.spec_chain.proofs.chain_law.Goals as goal
 
 -- src/lib.rt:8:1
 pub returns : goal.returns
-returns c = chain_has_one_length
+returns c = record { one = chain_has_one_length; short = chain_is_short }

@@ -1,7 +1,8 @@
 -- Numbers below a bound of which no two are the same are no more than the bound.
-use Rattle.std.proofs.Common.{◌≡◌, ◌≢◌, ◌⊎◌, ℕ, zero, suc, ◌<◌, ◌≤◌, ◌||◌, Bool, true, false, eqb, List, [], ◌∷◌, length, arith, refl, inl, inr, ⊎_elim, sym, subst, ap}
+use Rattle.std.specs.Prelude.{◌≡◌, ◌≢◌, ℕ, zero, suc, ◌<◌, ◌≤◌, false, true, List, [], ◌∷◌, length}
+use Rattle.std.proofs.Common.{eqb, arith, refl, ⊎_elim, sym, subst, ap}
 use Rattle.std.specs.List.{IsDistinct, list_any, AllByRecursion}
-use Rattle.std.proofs.lemmas.Bool.{ne_eqb, eqb-true}
+use Rattle.std.proofs.lemmas.Bool.{ne_eqb, eqb-true, or_cases}
 use Rattle.std.proofs.lemmas.Map.Steps.{length-le_from_distinct_below}
 
 -- the first n values of f, the last first
@@ -22,16 +23,12 @@ unfolding IsDistinct
 distinct f zero h = tt
 distinct f (suc n) h = (apart f n n (λ j l. h n j l (omega arith)), distinct f n (λ i j l m. h i j l (omega (arith, m))))
 
-either : (a b : Bool) → (a || b) ≡ true → (a ≡ true) ⊎ (b ≡ true)
-either true b h = inl refl
-either false b h = inr h
-
 bounded : (f : ℕ → ℕ) (n bound q : ℕ) → ((i : ℕ) → i < n → f i < bound) → list_any (eqb q) (names f n) ≡ true → q < bound
 bounded f zero bound q h member = absurd (cc)
 bounded f (suc n) bound q h member = ⊎_elim
     (λ here. subst (λ k. k < bound) (sym (eqb-true q (f n) here)) (h n (omega arith)))
     (λ there. bounded f n bound q (λ i l. h i (omega (arith, l))) there)
-    (either (eqb q (f n)) (list_any (eqb q) (names f n)) member)
+    (or_cases (eqb q (f n)) (list_any (eqb q) (names f n)) member)
 
 pub pigeons : (f : ℕ → ℕ) (n bound : ℕ) → ((i j : ℕ) → j < i → i < n → f i ≢ f j) → ((i : ℕ) → i < n → f i < bound) → n ≤ bound
 pigeons f n bound differ below =

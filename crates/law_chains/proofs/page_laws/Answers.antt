@@ -1,0 +1,5 @@
+use Rattle.law_chains.specs.Allocated.{pages_are_allocated, pages_rise}
+use Rattle.law_chains.proofs.page_laws.Goals as goal
+
+pub returns : goal.returns
+returns c = record { allocated = pages_are_allocated; rising = pages_rise }

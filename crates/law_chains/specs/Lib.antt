@@ -1,0 +1,4 @@
+pub mod Laws
+pub mod Ranges
+pub mod Reads
+pub mod Allocated

@@ -66,11 +66,11 @@ all_rules n b roots u xs ys a = adds_as xs ys (Group n b (known_in roots u)) (In
     (λ x. of_group n b (known_in roots u) x) (λ x h. group_of n b h.0 (known_in roots u) x h.1 h.2) a
 
 -- one bucket of the list shows what it shows by itself
-pub at_bucket : (n i : ℕ) (roots : List Root) (xs : List Bucket) (u : Bucket) (a b : List CheckError) → i < length xs → IsBucket xs i u
+pub at_bucket : (n i : ℕ) (roots : List Root) (xs : List Bucket) (u : Bucket) (a b : List CheckError) → IsBucket xs i u
     → Adds a b (InBucket n i (StandsAt (known_in roots u))) → Adds a b (AtBucket n roots xs i)
-at_bucket n i roots xs u a b fits here h = adds_as a b (InBucket n i (StandsAt (known_in roots u))) (AtBucket n roots xs i)
+at_bucket n i roots xs u a b here h = adds_as a b (InBucket n i (StandsAt (known_in roots u))) (AtBucket n roots xs i)
     (λ x e. (u, here, e))
-    (λ x e. subst (λ v. InBucket n i (StandsAt (known_in roots v)) x) (same_bucket xs i e.0 u fits e.1 here) e.2) h
+    (λ x e. subst (λ v. InBucket n i (StandsAt (known_in roots v)) x) (same_bucket xs i e.0 u e.1 here) e.2) h
 
 -- at a page of bucket b, a bucket knows what the facts know
 agrees : (n b k : ℕ) (roots : List Root) (facts : List Fact) (u : Bucket) → Files n b facts u → k % n ≡ b

@@ -1,6 +1,6 @@
 -- A pass over all buckets.
 use Rattle.std.proofs.Common.{◌≡◌, ◌≢◌, ◌⊎◌, ℕ, ◌+◌, ◌<◌, ◌≤◌, List, [], ◌∷◌, ◌++◌, Contains, length, get_or, set, sym, subst, ap, inl, inr, ⊎_elim, arith, ◌∙◌}
-use Rattle.std.proofs.lemmas.List.{get_or_default, get_or-set_same, get_or-set_other}
+use Rattle.std.proofs.lemmas.List.{get_or_default, get_or-set_same, get_or-set_other, length-set}
 use Rattle.std.proofs.lemmas.List.Elements.{Contains-push_cases}
 use Rattle.std.proofs.lemmas.Bool.{cases_lt}
 use Rattle.spec_check.specs.Members.{nothing_there}
@@ -33,12 +33,12 @@ same_or_not b i = ⊎_elim (λ l. inr (λ e. omega (arith, l, e))) (λ g. ⊎_el
 upto : (b i : ℕ) → b < i + 1 → (b < i) ⊎ (b ≡ i)
 upto b i h = grind arith
 
-pub same_bucket : (xs : List Bucket) (i : ℕ) (u v : Bucket) → i < length xs → IsBucket xs i u → IsBucket xs i v → u ≡ v
-same_bucket xs i u v h p q = sym p.is ∙ (get_or_default xs i u v h ∙ q.is)
+pub same_bucket : (xs : List Bucket) (i : ℕ) (u v : Bucket) → IsBucket xs i u → IsBucket xs i v → u ≡ v
+same_bucket xs i u v p q = sym p.is ∙ (get_or_default xs i u v p.inside ∙ q.is)
 
 pub some_bucket : (xs : List Bucket) (b : ℕ) → b < length xs → (u : Bucket) × IsBucket xs b u
 some_bucket [] b h = absurd (omega (arith, h))
-some_bucket (y ∷ ys) b h = (get_or (y ∷ ys) b y, record { is = get_or_default (y ∷ ys) b (get_or (y ∷ ys) b y) y h })
+some_bucket (y ∷ ys) b h = (get_or (y ∷ ys) b y, record { inside = h; is = get_or_default (y ∷ ys) b (get_or (y ∷ ys) b y) y h })
 
 -- what is said of each bucket, said of the new one and of all others
 each_set : (P : ℕ → Bucket → Type 0) (n i : ℕ) (xs : List Bucket) (v : Bucket) → i < length xs
@@ -48,7 +48,7 @@ each_set P n i xs v fits others this b u inside at = ⊎_elim
     (λ same.
     let is : v ≡ u = sym (get_or-set_same xs i v u fits) ∙ subst (λ j. get_or (set xs i v) j u ≡ u) same at.is in
     subst (λ j. P j u) (sym same) (subst (P i) is this))
-    (λ ne. others b u ne inside (record { is = sym (get_or-set_other xs i b v u ne) ∙ at.is }))
+    (λ ne. others b u ne inside (record { inside = subst (λ m. b < m) (length-set xs i v) at.inside; is = sym (get_or-set_other xs i b v u ne) ∙ at.is }))
     (same_or_not b i)
 
 pub own_set : (n i : ℕ) (xs : List Bucket) (v : Bucket) → i < length xs → AreOwn n xs → IsOf n i v → AreOwn n (set xs i v)
@@ -60,15 +60,15 @@ none_added n facts xs = record {
   left = λ held all b u h inside at. all.each b u inside at;
 }
 
-pub one_added : (n i : ℕ) (facts : List Fact) (old new : List Bucket) (u v : Bucket) → i < n → i < length new → IsBucket new i u
+pub one_added : (n i : ℕ) (facts : List Fact) (old new : List Bucket) (u v : Bucket) → i < n → IsBucket new i u
     → AddsTo n i facts u v → AddedBelow n i facts old new → AddedBelow n (i + 1) facts old (set new i v)
-one_added n i facts old new u v inside fits here adds h = record {
+one_added n i facts old new u v inside here adds h = record {
   done = λ held all b w below in_n at.
-      each_set (λ j t. j < i + 1 → Files n j (held ++ facts) t) n i new v fits
+      each_set (λ j t. j < i + 1 → Files n j (held ++ facts) t) n i new v here.inside
       (λ j t ne in_j at_j less. h.done held all j t (⊎_elim (λ l. l) (λ e. absurd (ne e)) (upto j i less)) in_j at_j)
       (λ less. adds held (h.left held all i u (λ l. omega (arith, l)) inside here)) b w in_n at below;
   left = λ held all b w past in_n at.
-      each_set (λ j t. (j < i + 1 → ⊥) → Files n j held t) n i new v fits
+      each_set (λ j t. (j < i + 1 → ⊥) → Files n j held t) n i new v here.inside
       (λ j t ne in_j at_j more. h.left held all j t (λ l. more (omega (arith, l))) in_j at_j)
       (λ more. absurd (more (omega arith))) b w in_n at past;
 }
@@ -83,15 +83,15 @@ none_joined n others xs = record {
   left = λ held all b u h inside at. all.each b u inside at;
 }
 
-pub one_joined : (n i : ℕ) (others old new : List Bucket) (u o v : Bucket) → i < n → i < length new → IsBucket new i u → IsBucket others i o
+pub one_joined : (n i : ℕ) (others old new : List Bucket) (u o v : Bucket) → i < n → IsBucket new i u → IsBucket others i o
     → JoinsTo u o v → JoinedBelow n i others old new → JoinedBelow n (i + 1) others old (set new i v)
-one_joined n i others old new u o v inside fits here there joins h = record {
+one_joined n i others old new u o v inside here there joins h = record {
   done = λ held more all them b w below in_n at.
-      each_set (λ j t. j < i + 1 → Files n j (held ++ more) t) n i new v fits
+      each_set (λ j t. j < i + 1 → Files n j (held ++ more) t) n i new v here.inside
       (λ j t ne in_j at_j less. h.done held more all them j t (⊎_elim (λ l. l) (λ e. absurd (ne e)) (upto j i less)) in_j at_j)
       (λ less. joins n i held more (h.left held all i u (λ l. omega (arith, l)) inside here) (them.each i o inside there)) b w in_n at below;
   left = λ held all b w past in_n at.
-      each_set (λ j t. (j < i + 1 → ⊥) → Files n j held t) n i new v fits
+      each_set (λ j t. (j < i + 1 → ⊥) → Files n j held t) n i new v here.inside
       (λ j t ne in_j at_j more. h.left held all j t (λ l. more (omega (arith, l))) in_j at_j)
       (λ more. absurd (more (omega arith))) b w in_n at past;
 }
@@ -103,15 +103,15 @@ all_joined n i others old new past h held more all them = record { each = λ b u
 pub none_sorted : (n : ℕ) (xs : List Bucket) → SortedBelow n 0 xs xs
 none_sorted n xs = record { done = λ b u h. absurd (omega (arith, h)); kept = λ held f. f }
 
-pub one_sorted : (n i : ℕ) (old new : List Bucket) (u v : Bucket) → i < n → i < length new → IsBucket new i u → KeepsFiles u v → IsSorted v
+pub one_sorted : (n i : ℕ) (old new : List Bucket) (u v : Bucket) → i < n → IsBucket new i u → KeepsFiles u v → IsSorted v
     → SortedBelow n i old new → SortedBelow n (i + 1) old (set new i v)
-one_sorted n i old new u v inside fits here keeps sorted h = record {
+one_sorted n i old new u v inside here keeps sorted h = record {
   done = λ b w below in_n at.
-      each_set (λ j t. j < i + 1 → IsSorted t) n i new v fits
+      each_set (λ j t. j < i + 1 → IsSorted t) n i new v here.inside
       (λ j t ne in_j at_j less. h.done j t (⊎_elim (λ l. l) (λ e. absurd (ne e)) (upto j i less)) in_j at_j)
       (λ less. sorted) b w in_n at below;
   kept = λ held f. let g = h.kept held f in record {
-    each = each_set (λ j t. Files n j held t) n i new v fits (λ j t ne in_j at_j. g.each j t in_j at_j) (keeps n i held (g.each i u inside here));
+    each = each_set (λ j t. Files n j held t) n i new v here.inside (λ j t ne in_j at_j. g.each j t in_j at_j) (keeps n i held (g.each i u inside here));
   };
 }
 
@@ -128,14 +128,14 @@ empty_files n b u e = record {
   rows = λ c. (λ h. absurd (nothing u.rows.items c e.rows h), λ h. absurd (nothing_there _ h.0));
 }
 
-pub all_empty : (n : ℕ) (xs : List Bucket) → length xs ≡ n → AreEmpty xs → AllFiled n [] xs
-all_empty n xs len e = record {
-  each = λ b u inside at. empty_files n b u (e.each u (b, omega (arith, inside, len), at.is));
+pub all_empty : (n : ℕ) (xs : List Bucket) → AreEmpty xs → AllFiled n [] xs
+all_empty n xs e = record {
+  each = λ b u inside at. empty_files n b u (e.each u (b, at.inside, at.is));
 }
 
-pub own_empty : (n : ℕ) (xs : List Bucket) → length xs ≡ n → AreEmpty xs → AreOwn n xs
-own_empty n xs len e = record {
-  each = λ b u inside at. let none = e.each u (b, omega (arith, inside, len), at.is) in record {
+pub own_empty : (n : ℕ) (xs : List Bucket) → AreEmpty xs → AreOwn n xs
+own_empty n xs e = record {
+  each = λ b u inside at. let none = e.each u (b, at.inside, at.is) in record {
     links = λ l c. absurd (nothing u.links.items l none.links c);
     rows = λ r c. absurd (nothing u.rows.items r none.rows c);
   };

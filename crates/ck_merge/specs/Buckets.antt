@@ -1,5 +1,5 @@
 -- The buckets of all remainders together.
-use Rattle.std.specs.Prelude.{◌≡◌, ℕ, ◌<◌, List, Contains, slice_index_or}
+use Rattle.std.specs.Prelude.{◌≡◌, ℕ, ◌<◌, List, length, Contains, slice_index_or}
 use Rattle.spec_check.specs.declared.report.CheckError.{CheckError}
 use Rattle.spec_tree.specs.declared.known.Root.{Root}
 use Rattle.spec_tree.specs.Trees.{StandsAt}
@@ -10,6 +10,7 @@ use Rattle.ck_merge.specs.Runs.{IsSorted}
 
 -- u is bucket b of the list
 pub record IsBucket (buckets : List Bucket) (b : ℕ) (u : Bucket) : Type 0 where
+  pub inside : b < length buckets
   pub is : slice_index_or buckets b u ≡ u
 
 -- each of n buckets has of the facts what is filed there

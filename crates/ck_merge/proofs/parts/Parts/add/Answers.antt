@@ -10,7 +10,7 @@ loop-b-preserved c =
     let same = c.loop-b.invariant.2 in
     let fits : c.loop-b.b < length c.loop-b.self.buckets.items = omega arith in (
       one_added c.args.self.now.count c.loop-b.b c.args.facts.now c.args.self.now.buckets.items c.loop-b.self.buckets.items c.index_mut.result.now c.add.new.self
-          c.loop-b-test.true fits (record { is = sym c.index_mut.ensures.value }) c.in_ok-add.ensures.files c.loop-b.invariant.0,
+          c.loop-b-test.true (record { inside = fits; is = sym c.index_mut.ensures.value }) c.in_ok-add.ensures.files c.loop-b.invariant.0,
       c.loop-b.invariant.1,
       c.loop-b.invariant.2,
       c.loop-b.invariant.3,

@@ -13,7 +13,7 @@ loop-b-preserved c =
     let test = c.loop-b-test.true in
     let fits : c.loop-b.b < length c.args.self.now.buckets.items = omega arith in (
       adds_below_more _ c.loop-b.errors.items _ c.loop-b.b (AtBucket parts.count (roots_in parts) parts.buckets.items) c.loop-b.invariant.0
-          (at_bucket parts.count c.loop-b.b (roots_in parts) parts.buckets.items c.index.result.now _ _ fits (record { is = sym c.index.ensures })
+          (at_bucket parts.count c.loop-b.b (roots_in parts) parts.buckets.items c.index.result.now _ _ (record { inside = fits; is = sym c.index.ensures })
           (rw c.deref.ensures.value at c.in_ok-of_bucket.ensures)),
       refl,
     )

@@ -1,11 +1,11 @@
 -- The walk along a chain that a reader tells.
-use Rattle.std.proofs.Common.{rules, ◌≡◌, ◌≢◌, ◌⊎◌, ℕ, ◌+◌, ◌-◌, ◌/◌, ◌<◌, Bool, false, IsTrue, List, Option, Some, None, IfSome, length, get_or, arith, sym, subst, ap, inl, ⊎_elim, refl, ◌∙◌}
+use Rattle.std.proofs.Common.{rules, ◌≡◌, ◌≢◌, ◌⊎◌, ℕ, ◌+◌, ◌/◌, ◌<◌, Bool, false, IsTrue, List, Option, Some, None, IfSome, length, get_or, arith, sym, subst, ap, inl, ⊎_elim, ◌∙◌}
 use Rattle.std.proofs.lemmas.Option.{same_Some}
 use Rattle.spec_file.specs.Image.{Image, page}
 use Rattle.spec_file.specs.CatalogRows.{CatalogRow}
 use Rattle.spec_file.specs.Iam.{iam_interval}
 use Rattle.spec_chain.specs.declared.end.ChainEnd.{ChainEnd}
-use Rattle.spec_chain.specs.Chains.{pointer, or_else, HasPages, GoesOn, fault_of_number}
+use Rattle.spec_chain.specs.Chains.{pointer, HasPages, GoesOn, fault_of_number}
 use Rattle.spec_check.specs.Chains.{error_of_end}
 use Rattle.ck_error.specs.Gathered.{Adds}
 use Rattle.spec_file.specs.Places.{HasShape}

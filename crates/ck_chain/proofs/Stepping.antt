@@ -1,5 +1,5 @@
 -- A walk goes on by one page of the chain.
-use Rattle.std.proofs.Common.{◌≡◌, ◌≢◌, ◌⊎◌, ◌↔◌, ℕ, suc, ◌+◌, ◌-◌, ◌<◌, ◌==◌, true, false, IsTrue, if◌then◌else◌, List, length, set, get_or, arith, rules, sym, subst, ap, inl, inr, ⊎_elim, refl, ◌∙◌}
+use Rattle.std.proofs.Common.{◌≡◌, ◌≢◌, ◌⊎◌, ◌↔◌, ℕ, suc, ◌+◌, ◌<◌, ◌==◌, true, false, IsTrue, if◌then◌else◌, List, length, set, get_or, arith, rules, sym, subst, ap, inl, inr, ⊎_elim, refl, ◌∙◌}
 use Rattle.std.proofs.lemmas.Bool.{cases_eq, ne_eqb}
 use Rattle.std.proofs.lemmas.List.{get_or-set_other, get_or-set_same, length-set}
 use Rattle.spec_file.specs.Image.{Image, page}

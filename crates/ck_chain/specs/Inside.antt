@@ -1,15 +1,14 @@
 -- A page that goes on is an IAM page of an interval of the file.
-use Rattle.std.specs.Prelude.{◌≡◌, ◌≢◌, ℕ, ◌*◌, ◌/◌, ◌<◌, ◌≤◌, ◌==◌, ◌&&◌, Bool, true, false, not, nat_lt, IsTrue, if◌then◌else◌, List, Some, None}
-use Rattle.std.proofs.Common.{refl, subst, arith}
-use Rattle.std.proofs.lemmas.Bool.{and_parts, ltb-true}
+use Rattle.std.specs.Prelude.{◌≡◌, ℕ, ◌*◌, ◌/◌, ◌<◌, ◌≤◌, ◌==◌, ◌&&◌, Bool, true, false, not, IsTrue, if◌then◌else◌, List, Some, None}
+use Rattle.std.proofs.Common.{refl, arith}
+use Rattle.std.proofs.lemmas.Bool.{ltb-true}
 use Rattle.spec_file.specs.declared.geometry.Geometry.{Geometry}
 use Rattle.spec_chain.specs.declared.end.ChainEnd.TheVariants as end
 use Rattle.spec_file.specs.declared.geometry.Geometry.TheVariants.{Standard, Small}
 use Rattle.spec_file.specs.Header.{says}
-use Rattle.spec_file.specs.Places.{interval_size, is_inside, HasShape}
+use Rattle.spec_file.specs.Places.{interval_size, HasShape}
 use Rattle.spec_file.specs.Iam.{iam_interval, has_interval, is_iam_page}
-use Rattle.spec_file.specs.Roles.{is_ordinary}
-use Rattle.spec_chain.specs.Chains.{object_of, is_last, fault_of_number, fault_of_bytes}
+use Rattle.spec_chain.specs.Chains.{object_of, fault_of_bytes}
 
 iam_bytes : (says own of_file : Bool)
     → (if not says then Some end.NotIam else (if not own then Some end.OtherObject else (if not of_file then Some end.WrongInterval else None))) ≡ None

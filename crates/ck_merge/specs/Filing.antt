@@ -1,4 +1,4 @@
--- How the facts of a file are filed in buckets: a bucket has what meets at the pages of one remainder.
+-- How the facts of a file are filed in buckets: a bucket has what meets at the pages of one share.
 use Rattle.std.specs.Prelude.{◌≡◌, ◌↔◌, ◌⊎◌, ℕ, ◌<◌, ◌%◌, List, [], ◌++◌, Contains}
 use Rattle.spec_check.specs.declared.report.CheckError.{CheckError}
 use Rattle.spec_tree.specs.declared.known.Root.{Root}
@@ -18,8 +18,10 @@ pub record Files (n b : ℕ) (facts : List Fact) (u : Bucket) : Type 0 where
   pub links : (l : Link) → Contains u.links.items l ↔ (IsLinkIn facts l × (l.next.0 % n ≡ b))
   pub rows : (c : IndexRow) → Contains u.rows.items c ↔ (Contains facts (Child c) × (c.child.0 % n ≡ b))
 
--- the links and rows of the bucket lead to pages of bucket b of n
+-- u is bucket b of n, and its links and rows lead to its pages
 pub record IsOf (n b : ℕ) (u : Bucket) : Type 0 where
+  pub count : u.share.count ≡ n
+  pub index : u.share.index ≡ b
   pub links : (l : Link) → Contains u.links.items l → l.next.0 % n ≡ b
   pub rows : (c : IndexRow) → Contains u.rows.items c → c.child.0 % n ≡ b
 
@@ -32,13 +34,21 @@ known_in roots u = record {
   rows = Contains u.rows.items;
 }
 
--- an error of a rule at a page of bucket b of n
-abbrev pub InBucket : ℕ → ℕ → (ℕ → CheckError → Type 0) → CheckError → Type 0
-InBucket n b R x = (k : ℕ) × (k % n ≡ b) × R k x
+-- page k is of the bucket's share
+abbrev pub IsPageOf : Bucket → ℕ → Type 0
+IsPageOf u k = k % u.share.count ≡ u.share.index
+
+-- the links and rows of the bucket lead to its pages
+abbrev pub IsOwn : Bucket → Type 0
+IsOwn u = IsOf u.share.count u.share.index u
+
+-- an error of a rule at a page of the bucket
+abbrev pub AtPagesOf : Bucket → (ℕ → CheckError → Type 0) → CheckError → Type 0
+AtPagesOf u R x = (k : ℕ) × IsPageOf u k × R k x
 
 -- whatever facts the bucket held, it then holds these too
-abbrev pub AddsTo : ℕ → ℕ → List Fact → Bucket → Bucket → Type 0
-AddsTo n b facts old new = (held : List Fact) → Files n b held old → Files n b (held ++ facts) new
+abbrev pub AddsTo : List Fact → Bucket → Bucket → Type 0
+AddsTo facts old new = (n b : ℕ) (held : List Fact) → IsOf n b old → Files n b held old → Files n b (held ++ facts) new
 
 -- whatever facts the two buckets held, the new one holds both
 abbrev pub JoinsTo : Bucket → Bucket → Bucket → Type 0

@@ -1,4 +1,4 @@
-// The facts that meet at the pages of one remainder.
+// The facts that meet at the pages of one share.
 ghost use Rattle.std.specs.Prelude.{◌≡◌, ◌⊎◌, ◌<◌, ◌++◌, [], ◌∷◌, ◌%◌, ◌↔◌, ℕ, IsTrue, OnOk, Contains, if◌then◌else◌};
 ghost use Rattle.spec_tables.specs.Heads as heads;
 ghost use Rattle.ck_merge.specs.Filing.{IsOf, IsEmpty, AddsTo, JoinsTo, KeepsFiles, KeepsOwn};
@@ -8,33 +8,26 @@ ghost use Rattle.spec_tree.specs.declared.known.IndexRow.{IndexRow};
 ghost use Rattle.ck_merge.specs.Runs.{IsSorted, IsByPage, IsByNext, IsByChild};
 
 use crate::key::{head_key, link_key, row_key};
+use crate::share::Share;
 use ck_facts::Fact;
-use pg_base::{NoMemory, PageNo};
+use pg_base::NoMemory;
 use spec_tree::{IndexRow, Link, PageHead};
 use std::alloc::Global;
 
-/// The heads of its pages and of all index pages, the links that lead to its pages, and the index rows that
-/// name them.
+/// The heads of the pages of a share and of all index pages, the links that lead to the pages of the share, and
+/// the index rows that name them.
 #[derive(Drop)]
 pub struct Bucket {
+    pub share: Share,
     pub pages: Vec<PageHead>,
     pub links: Vec<Link>,
     pub rows: Vec<IndexRow>,
 }
 
-/// Whether page p is of bucket b of n.
-pub fn is_of(p: PageNo, n: u32, b: u32) -> bool
-    requires { b < n }
-    ensures { IsTrue result ↔ (p.0 % n ≡ b) }
+fn is_wanted(share: Share, s: &PageHead) -> bool
+    ensures { IsTrue result ↔ ((s.now.page.0 % share.count ≡ share.index) ⊎ (0 < s.now.level)) }
 {
-    p.0 % n == b
-}
-
-fn is_wanted(s: &PageHead, n: u32, b: u32) -> bool
-    requires { b < n }
-    ensures { IsTrue result ↔ ((s.now.page.0 % n ≡ b) ⊎ (0 < s.now.level)) }
-{
-    is_of(s.page, n, b) || s.level > 0
+    share.holds(s.page) || s.level > 0
 }
 
 fn link_of(s: &PageHead) -> Link
@@ -58,42 +51,43 @@ fn keep_if<T: Copy>(list: &mut Vec<T>, wanted: bool, x: T) -> Result<(), NoMemor
 }
 
 impl Bucket {
-    pub fn new(alloc: Global) -> Bucket
-        ensures { IsEmpty result }
+    pub fn new(alloc: Global, share: Share) -> Bucket
+        ensures empty { IsEmpty result }
+        ensures share { result.share ≡ share }
     {
         Bucket {
+            share,
             pages: Vec::new(alloc),
             links: Vec::new(alloc),
             rows: Vec::new(alloc),
         }
     }
 
-    fn add_one(&mut self, n: u32, b: u32, fact: &Fact) -> Result<(), NoMemory>
-        requires { b < n }
-        ensures files { OnOk result (AddsTo n b (fact.now ∷ []) self.old self.new) }
-        ensures own { IsOf n b self.old → IsOf n b self.new }
+    fn add_one(&mut self, fact: &Fact) -> Result<(), NoMemory>
+        ensures files { OnOk result (AddsTo (fact.now ∷ []) self.old self.new) }
+        ensures own { KeepsOwn self.old self.new }
     {
+        let share = self.share;
         match fact {
             Fact::Seen(s) => {
-                keep_if(&mut self.pages, is_wanted(s, n, b), *s)?;
-                keep_if(&mut self.links, is_of(s.next, n, b), link_of(s))?;
+                keep_if(&mut self.pages, is_wanted(share, s), *s)?;
+                keep_if(&mut self.links, share.holds(s.next), link_of(s))?;
                 Ok(())
             }
             Fact::Child(c) => {
-                keep_if(&mut self.rows, is_of(c.child, n, b), *c)?;
+                keep_if(&mut self.rows, share.holds(c.child), *c)?;
                 Ok(())
             }
         }
     }
 
-    /// Takes of these facts what is filed in bucket b of n.
-    pub fn add(&mut self, n: u32, b: u32, facts: &[Fact]) -> Result<(), NoMemory>
-        requires { b < n }
-        ensures files { OnOk result (AddsTo n b facts.now self.old self.new) }
-        ensures own { IsOf n b self.old → IsOf n b self.new }
+    /// Takes of these facts what is filed in this bucket.
+    pub fn add(&mut self, facts: &[Fact]) -> Result<(), NoMemory>
+        ensures files { OnOk result (AddsTo facts.now self.old self.new) }
+        ensures own { KeepsOwn self.old self.new }
     {
         for fact in facts {
-            self.add_one(n, b, fact)?;
+            self.add_one(fact)?;
         }
         Ok(())
     }

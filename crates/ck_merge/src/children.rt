@@ -2,7 +2,7 @@
 ghost use Rattle.std.specs.Prelude.{◌≡◌, ◌↔◌, OnOk, Some};
 ghost use Rattle.spec_check.specs.declared.report.CheckError.{CheckError};
 ghost use Rattle.ck_error.specs.Gathered.{Adds};
-ghost use Rattle.ck_merge.specs.Filing.{known_in, IsOf, InBucket};
+ghost use Rattle.ck_merge.specs.Filing.{known_in, IsOwn, AtPagesOf};
 ghost use Rattle.ck_merge.specs.Runs.{IsByObject, IsByNext, IsSorted};
 ghost use Rattle.ck_merge.specs.Shown.{NamesElsewhere, NamesNowhere, IsSomeTable, RowShows, IsChildError};
 
@@ -66,15 +66,13 @@ fn of_row(
 
 /// 8925, 8976 and 8980, of all index rows of a bucket.
 pub fn child_errors(
-    n: u32,
-    b: u32,
     roots: &[Root],
     u: &Bucket,
     errors: &mut Vec<CheckError>,
 ) -> Result<(), NoMemory>
-    requires of { IsOf n b u.now }
+    requires own { IsOwn u.now }
     requires sorted { IsSorted u.now }
-    ensures { OnOk result (Adds errors.old.items errors.new.items (InBucket n b (IsChildError (known_in roots.now u.now)))) }
+    ensures { OnOk result (Adds errors.old.items errors.new.items (AtPagesOf u.now (IsChildError (known_in roots.now u.now)))) }
 {
     for c in &u.rows {
         of_row(roots, u, c, errors)?;

@@ -16,6 +16,7 @@ mod places;
 mod prevs;
 mod roots;
 mod runs;
+mod share;
 mod tables;
 
 pub use parts::Parts;

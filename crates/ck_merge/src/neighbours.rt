@@ -3,7 +3,7 @@ ghost use Rattle.std.specs.Prelude.{◌≡◌, ◌≢◌, ◌↔◌, IsTrue, OnO
 ghost use Rattle.spec_check.specs.declared.report.CheckError.{CheckError};
 ghost use Rattle.spec_tree.specs.declared.known.PageHead.{PageHead};
 ghost use Rattle.ck_error.specs.Gathered.{Adds, Each};
-ghost use Rattle.ck_merge.specs.Filing.{known_in, IsOf, InBucket};
+ghost use Rattle.ck_merge.specs.Filing.{known_in, IsOwn, AtPagesOf};
 ghost use Rattle.ck_merge.specs.Runs.{IsByObject, IsByChild, IsSorted};
 ghost use Rattle.ck_merge.specs.Shown.{Crosses, LeadsElsewhere, NamesPage, IsSomeTable, LinkShows, IsLinkError};
 
@@ -86,16 +86,10 @@ fn of_link(
 }
 
 /// 8936, 8982 and 8981, of all links of a bucket.
-pub fn link_errors(
-    n: u32,
-    b: u32,
-    roots: &[Root],
-    u: &Bucket,
-    errors: &mut Vec<CheckError>,
-) -> Result<(), NoMemory>
-    requires of { IsOf n b u.now }
+pub fn link_errors(roots: &[Root], u: &Bucket, errors: &mut Vec<CheckError>) -> Result<(), NoMemory>
+    requires own { IsOwn u.now }
     requires sorted { IsSorted u.now }
-    ensures { OnOk result (Adds errors.old.items errors.new.items (InBucket n b (IsLinkError (known_in roots.now u.now)))) }
+    ensures { OnOk result (Adds errors.old.items errors.new.items (AtPagesOf u.now (IsLinkError (known_in roots.now u.now)))) }
 {
     for l in &u.links {
         of_link(roots, u, l, errors)?;

@@ -1,13 +1,13 @@
 // The errors between the pages of a bucket and their parents.
-ghost use Rattle.std.specs.Prelude.{◌≡◌, ◌↔◌, ◌<◌, List, OnOk, Some};
+ghost use Rattle.std.specs.Prelude.{◌≡◌, ◌↔◌, List, OnOk, Some};
 ghost use Rattle.spec_check.specs.declared.report.CheckError.{CheckError};
 ghost use Rattle.spec_tree.specs.declared.known.Root.{Root};
 ghost use Rattle.ck_error.specs.Gathered.{Adds, Each};
-ghost use Rattle.ck_merge.specs.Filing.{known_in, IsOf, InBucket};
+ghost use Rattle.ck_merge.specs.Filing.{known_in, IsOwn, AtPagesOf};
 ghost use Rattle.ck_merge.specs.Runs.{IsByPlace, IsSorted};
-ghost use Rattle.ck_merge.specs.ParentErrors.{IsParentError, IsLevelOff, IsRowErrorOf, IsRowError, IsSeenRootError, RootErrorsAt, IsTwiceNamedIn, PageErrorsAt};
+ghost use Rattle.ck_merge.specs.ParentErrors.{IsParentError, IsLevelOff, IsRowErrorOf, IsRowError, IsSeenRootError, RootErrorsIn, IsTwiceNamedIn, PageErrorsIn};
 
-use crate::bucket::{Bucket, is_of};
+use crate::bucket::Bucket;
 use crate::found::{row_error, tree_error};
 use crate::limits::{first_key_error, high_key_errors, root_key_error};
 use crate::parent_places::two_parents_error;
@@ -18,22 +18,19 @@ use ck_error::{CheckError, push_if, push_some};
 use pg_base::{NoMemory, PageNo};
 use spec_tree::{IndexRow, PageHead, Root};
 
-/// The errors between the pages of bucket b of n and their parents: 8928, 8931, 8933, 8934, 8935 and 8937.
+/// The errors between the pages of a bucket and their parents: 8928, 8931, 8933, 8934, 8935 and 8937.
 pub fn parent_errors(
-    n: u32,
-    b: u32,
     roots: &[Root],
     u: &Bucket,
     errors: &mut Vec<CheckError>,
 ) -> Result<(), NoMemory>
-    requires inside { b < n }
     requires sorted { IsSorted u.now }
-    requires own { IsOf n b u.now }
-    ensures { OnOk result (Adds errors.old.items errors.new.items (InBucket n b (IsParentError (known_in roots.now u.now)))) }
+    requires own { IsOwn u.now }
+    ensures { OnOk result (Adds errors.old.items errors.new.items (AtPagesOf u.now (IsParentError (known_in roots.now u.now)))) }
 {
     errors_of_rows(roots, u, errors)?;
-    errors_of_roots(n, b, roots, u, errors)?;
-    errors_of_pages(n, b, roots, u, errors)?;
+    errors_of_roots(roots, u, errors)?;
+    errors_of_pages(roots, u, errors)?;
     Ok(())
 }
 
@@ -106,18 +103,11 @@ fn errors_of_seen_root(
     Ok(())
 }
 
-fn errors_of_root(
-    n: u32,
-    b: u32,
-    u: &Bucket,
-    t: &Root,
-    errors: &mut Vec<CheckError>,
-) -> Result<(), NoMemory>
-    requires inside { b < n }
+fn errors_of_root(u: &Bucket, t: &Root, errors: &mut Vec<CheckError>) -> Result<(), NoMemory>
     requires sorted { IsSorted u.now }
-    ensures { OnOk result ((roots : List Root) → Adds errors.old.items errors.new.items (RootErrorsAt n b (known_in roots u.now) t.now)) }
+    ensures { OnOk result ((roots : List Root) → Adds errors.old.items errors.new.items (RootErrorsIn roots u.now t.now)) }
 {
-    if !is_of(t.page, n, b) {
+    if !u.share.holds(t.page) {
         return Ok(());
     }
     let heads = heads_in(&u.pages, t.object, t.page);
@@ -130,19 +120,12 @@ fn errors_of_root(
     Ok(())
 }
 
-fn errors_of_roots(
-    n: u32,
-    b: u32,
-    roots: &[Root],
-    u: &Bucket,
-    errors: &mut Vec<CheckError>,
-) -> Result<(), NoMemory>
-    requires inside { b < n }
+fn errors_of_roots(roots: &[Root], u: &Bucket, errors: &mut Vec<CheckError>) -> Result<(), NoMemory>
     requires sorted { IsSorted u.now }
-    ensures { OnOk result (Adds errors.old.items errors.new.items (Each roots.now (RootErrorsAt n b (known_in roots.now u.now)))) }
+    ensures { OnOk result (Adds errors.old.items errors.new.items (Each roots.now (RootErrorsIn roots.now u.now))) }
 {
     for t in roots {
-        errors_of_root(n, b, u, t, errors)?;
+        errors_of_root(u, t, errors)?;
     }
     Ok(())
 }
@@ -165,18 +148,15 @@ fn errors_in_tree(
 }
 
 fn errors_of_page(
-    n: u32,
-    b: u32,
     roots: &[Root],
     u: &Bucket,
     s: &PageHead,
     errors: &mut Vec<CheckError>,
 ) -> Result<(), NoMemory>
-    requires inside { b < n }
     requires sorted { IsSorted u.now }
-    ensures { OnOk result (Adds errors.old.items errors.new.items (PageErrorsAt n b (known_in roots.now u.now) s.now)) }
+    ensures { OnOk result (Adds errors.old.items errors.new.items (PageErrorsIn roots.now u.now s.now)) }
 {
-    if !is_of(s.page, n, b) {
+    if !u.share.holds(s.page) {
         return Ok(());
     }
     let rows = rows_naming(&u.rows, s.object, s.page);
@@ -186,19 +166,12 @@ fn errors_of_page(
     Ok(())
 }
 
-fn errors_of_pages(
-    n: u32,
-    b: u32,
-    roots: &[Root],
-    u: &Bucket,
-    errors: &mut Vec<CheckError>,
-) -> Result<(), NoMemory>
-    requires inside { b < n }
+fn errors_of_pages(roots: &[Root], u: &Bucket, errors: &mut Vec<CheckError>) -> Result<(), NoMemory>
     requires sorted { IsSorted u.now }
-    ensures { OnOk result (Adds errors.old.items errors.new.items (Each u.now.pages.items (PageErrorsAt n b (known_in roots.now u.now)))) }
+    ensures { OnOk result (Adds errors.old.items errors.new.items (Each u.now.pages.items (PageErrorsIn roots.now u.now))) }
 {
     for s in &u.pages {
-        errors_of_page(n, b, roots, u, s, errors)?;
+        errors_of_page(roots, u, s, errors)?;
     }
     Ok(())
 }

@@ -4,6 +4,7 @@ ghost use Rattle.ck_merge.specs.Buckets.{AreOwn, AreEmpty};
 
 use crate::bucket::Bucket;
 use crate::matching::of_bucket;
+use crate::share::Share;
 use crate::tables::clustered_tables;
 use ck_error::in_order;
 use ck_facts::{AllocMap, CheckError, Fact};
@@ -25,11 +26,13 @@ pub struct Parts {
 
 fn empty_buckets(alloc: Global, count: u32) -> Result<Vec<Bucket>, NoMemory>
     ensures empty { IfOk result (λ buckets. AreEmpty buckets.items) }
+    ensures own { IfOk result (λ buckets. AreOwn count buckets.items) }
     ensures count { IfOk result (λ buckets. vec_len buckets ≡ count) }
 {
     let mut buckets = Vec::new(alloc);
-    for _ in 0..count {
-        buckets.push(Bucket::new(alloc))?;
+    for index in 0..count {
+        let share = Share::new(index, count);
+        buckets.push(Bucket::new(alloc, share))?;
     }
     Ok(buckets)
 }
@@ -38,10 +41,10 @@ impl Parts {
     ghost use Rattle.std.specs.Prelude.{◌++◌, [], List, OnOk};
     ghost use Rattle.spec_check.specs.Errors.{Lists};
     ghost use Rattle.spec_tree.specs.Trees.{IsTreeError};
-    ghost use Rattle.ck_error.specs.Gathered.{Gathers, Below};
+    ghost use Rattle.ck_error.specs.Gathered.{Gathers, Each};
     ghost use Rattle.ck_facts.specs.declared.facts.Fact.{Fact};
     ghost use Rattle.ck_facts.specs.Facts.{known_of};
-    ghost use Rattle.ck_merge.specs.Buckets.{AreSorted, AtBucket};
+    ghost use Rattle.ck_merge.specs.Buckets.{AreSorted, BucketErrors};
     ghost use Rattle.ck_merge.specs.Held.{Holds, roots_in, roots_of, count_of};
 
     /// No facts yet, in so many parts.
@@ -69,7 +72,7 @@ impl Parts {
     {
         let n = self.count;
         for b in 0..n {
-            self.buckets[b as usize].add(n, b, facts)?;
+            self.buckets[b as usize].add(facts)?;
         }
         Ok(())
     }
@@ -116,12 +119,11 @@ impl Parts {
 
     fn gathered(&self) -> Result<Vec<CheckError>, NoMemory>
         requires { AreSorted self.now.count self.now.buckets.items }
-        ensures { IfOk result (λ errors. Gathers errors.items (Below self.now.count (AtBucket self.now.count (roots_in self.now) self.now.buckets.items))) }
+        ensures { IfOk result (λ errors. Gathers errors.items (Each self.now.buckets.items (BucketErrors (roots_in self.now)))) }
     {
         let mut errors = Vec::new(self.alloc);
-        let n = self.count;
-        for b in 0..n {
-            of_bucket(n, b, &self.roots, &self.buckets[b as usize], &mut errors)?;
+        for bucket in &self.buckets {
+            of_bucket(&self.roots, bucket, &mut errors)?;
         }
         Ok(errors)
     }

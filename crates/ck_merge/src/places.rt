@@ -1,12 +1,12 @@
 // Pages that lack a place in their tree.
-ghost use Rattle.std.specs.Prelude.{◌≡◌, ◌↔◌, ◌<◌, ◌%◌, IsTrue, OnOk};
-ghost use Rattle.ck_error.specs.Gathered.{Adds, Each};
+ghost use Rattle.std.specs.Prelude.{◌≡◌, ◌↔◌, IsTrue, OnOk};
+ghost use Rattle.ck_error.specs.Gathered.{Adds};
 ghost use Rattle.spec_tree.specs.NeighbourRules.{HasNoPlace};
-ghost use Rattle.ck_merge.specs.Filing.{known_in, InBucket};
+ghost use Rattle.ck_merge.specs.Filing.{known_in, AtPagesOf};
 ghost use Rattle.ck_merge.specs.Runs.{IsByNext, IsByChild, IsSorted};
-ghost use Rattle.ck_merge.specs.Shown.{IsNamed, LacksPrev, LacksPlace, LacksPlaceIn, place_error};
+ghost use Rattle.ck_merge.specs.Shown.{IsNamed, LacksPrev, LacksPlace, LacksPlaceIn, PlaceErrorsIn, place_error};
 
-use crate::bucket::{Bucket, is_of};
+use crate::bucket::Bucket;
 use crate::found::tree_error;
 use crate::runs::{has_link_from, has_row};
 use ck_error::push_some;
@@ -66,18 +66,15 @@ fn in_tree(u: &Bucket, t: &Root, s: &PageHead, errors: &mut Vec<CheckError>) -> 
 }
 
 fn of_page(
-    n: u32,
-    b: u32,
     roots: &[Root],
     u: &Bucket,
     s: &PageHead,
     errors: &mut Vec<CheckError>,
 ) -> Result<(), NoMemory>
-    requires inside { b < n }
     requires sorted { IsSorted u.now }
-    ensures { OnOk result (Adds errors.old.items errors.new.items (λ x. (s.now.page.0 % n ≡ b) × Each roots.now (LacksPlaceIn u.now.rows.items u.now.links.items s.now) x)) }
+    ensures { OnOk result (Adds errors.old.items errors.new.items (PlaceErrorsIn roots.now u.now s.now)) }
 {
-    if !is_of(s.page, n, b) {
+    if !u.share.holds(s.page) {
         return Ok(());
     }
     for t in roots {
@@ -88,18 +85,15 @@ fn of_page(
 
 /// 8979, 8977 and 8978, of all pages of a bucket.
 pub fn place_errors(
-    n: u32,
-    b: u32,
     roots: &[Root],
     u: &Bucket,
     errors: &mut Vec<CheckError>,
 ) -> Result<(), NoMemory>
-    requires inside { b < n }
     requires sorted { IsSorted u.now }
-    ensures { OnOk result (Adds errors.old.items errors.new.items (InBucket n b (HasNoPlace (known_in roots.now u.now)))) }
+    ensures { OnOk result (Adds errors.old.items errors.new.items (AtPagesOf u.now (HasNoPlace (known_in roots.now u.now)))) }
 {
     for s in &u.pages {
-        of_page(n, b, roots, u, s, errors)?;
+        of_page(roots, u, s, errors)?;
     }
     Ok(())
 }

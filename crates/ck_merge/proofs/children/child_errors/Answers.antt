@@ -8,6 +8,6 @@ loop-c-preserved c =
     (rw c.deref-c-items.ensures.value at c.loop-c-test.true) c.loop-c.invariant (rw c.deref-c-items.ensures.value at c.in_ok-of_row.ensures)
 
 pub returns : goal.returns
-returns c = rows_show c.args.n c.args.b c.args.roots.now c.args.u.now _ _ c.requires.of
+returns c = rows_show c.args.roots.now c.args.u.now _ _ c.requires.own
     (adds_each_all _ _ c.args.u.now.rows.items c.loop-c.c-index (OfRow c.args.roots.now c.args.u.now)
     (rw c.deref-c-items.ensures.value at c.loop-c-test.false) (rw c.deref-c-items.ensures.value at c.loop-c.auto.c-index-end) c.loop-c.invariant)

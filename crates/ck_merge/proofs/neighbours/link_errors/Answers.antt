@@ -8,6 +8,6 @@ loop-l-preserved c =
     (rw c.deref-l-items.ensures.value at c.loop-l-test.true) c.loop-l.invariant (rw c.deref-l-items.ensures.value at c.in_ok-of_link.ensures)
 
 pub returns : goal.returns
-returns c = links_show c.args.n c.args.b c.args.roots.now c.args.u.now _ _ c.requires.of
+returns c = links_show c.args.roots.now c.args.u.now _ _ c.requires.own
     (adds_each_all _ _ c.args.u.now.links.items c.loop-l.l-index (OfLink c.args.roots.now c.args.u.now)
     (rw c.deref-l-items.ensures.value at c.loop-l-test.false) (rw c.deref-l-items.ensures.value at c.loop-l.auto.l-index-end) c.loop-l.invariant)

@@ -11,7 +11,7 @@ loop-t-preserved c =
 
 pub returns : goal.returns
 returns c =
-    adds_page c.args.roots.now c.args.u.now c.args.n c.args.b c.args.s.now c.rows_naming-rows.result.now _ _ (c.if-not-is_of.ensures.0 refl)
+    adds_page c.args.roots.now c.args.u.now c.args.s.now c.rows_naming-rows.result.now _ _ (c.if-not-holds.ensures.0 refl)
     (rw c.deref.ensures.value at c.rows_naming-rows.ensures.named)
     (adds_each_all _ _ c.args.roots.now c.loop-t.t-index (IsTwiceNamedIn c.rows_naming-rows.result.now c.args.s.now)
     c.loop-t-test.false c.loop-t.auto.t-index-end c.loop-t.invariant)

@@ -8,6 +8,6 @@ loop-t-preserved c =
     (LacksPlaceIn c.args.u.now.rows.items c.args.u.now.links.items c.args.s.now) c.loop-t-test.true c.loop-t.invariant c.in_ok-in_tree.ensures
 
 pub returns : goal.returns
-returns c = adds_given _ _ _ _ (c.is_of.ensures.0 c.if-not-is_of.false)
+returns c = adds_given _ _ _ _ (c.holds.ensures.0 c.if-not-holds.false)
     (adds_each_all _ _ c.args.roots.now c.loop-t.t-index (LacksPlaceIn c.args.u.now.rows.items c.args.u.now.links.items c.args.s.now)
     c.loop-t-test.false c.loop-t.auto.t-index-end c.loop-t.invariant)

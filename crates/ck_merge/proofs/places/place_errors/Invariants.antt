@@ -1,7 +1,7 @@
 use Rattle.std.proofs.Common.{take}
 use Rattle.ck_error.specs.Gathered.{Adds, Each}
-use Rattle.ck_merge.proofs.Placed.{OfPage}
+use Rattle.ck_merge.specs.Shown.{PlaceErrorsIn}
 use Rattle.ck_merge.proofs.places.place_errors.Given as goal
 
 abbrev pub invariant-loop-s : goal.invariant-loop-s
-invariant-loop-s l = Adds l.initial.errors.items l.errors.items (Each (take l.s-index l.u.pages.items) (OfPage l.n l.b l.roots l.u))
+invariant-loop-s l = Adds l.initial.errors.items l.errors.items (Each (take l.s-index l.u.pages.items) (PlaceErrorsIn l.roots l.u))

@@ -1,3 +1,3 @@
-pub mod Keys
+pub mod Starts
 pub mod Puts
 pub mod Views

@@ -1,16 +1,23 @@
 // The test of the rows in the order of offset, then slot.
-ghost use Rattle.std.specs.Prelude.{◌≡◌, ◌%◌, ◌<◌, ◌≤◌, IsTrue, MatchOption, length, map};
+ghost use Rattle.std.specs.Prelude.{◌≡◌, ◌<◌, ◌≤◌, IsTrue, MatchOption, length, map};
 ghost use Rattle.std.specs.List.{range_with_len};
 ghost use Rattle.spec_file.specs.Header.{header_of};
 ghost use Rattle.spec_rows.specs.Slots as slots;
 ghost use Rattle.spec_rows.specs.PageTest as spec;
-ghost use Rattle.spec_rows.specs.OrderLaws.{IsInOrder, order_key};
-ghost use Rattle.pg_slots.specs.Keys.{AreInOrder};
+ghost use Rattle.spec_rows.specs.OrderLaws.{IsInOrder};
+ghost use Rattle.pg_slots.specs.Starts.{start_of, AreInOrder};
 
 use crate::SlotFault;
 use crate::header::fault;
 use crate::slot::{size_at, slot_at};
 use pg_base::{Header, Page};
+
+/// Where the row of a slot begins. Rows stand in this order.
+#[derive(Clone, Copy, Debug, PartialEq, Eq, PartialOrd, Ord)]
+struct RowStart {
+    offset: u16,
+    slot: u16,
+}
 
 /// The first row that begins before the end of the one before. Offsets that rise from slot to slot, as
 /// they mostly do, need no sort.
@@ -76,59 +83,58 @@ fn fault_of_rising(page: &Page, header: &Header) -> Option<SlotFault>
     None
 }
 
-// The same in any case: each slot is sorted by a number that rises in the order.
+// The same in any case: where the rows begin is sorted.
 fn fault_of_sorted(page: &Page, header: &Header) -> Option<SlotFault>
     requires header { header.now ≡ header_of page.now.bytes }
     requires room { IsTrue (spec.has_room header.now) }
     requires slots { spec.SlotsPass page.now.bytes }
     ensures { MatchOption result (spec.OrderPasses page.now.bytes) (spec.IsFirstOverlap page.now.bytes) }
 {
-    let mut keys = [0; 4048];
-    let order = &mut keys[..header.slots as usize];
+    let mut starts = [RowStart { offset: 0, slot: 0 }; 4048];
+    let order = &mut starts[..header.slots as usize];
     sort_slots(page, order);
     fault_in_order(page, header, order)
 }
 
-// Fills in the key of each slot, and sorts them.
-fn sort_slots(page: &Page, keys: &mut [u32])
-    requires count { length keys.old ≡ slots.slot_count page.now.bytes }
-    requires few { length keys.old ≤ 4048 }
-    ensures { AreInOrder page.now.bytes keys.new }
+// Fills in where the row of each slot begins, and sorts: by offset alone, which is faster, and by slot too
+// where rows begin at one offset, as they seldom do.
+fn sort_slots(page: &Page, starts: &mut [RowStart])
+    requires count { length starts.old ≡ slots.slot_count page.now.bytes }
+    requires few { length starts.old ≤ 4048 }
+    ensures { AreInOrder page.now.bytes starts.new }
 {
-    put_keys(page, keys);
-    keys.sort_unstable();
-}
-
-fn put_keys(page: &Page, keys: &mut [u32])
-    requires { length keys.old ≤ 4048 }
-    ensures { keys.new ≡ map (order_key page.now.bytes) (range_with_len 0 (length keys.old)) }
-{
-    for slot in 0..keys.len() {
-        keys[slot] = slot_at(page, slot as u16) as u32 * 4096 + slot as u32;
+    put_starts(page, starts);
+    starts.sort_unstable_by_key(|start| start.offset);
+    if !starts.is_sorted() {
+        starts.sort_unstable();
     }
 }
 
-fn fault_in_order(page: &Page, header: &Header, keys: &[u32]) -> Option<SlotFault>
+fn put_starts(page: &Page, starts: &mut [RowStart])
+    requires { length starts.old ≤ 4048 }
+    ensures { starts.new ≡ map (start_of page.now.bytes) (range_with_len 0 (length starts.old)) }
+{
+    for k in 0..starts.len() {
+        let slot = k as u16;
+        starts[k] = RowStart {
+            offset: slot_at(page, slot),
+            slot,
+        };
+    }
+}
+
+fn fault_in_order(page: &Page, header: &Header, starts: &[RowStart]) -> Option<SlotFault>
     requires header { header.now ≡ header_of page.now.bytes }
     requires room { IsTrue (spec.has_room header.now) }
     requires slots { spec.SlotsPass page.now.bytes }
-    requires count { length keys.now ≡ header.now.slots }
-    requires order { AreInOrder page.now.bytes keys.now }
+    requires count { length starts.now ≡ header.now.slots }
+    requires order { AreInOrder page.now.bytes starts.now }
     ensures { MatchOption result (spec.OrderPasses page.now.bytes) (spec.IsFirstOverlap page.now.bytes) }
 {
-    for k in 1..keys.len() {
-        let before = slot_of(keys[k - 1]);
-        let slot = slot_of(keys[k]);
-        if let Some(fault) = overlap(page, header, before, slot) {
+    for k in 1..starts.len() {
+        if let Some(fault) = overlap(page, header, starts[k - 1].slot, starts[k].slot) {
             return Some(fault);
         }
     }
     None
-}
-
-// The slot of a key.
-fn slot_of(key: u32) -> u16
-    ensures { result ≡ key % 4096 }
-{
-    (key % 4096) as u16
 }

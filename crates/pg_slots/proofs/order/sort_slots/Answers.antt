@@ -1,14 +1,15 @@
-use Rattle.std.proofs.Common.{ℕ, List, map, arith, ap, subst, ◌∙◌}
-use Rattle.std.specs.List.{range_with_len}
-use Rattle.std.specs.List.Sorted.{IsPermutation}
-use Rattle.spec_rows.specs.OrderLaws.{order_key}
-use Rattle.pg_slots.proofs.Sorted.{sorted_in_order}
+use Rattle.std.proofs.Common.{arith}
+use Rattle.std.proofs.lemmas.List.Sorted.{IsPermutation-trans}
+use Rattle.pg_slots.specs.contracts.order.RowStartOrd.TheImpl.Laws.{matches_partial_cmp-law}
+use Rattle.pg_slots.proofs.Sorted.{sorted_from_test, sorted_in_order}
 use Rattle.pg_slots.proofs.order.sort_slots.Goals as goal
 
-pub returns : goal.returns
-returns c =
-    let bytes = c.args.page.now.bytes in
-    let keys = c.put_keys.ensures ∙ ap (λ (n : ℕ). map (order_key bytes) (range_with_len 0 n)) c.requires.count in
-    sorted_in_order bytes c.sort_unstable.new.self (omega arith)
-    (subst (λ (l : List ℕ). IsPermutation l c.sort_unstable.new.self) keys c.sort_unstable.ensures.permutation)
-    c.sort_unstable.ensures.sorted
+pub returns-then-not-is_sorted : goal.returns-then-not-is_sorted
+returns-then-not-is_sorted c =
+    let moved = rw (c.put_starts.ensures, c.requires.count) at c.sort_unstable_by_key.ensures.permutation in
+    sorted_in_order c.args.page.now.bytes _ (omega arith) (IsPermutation-trans _ _ _ moved c.sort_unstable.ensures.permutation) c.sort_unstable.ensures.sorted
+
+pub returns-else-not-is_sorted : goal.returns-else-not-is_sorted
+returns-else-not-is_sorted c =
+    let moved = rw (c.put_starts.ensures, c.requires.count) at c.sort_unstable_by_key.ensures.permutation in
+    sorted_in_order c.args.page.now.bytes _ (omega arith) moved (sorted_from_test c.sort_unstable_by_key.new.self (λ k d within. rw matches_partial_cmp-law at (c.if-not-is_sorted.ensures.cases k d within)))

@@ -16,13 +16,13 @@ use pg_base::{NoMemory, PageNo};
 use spec_tree::{IndexRow, PageHead, Root};
 
 // The first key of a page, where it isn't as a parent says that has low for it.
-fn wrong_first_key(s: &PageHead, low: u64) -> Option<u64>
-    ensures { (first : ℕ) → (result ≡ Some first) ↔ IsFirstKeyWrong s.now low first }
+fn wrong_first_key(head: &PageHead, low: u64) -> Option<u64>
+    ensures { (first : ℕ) → (result ≡ Some first) ↔ IsFirstKeyWrong head.now low first }
 {
-    let Some(first) = s.first else {
+    let Some(first) = head.first else {
         return None;
     };
-    let fits = if s.level == 0 {
+    let fits = if head.level == 0 {
         first >= low
     } else {
         first == low
@@ -31,80 +31,80 @@ fn wrong_first_key(s: &PageHead, low: u64) -> Option<u64>
 }
 
 /// 8933, as an index row shows it of the page that it names.
-pub fn first_key_error(c: &IndexRow, s: &PageHead) -> Option<CheckError>
-    ensures { (x : CheckError) → (result ≡ Some x) ↔ IsFirstOff c.now s.now x }
+pub fn first_key_error(row: &IndexRow, head: &PageHead) -> Option<CheckError>
+    ensures { (error : CheckError) → (result ≡ Some error) ↔ IsFirstOff row.now head.now error }
 {
-    let Some(first) = wrong_first_key(s, c.key) else {
+    let Some(first) = wrong_first_key(head, row.key) else {
         return None;
     };
-    Some(row_error(8933, c, first))
+    Some(row_error(8933, row, first))
 }
 
 /// 8933, as the catalog shows it of a root page.
-pub fn root_key_error(t: &Root, s: &PageHead) -> Option<CheckError>
-    ensures { (x : CheckError) → (result ≡ Some x) ↔ IsRootFirstOff t.now s.now x }
+pub fn root_key_error(root: &Root, head: &PageHead) -> Option<CheckError>
+    ensures { (error : CheckError) → (result ≡ Some error) ↔ IsRootFirstOff root.now head.now error }
 {
-    let Some(first) = wrong_first_key(s, 0) else {
+    let Some(first) = wrong_first_key(head, 0) else {
         return None;
     };
-    Some(tree_error(8933, t.object, t.page, PageNo(0), first))
+    Some(tree_error(8933, root.object, root.page, PageNo(0), first))
 }
 
 // 8934, where the keys under the index row are below high.
-fn last_key_error(c: &IndexRow, high: u64, s: &PageHead) -> Option<CheckError>
-    ensures { (x : CheckError) → (result ≡ Some x) ↔ IsLastOff c.now high s.now x }
+fn last_key_error(row: &IndexRow, high: u64, head: &PageHead) -> Option<CheckError>
+    ensures { (error : CheckError) → (result ≡ Some error) ↔ IsLastOff row.now high head.now error }
 {
-    let Some(last) = s.last else {
+    let Some(last) = head.last else {
         return None;
     };
     if last < high {
         return None;
     }
-    Some(row_error(8934, c, last))
+    Some(row_error(8934, row, last))
 }
 
-// 8934, where the keys under the index row are below the first one of page m.
-fn next_key_error(c: &IndexRow, s: &PageHead, m: &PageHead) -> Option<CheckError>
-    ensures { (x : CheckError) → (result ≡ Some x) ↔ IsAboveNext c.now s.now m.now x }
+// 8934, where the keys under the index row are below the first one of the next page.
+fn next_key_error(row: &IndexRow, head: &PageHead, next: &PageHead) -> Option<CheckError>
+    ensures { (error : CheckError) → (result ≡ Some error) ↔ IsAboveNext row.now head.now next.now error }
 {
-    if m.level == 0 {
+    if next.level == 0 {
         return None;
     }
-    let Some(high) = m.first else {
+    let Some(high) = next.first else {
         return None;
     };
-    last_key_error(c, high, s)
+    last_key_error(row, high, head)
 }
 
 fn next_key_errors(
-    next: &[PageHead],
-    c: &IndexRow,
-    s: &PageHead,
+    next_heads: &[PageHead],
+    row: &IndexRow,
+    head: &PageHead,
     errors: &mut Vec<CheckError>,
 ) -> Result<(), NoMemory>
-    ensures { OnOk result (Adds errors.old.items errors.new.items (Each next.now (IsAboveNext c.now s.now))) }
+    ensures { OnOk result (Adds errors.old.items errors.new.items (Each next_heads.now (IsAboveNext row.now head.now))) }
 {
-    for m in next {
-        push_some(errors, next_key_error(c, s, m))?;
+    for next in next_heads {
+        push_some(errors, next_key_error(row, head, next))?;
     }
     Ok(())
 }
 
 /// 8934: the last key of a page isn't below what the index row allows that names it.
 pub fn high_key_errors(
-    u: &Bucket,
-    c: &IndexRow,
-    s: &PageHead,
+    bucket: &Bucket,
+    row: &IndexRow,
+    head: &PageHead,
     errors: &mut Vec<CheckError>,
 ) -> Result<(), NoMemory>
-    requires { IsSorted u.now }
-    ensures { OnOk result ((roots : List Root) → Adds errors.old.items errors.new.items (IsAboveHigh (known_in roots u.now) c.now s.now)) }
+    requires { IsSorted bucket.now }
+    ensures { OnOk result ((roots : List Root) → Adds errors.old.items errors.new.items (IsAboveHigh (known_in roots bucket.now) row.now head.now)) }
 {
-    if let Some(high) = c.next_key {
-        push_some(errors, last_key_error(c, high, s))?;
+    if let Some(high) = row.next_key {
+        push_some(errors, last_key_error(row, high, head))?;
         return Ok(());
     }
-    let next = heads_in(&u.pages, c.object, c.parent_next);
-    next_key_errors(next, c, s, errors)?;
+    let next_heads = heads_in(&bucket.pages, row.object, row.parent_next);
+    next_key_errors(next_heads, row, head, errors)?;
     Ok(())
 }

@@ -17,82 +17,86 @@ use ck_facts::CheckError;
 use pg_base::NoMemory;
 use spec_tree::{Link, PageHead, Root};
 
-fn is_crossed(l: &Link, s: &PageHead) -> bool
-    ensures { IsTrue result ↔ ((s.now.object.0 ≡ l.now.object.0) × (s.now.prev.0 ≢ l.now.page.0)) }
+fn is_crossed(link: &Link, head: &PageHead) -> bool
+    ensures { IsTrue result ↔ ((head.now.object.0 ≡ link.now.object.0) × (head.now.prev.0 ≢ link.now.page.0)) }
 {
-    s.object.0 == l.object.0 && s.prev.0 != l.page.0
+    head.object.0 == link.object.0 && head.prev.0 != link.page.0
 }
 
 // 8936: a page of its object to which the link leads names another page as prev.
-fn crossed(seen: &[PageHead], l: &Link, errors: &mut Vec<CheckError>) -> Result<(), NoMemory>
-    ensures { OnOk result (Adds errors.old.items errors.new.items (Each seen.now (Crosses l.now))) }
+fn crossed(seen: &[PageHead], link: &Link, errors: &mut Vec<CheckError>) -> Result<(), NoMemory>
+    ensures { OnOk result (Adds errors.old.items errors.new.items (Each seen.now (Crosses link.now))) }
 {
-    for s in seen {
+    for head in seen {
         push_if(
             errors,
-            is_crossed(l, s),
-            tree_error(8936, l.object, l.page, l.next, s.prev.0 as u64),
+            is_crossed(link, head),
+            tree_error(8936, link.object, link.page, link.next, head.prev.0 as u64),
         )?;
     }
     Ok(())
 }
 
 // 8982: another object has the page to which the link leads.
-fn elsewhere(seen: &[PageHead], l: &Link) -> Option<CheckError>
+fn elsewhere(seen: &[PageHead], link: &Link) -> Option<CheckError>
     requires { IsByObject seen.now }
-    ensures { (x : CheckError) → (result ≡ Some x) ↔ LeadsElsewhere seen.now l.now x }
+    ensures { (error : CheckError) → (result ≡ Some error) ↔ LeadsElsewhere seen.now link.now error }
 {
-    match lowest_elsewhere(seen, l.object) {
-        Some(w) => Some(tree_error(8982, l.object, l.page, l.next, w.0 as u64)),
+    match lowest_elsewhere(seen, link.object) {
+        Some(owner) => Some(tree_error(8982, link.object, link.page, link.next, owner.0 as u64)),
         None => None,
     }
 }
 
 // 8981: no object has it, and no index row names it.
-fn is_nowhere(u: &Bucket, seen: &[PageHead], l: &Link) -> bool
-    requires { IsByChild u.now.rows.items }
-    ensures { IsTrue result ↔ ((l.now.next.0 ≢ 0) × ((s : PageHead) → Contains seen.now s → ⊥) × (NamesPage u.now.rows.items l.now.object.0 l.now.next.0 → ⊥)) }
+fn is_nowhere(bucket: &Bucket, seen: &[PageHead], link: &Link) -> bool
+    requires { IsByChild bucket.now.rows.items }
+    ensures { IsTrue result ↔ ((link.now.next.0 ≢ 0) × ((head : PageHead) → Contains seen.now head → ⊥) × (NamesPage bucket.now.rows.items link.now.object.0 link.now.next.0 → ⊥)) }
 {
-    if l.next.0 == 0 {
+    if link.next.0 == 0 {
         return false;
     }
     if !is_none(seen) {
         return false;
     }
-    !has_row(&u.rows, l.object, l.next)
+    !has_row(&bucket.rows, link.object, link.next)
 }
 
 fn of_link(
     roots: &[Root],
-    u: &Bucket,
-    l: &Link,
+    bucket: &Bucket,
+    link: &Link,
     errors: &mut Vec<CheckError>,
 ) -> Result<(), NoMemory>
-    requires { IsSorted u.now }
-    ensures { OnOk result (Adds errors.old.items errors.new.items (λ x. IsSomeTable (known_in roots.now u.now) l.now.object.0 × LinkShows (known_in roots.now u.now) l.now x)) }
+    requires { IsSorted bucket.now }
+    ensures { OnOk result (Adds errors.old.items errors.new.items (λ error. IsSomeTable (known_in roots.now bucket.now) link.now.object.0 × LinkShows (known_in roots.now bucket.now) link.now error)) }
 {
-    if !is_table(roots, l.object) {
+    if !is_table(roots, link.object) {
         return Ok(());
     }
-    let seen = heads_of(&u.pages, l.next);
-    crossed(seen, l, errors)?;
-    push_some(errors, elsewhere(seen, l))?;
+    let seen = heads_of(&bucket.pages, link.next);
+    crossed(seen, link, errors)?;
+    push_some(errors, elsewhere(seen, link))?;
     push_if(
         errors,
-        is_nowhere(u, seen, l),
-        tree_error(8981, l.object, l.page, l.next, 0),
+        is_nowhere(bucket, seen, link),
+        tree_error(8981, link.object, link.page, link.next, 0),
     )?;
     Ok(())
 }
 
 /// 8936, 8982 and 8981, of all links of a bucket.
-pub fn link_errors(roots: &[Root], u: &Bucket, errors: &mut Vec<CheckError>) -> Result<(), NoMemory>
-    requires own { IsOwn u.now }
-    requires sorted { IsSorted u.now }
-    ensures { OnOk result (Adds errors.old.items errors.new.items (AtPagesOf u.now (IsLinkError (known_in roots.now u.now)))) }
+pub fn link_errors(
+    roots: &[Root],
+    bucket: &Bucket,
+    errors: &mut Vec<CheckError>,
+) -> Result<(), NoMemory>
+    requires own { IsOwn bucket.now }
+    requires sorted { IsSorted bucket.now }
+    ensures { OnOk result (Adds errors.old.items errors.new.items (AtPagesOf bucket.now (IsLinkError (known_in roots.now bucket.now)))) }
 {
-    for l in &u.links {
-        of_link(roots, u, l, errors)?;
+    for link in &bucket.links {
+        of_link(roots, bucket, link, errors)?;
     }
     Ok(())
 }

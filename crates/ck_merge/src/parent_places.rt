@@ -11,12 +11,12 @@ use ck_error::CheckError;
 use pg_base::PageNo;
 use spec_tree::{IndexRow, PageHead, Place};
 
-fn place_of(c: &IndexRow) -> Place
-    ensures { result ≡ parents.place_of c.now }
+fn place_of(row: &IndexRow) -> Place
+    ensures { result ≡ parents.place_of row.now }
 {
     Place {
-        page: c.parent,
-        slot: c.slot,
+        page: row.parent,
+        slot: row.slot,
     }
 }
 
@@ -38,8 +38,8 @@ fn count_places(rows: &[IndexRow]) -> usize
 {
     let mut count = 0;
     let mut last = None;
-    for c in rows {
-        let place = place_of(c);
+    for row in rows {
+        let place = place_of(row);
         if !is_met(last, place) {
             count += 1;
         }
@@ -49,37 +49,41 @@ fn count_places(rows: &[IndexRow]) -> usize
 }
 
 // How many parents a page has, in a tree with that root.
-fn count_parents(root: PageNo, s: &PageHead, rows: &[IndexRow]) -> usize
+fn count_parents(root: PageNo, head: &PageHead, rows: &[IndexRow]) -> usize
     requires { IsByPlace rows.now }
-    ensures { HasSoMany rows.now root.0 s.now.page.0 result }
+    ensures { HasSoMany rows.now root.0 head.now.page.0 result }
 {
     let count = count_places(rows);
-    if root.0 == s.page.0 { count + 1 } else { count }
+    if root.0 == head.page.0 {
+        count + 1
+    } else {
+        count
+    }
 }
 
 // The page of the first parent; 0 for the catalog, or where there is none.
-fn first_parent(root: PageNo, s: &PageHead, rows: &[IndexRow]) -> PageNo
+fn first_parent(root: PageNo, head: &PageHead, rows: &[IndexRow]) -> PageNo
     requires { IsByPlace rows.now }
-    ensures { (places : List Place) → ListsPlaces rows.now places → result.0 ≡ parents.first_page (parents.with_catalog root.0 s.now.page.0 places) }
+    ensures { (places : List Place) → ListsPlaces rows.now places → result.0 ≡ parents.first_page (parents.with_catalog root.0 head.now.page.0 places) }
 {
-    if root.0 == s.page.0 {
+    if root.0 == head.page.0 {
         return PageNo(0);
     }
     match rows {
         [] => PageNo(0),
-        [c, ..] => c.parent,
+        [row, ..] => row.parent,
     }
 }
 
 /// 8937, of a page in a tree with that root, which the index rows name.
-pub fn two_parents_error(root: PageNo, s: &PageHead, rows: &[IndexRow]) -> Option<CheckError>
+pub fn two_parents_error(root: PageNo, head: &PageHead, rows: &[IndexRow]) -> Option<CheckError>
     requires { IsByPlace rows.now }
-    ensures { (x : CheckError) → (result ≡ Some x) ↔ IsTwiceNamed rows.now root.0 s.now x }
+    ensures { (error : CheckError) → (result ≡ Some error) ↔ IsTwiceNamed rows.now root.0 head.now error }
 {
-    let count = count_parents(root, s, rows);
+    let count = count_parents(root, head, rows);
     if count < 2 {
         return None;
     }
-    let first = first_parent(root, s, rows);
-    Some(tree_error(8937, s.object, s.page, first, count as u64))
+    let first = first_parent(root, head, rows);
+    Some(tree_error(8937, head.object, head.page, first, count as u64))
 }

@@ -21,157 +21,173 @@ use spec_tree::{IndexRow, PageHead, Root};
 /// The errors between the pages of a bucket and their parents: 8928, 8931, 8933, 8934, 8935 and 8937.
 pub fn parent_errors(
     roots: &[Root],
-    u: &Bucket,
+    bucket: &Bucket,
     errors: &mut Vec<CheckError>,
 ) -> Result<(), NoMemory>
-    requires sorted { IsSorted u.now }
-    requires own { IsOwn u.now }
-    ensures { OnOk result (Adds errors.old.items errors.new.items (AtPagesOf u.now (IsParentError (known_in roots.now u.now)))) }
+    requires sorted { IsSorted bucket.now }
+    requires own { IsOwn bucket.now }
+    ensures { OnOk result (Adds errors.old.items errors.new.items (AtPagesOf bucket.now (IsParentError (known_in roots.now bucket.now)))) }
 {
-    errors_of_rows(roots, u, errors)?;
-    errors_of_roots(roots, u, errors)?;
-    errors_of_pages(roots, u, errors)?;
+    errors_of_rows(roots, bucket, errors)?;
+    errors_of_roots(roots, bucket, errors)?;
+    errors_of_pages(roots, bucket, errors)?;
     Ok(())
 }
 
 // 8931.
-fn level_error(c: &IndexRow, s: &PageHead) -> Option<CheckError>
-    ensures { (x : CheckError) → (result ≡ Some x) ↔ IsLevelOff c.now s.now x }
+fn level_error(row: &IndexRow, head: &PageHead) -> Option<CheckError>
+    ensures { (error : CheckError) → (result ≡ Some error) ↔ IsLevelOff row.now head.now error }
 {
-    if u32::from(s.level) + 1 == u32::from(c.level) {
+    if u32::from(head.level) + 1 == u32::from(row.level) {
         return None;
     }
-    Some(row_error(8931, c, u64::from(s.level)))
+    Some(row_error(8931, row, u64::from(head.level)))
 }
 
 fn errors_of_child(
-    u: &Bucket,
-    c: &IndexRow,
-    s: &PageHead,
+    bucket: &Bucket,
+    row: &IndexRow,
+    head: &PageHead,
     errors: &mut Vec<CheckError>,
 ) -> Result<(), NoMemory>
-    requires { IsSorted u.now }
-    ensures { OnOk result ((roots : List Root) → Adds errors.old.items errors.new.items (IsRowErrorOf (known_in roots u.now) c.now s.now)) }
+    requires { IsSorted bucket.now }
+    ensures { OnOk result ((roots : List Root) → Adds errors.old.items errors.new.items (IsRowErrorOf (known_in roots bucket.now) row.now head.now)) }
 {
-    push_some(errors, level_error(c, s))?;
-    push_some(errors, first_key_error(c, s))?;
-    high_key_errors(u, c, s, errors)?;
-    prev_errors(u, c, s, errors)?;
+    push_some(errors, level_error(row, head))?;
+    push_some(errors, first_key_error(row, head))?;
+    high_key_errors(bucket, row, head, errors)?;
+    prev_errors(bucket, row, head, errors)?;
     Ok(())
 }
 
 fn errors_of_row(
     roots: &[Root],
-    u: &Bucket,
-    c: &IndexRow,
+    bucket: &Bucket,
+    row: &IndexRow,
     errors: &mut Vec<CheckError>,
 ) -> Result<(), NoMemory>
-    requires { IsSorted u.now }
-    ensures { OnOk result (Adds errors.old.items errors.new.items (IsRowError (known_in roots.now u.now) c.now)) }
+    requires { IsSorted bucket.now }
+    ensures { OnOk result (Adds errors.old.items errors.new.items (IsRowError (known_in roots.now bucket.now) row.now)) }
 {
-    if !is_table(roots, c.object) {
+    if !is_table(roots, row.object) {
         return Ok(());
     }
-    let children = heads_in(&u.pages, c.object, c.child);
-    for s in children {
-        errors_of_child(u, c, s, errors)?;
+    let children = heads_in(&bucket.pages, row.object, row.child);
+    for head in children {
+        errors_of_child(bucket, row, head, errors)?;
     }
     Ok(())
 }
 
-fn errors_of_rows(roots: &[Root], u: &Bucket, errors: &mut Vec<CheckError>) -> Result<(), NoMemory>
-    requires { IsSorted u.now }
-    ensures { OnOk result (Adds errors.old.items errors.new.items (Each u.now.rows.items (IsRowError (known_in roots.now u.now)))) }
+fn errors_of_rows(
+    roots: &[Root],
+    bucket: &Bucket,
+    errors: &mut Vec<CheckError>,
+) -> Result<(), NoMemory>
+    requires { IsSorted bucket.now }
+    ensures { OnOk result (Adds errors.old.items errors.new.items (Each bucket.now.rows.items (IsRowError (known_in roots.now bucket.now)))) }
 {
-    for c in &u.rows {
-        errors_of_row(roots, u, c, errors)?;
+    for row in &bucket.rows {
+        errors_of_row(roots, bucket, row, errors)?;
     }
     Ok(())
 }
 
 fn errors_of_seen_root(
-    t: &Root,
+    root: &Root,
     heads: &[PageHead],
     errors: &mut Vec<CheckError>,
 ) -> Result<(), NoMemory>
-    ensures { OnOk result (Adds errors.old.items errors.new.items (Each heads.now (IsSeenRootError t.now))) }
+    ensures { OnOk result (Adds errors.old.items errors.new.items (Each heads.now (IsSeenRootError root.now))) }
 {
-    for s in heads {
-        push_some(errors, root_key_error(t, s))?;
-        push_some(errors, root_prev_error(t, s))?;
+    for head in heads {
+        push_some(errors, root_key_error(root, head))?;
+        push_some(errors, root_prev_error(root, head))?;
     }
     Ok(())
 }
 
-fn errors_of_root(u: &Bucket, t: &Root, errors: &mut Vec<CheckError>) -> Result<(), NoMemory>
-    requires sorted { IsSorted u.now }
-    ensures { OnOk result ((roots : List Root) → Adds errors.old.items errors.new.items (RootErrorsIn roots u.now t.now)) }
+fn errors_of_root(
+    bucket: &Bucket,
+    root: &Root,
+    errors: &mut Vec<CheckError>,
+) -> Result<(), NoMemory>
+    requires sorted { IsSorted bucket.now }
+    ensures { OnOk result ((roots : List Root) → Adds errors.old.items errors.new.items (RootErrorsIn roots bucket.now root.now)) }
 {
-    if !u.share.holds(t.page) {
+    if !bucket.share.holds(root.page) {
         return Ok(());
     }
-    let heads = heads_in(&u.pages, t.object, t.page);
+    let heads = heads_in(&bucket.pages, root.object, root.page);
     push_if(
         errors,
         is_none(heads),
-        tree_error(8928, t.object, t.page, PageNo(0), 1),
+        tree_error(8928, root.object, root.page, PageNo(0), 1),
     )?;
-    errors_of_seen_root(t, heads, errors)?;
+    errors_of_seen_root(root, heads, errors)?;
     Ok(())
 }
 
-fn errors_of_roots(roots: &[Root], u: &Bucket, errors: &mut Vec<CheckError>) -> Result<(), NoMemory>
-    requires sorted { IsSorted u.now }
-    ensures { OnOk result (Adds errors.old.items errors.new.items (Each roots.now (RootErrorsIn roots.now u.now))) }
+fn errors_of_roots(
+    roots: &[Root],
+    bucket: &Bucket,
+    errors: &mut Vec<CheckError>,
+) -> Result<(), NoMemory>
+    requires sorted { IsSorted bucket.now }
+    ensures { OnOk result (Adds errors.old.items errors.new.items (Each roots.now (RootErrorsIn roots.now bucket.now))) }
 {
-    for t in roots {
-        errors_of_root(u, t, errors)?;
+    for root in roots {
+        errors_of_root(bucket, root, errors)?;
     }
     Ok(())
 }
 
 // 8937, where the table is that of the page.
 fn errors_in_tree(
-    t: &Root,
-    s: &PageHead,
+    root: &Root,
+    head: &PageHead,
     rows: &[IndexRow],
     errors: &mut Vec<CheckError>,
 ) -> Result<(), NoMemory>
     requires { IsByPlace rows.now }
-    ensures { OnOk result (Adds errors.old.items errors.new.items (IsTwiceNamedIn rows.now s.now t.now)) }
+    ensures { OnOk result (Adds errors.old.items errors.new.items (IsTwiceNamedIn rows.now head.now root.now)) }
 {
-    if t.object.0 != s.object.0 {
+    if root.object.0 != head.object.0 {
         return Ok(());
     }
-    push_some(errors, two_parents_error(t.page, s, rows))?;
+    push_some(errors, two_parents_error(root.page, head, rows))?;
     Ok(())
 }
 
 fn errors_of_page(
     roots: &[Root],
-    u: &Bucket,
-    s: &PageHead,
+    bucket: &Bucket,
+    head: &PageHead,
     errors: &mut Vec<CheckError>,
 ) -> Result<(), NoMemory>
-    requires sorted { IsSorted u.now }
-    ensures { OnOk result (Adds errors.old.items errors.new.items (PageErrorsIn roots.now u.now s.now)) }
+    requires sorted { IsSorted bucket.now }
+    ensures { OnOk result (Adds errors.old.items errors.new.items (PageErrorsIn roots.now bucket.now head.now)) }
 {
-    if !u.share.holds(s.page) {
+    if !bucket.share.holds(head.page) {
         return Ok(());
     }
-    let rows = rows_naming(&u.rows, s.object, s.page);
-    for t in roots {
-        errors_in_tree(t, s, rows, errors)?;
+    let rows = rows_naming(&bucket.rows, head.object, head.page);
+    for root in roots {
+        errors_in_tree(root, head, rows, errors)?;
     }
     Ok(())
 }
 
-fn errors_of_pages(roots: &[Root], u: &Bucket, errors: &mut Vec<CheckError>) -> Result<(), NoMemory>
-    requires sorted { IsSorted u.now }
-    ensures { OnOk result (Adds errors.old.items errors.new.items (Each u.now.pages.items (PageErrorsIn roots.now u.now))) }
+fn errors_of_pages(
+    roots: &[Root],
+    bucket: &Bucket,
+    errors: &mut Vec<CheckError>,
+) -> Result<(), NoMemory>
+    requires sorted { IsSorted bucket.now }
+    ensures { OnOk result (Adds errors.old.items errors.new.items (Each bucket.now.pages.items (PageErrorsIn roots.now bucket.now))) }
 {
-    for s in &u.pages {
-        errors_of_page(roots, u, s, errors)?;
+    for head in &bucket.pages {
+        errors_of_page(roots, bucket, head, errors)?;
     }
     Ok(())
 }

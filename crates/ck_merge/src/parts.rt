@@ -70,9 +70,9 @@ impl Parts {
         ensures roots { roots_in self.new ≡ roots_in self.old }
         ensures count { count_of self.new ≡ count_of self.old }
     {
-        let n = self.count;
-        for b in 0..n {
-            self.buckets[b as usize].add(facts)?;
+        let count = self.count;
+        for index in 0..count {
+            self.buckets[index as usize].add(facts)?;
         }
         Ok(())
     }
@@ -86,9 +86,9 @@ impl Parts {
         ensures roots { roots_in self.new ≡ roots_in self.old }
         ensures count { count_of self.new ≡ count_of self.old }
     {
-        let n = self.count;
-        for b in 0..n {
-            self.buckets[b as usize].join(&other.buckets[b as usize])?;
+        let count = self.count;
+        for index in 0..count {
+            self.buckets[index as usize].join(&other.buckets[index as usize])?;
         }
         Ok(())
     }
@@ -111,9 +111,9 @@ impl Parts {
         ensures roots { roots_in self.new ≡ roots_in self.old }
         ensures count { count_of self.new ≡ count_of self.old }
     {
-        let n = self.count;
-        for b in 0..n {
-            self.buckets[b as usize].sort();
+        let count = self.count;
+        for index in 0..count {
+            self.buckets[index as usize].sort();
         }
     }
 

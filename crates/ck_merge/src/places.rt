@@ -14,71 +14,76 @@ use ck_facts::CheckError;
 use pg_base::{NoMemory, PageNo};
 use spec_tree::{IndexRow, Link, PageHead, Root};
 
-fn is_named(rows: &[IndexRow], root: PageNo, s: &PageHead) -> bool
+fn is_named(rows: &[IndexRow], root: PageNo, head: &PageHead) -> bool
     requires { IsByChild rows.now }
-    ensures { IsTrue result ↔ IsNamed rows.now root.0 s.now }
+    ensures { IsTrue result ↔ IsNamed rows.now root.0 head.now }
 {
-    s.page.0 == root.0 || has_row(rows, s.object, s.page)
+    head.page.0 == root.0 || has_row(rows, head.object, head.page)
 }
 
-fn lacks_prev(links: &[Link], s: &PageHead) -> bool
+fn lacks_prev(links: &[Link], head: &PageHead) -> bool
     requires { IsByNext links.now }
-    ensures { IsTrue result ↔ LacksPrev links.now s.now }
+    ensures { IsTrue result ↔ LacksPrev links.now head.now }
 {
-    s.prev.0 != 0 && !has_link_from(links, s.object, s.prev, s.page)
+    head.prev.0 != 0 && !has_link_from(links, head.object, head.prev, head.page)
 }
 
 // The error of a page, by whether it has a parent and whether it has no prev.
-fn place_error(s: &PageHead, named: bool, alone: bool) -> Option<CheckError>
-    ensures { result ≡ place_error s.now named alone }
+fn place_error(head: &PageHead, named: bool, alone: bool) -> Option<CheckError>
+    ensures { result ≡ place_error head.now named alone }
 {
     match (named, alone) {
-        (false, true) => Some(tree_error(8979, s.object, s.page, s.prev, 0)),
-        (false, false) => Some(tree_error(8977, s.object, s.page, PageNo(0), 0)),
-        (true, true) => Some(tree_error(8978, s.object, s.page, s.prev, 0)),
+        (false, true) => Some(tree_error(8979, head.object, head.page, head.prev, 0)),
+        (false, false) => Some(tree_error(8977, head.object, head.page, PageNo(0), 0)),
+        (true, true) => Some(tree_error(8978, head.object, head.page, head.prev, 0)),
         (true, false) => None,
     }
 }
 
 fn unplaced(
-    u: &Bucket,
+    bucket: &Bucket,
     root: PageNo,
-    s: &PageHead,
+    head: &PageHead,
     errors: &mut Vec<CheckError>,
 ) -> Result<(), NoMemory>
-    requires { IsSorted u.now }
-    ensures { OnOk result (Adds errors.old.items errors.new.items (LacksPlace u.now.rows.items u.now.links.items root.0 s.now)) }
+    requires { IsSorted bucket.now }
+    ensures { OnOk result (Adds errors.old.items errors.new.items (LacksPlace bucket.now.rows.items bucket.now.links.items root.0 head.now)) }
 {
-    let named = is_named(&u.rows, root, s);
-    let alone = lacks_prev(&u.links, s);
-    push_some(errors, place_error(s, named, alone))?;
+    let named = is_named(&bucket.rows, root, head);
+    let alone = lacks_prev(&bucket.links, head);
+    push_some(errors, place_error(head, named, alone))?;
     Ok(())
 }
 
-fn in_tree(u: &Bucket, t: &Root, s: &PageHead, errors: &mut Vec<CheckError>) -> Result<(), NoMemory>
-    requires { IsSorted u.now }
-    ensures { OnOk result (Adds errors.old.items errors.new.items (LacksPlaceIn u.now.rows.items u.now.links.items s.now t.now)) }
+fn in_tree(
+    bucket: &Bucket,
+    root: &Root,
+    head: &PageHead,
+    errors: &mut Vec<CheckError>,
+) -> Result<(), NoMemory>
+    requires { IsSorted bucket.now }
+    ensures { OnOk result (Adds errors.old.items errors.new.items (LacksPlaceIn bucket.now.rows.items bucket.now.links.items head.now root.now)) }
 {
-    if t.object.0 != s.object.0 {
+    if root.object.0 != head.object.0 {
         return Ok(());
     }
-    unplaced(u, t.page, s, errors)
+    unplaced(bucket, root.page, head, errors)
 }
 
 fn of_page(
     roots: &[Root],
-    u: &Bucket,
-    s: &PageHead,
+    bucket: &Bucket,
+    head: &PageHead,
     errors: &mut Vec<CheckError>,
 ) -> Result<(), NoMemory>
-    requires sorted { IsSorted u.now }
-    ensures { OnOk result (Adds errors.old.items errors.new.items (PlaceErrorsIn roots.now u.now s.now)) }
+    requires sorted { IsSorted bucket.now }
+    ensures { OnOk result (Adds errors.old.items errors.new.items (PlaceErrorsIn roots.now bucket.now head.now)) }
 {
-    if !u.share.holds(s.page) {
+    if !bucket.share.holds(head.page) {
         return Ok(());
     }
-    for t in roots {
-        in_tree(u, t, s, errors)?;
+    for root in roots {
+        in_tree(bucket, root, head, errors)?;
     }
     Ok(())
 }
@@ -86,14 +91,14 @@ fn of_page(
 /// 8979, 8977 and 8978, of all pages of a bucket.
 pub fn place_errors(
     roots: &[Root],
-    u: &Bucket,
+    bucket: &Bucket,
     errors: &mut Vec<CheckError>,
 ) -> Result<(), NoMemory>
-    requires sorted { IsSorted u.now }
-    ensures { OnOk result (Adds errors.old.items errors.new.items (AtPagesOf u.now (HasNoPlace (known_in roots.now u.now)))) }
+    requires sorted { IsSorted bucket.now }
+    ensures { OnOk result (Adds errors.old.items errors.new.items (AtPagesOf bucket.now (HasNoPlace (known_in roots.now bucket.now)))) }
 {
-    for s in &u.pages {
-        of_page(roots, u, s, errors)?;
+    for head in &bucket.pages {
+        of_page(roots, bucket, head, errors)?;
     }
     Ok(())
 }

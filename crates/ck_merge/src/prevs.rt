@@ -14,69 +14,75 @@ use ck_error::{CheckError, push_some};
 use pg_base::{NoMemory, PageNo};
 use spec_tree::{IndexRow, PageHead, Root};
 
-// 8935, where page w is before that of the index row.
-fn prev_error(c: &IndexRow, w: PageNo, s: &PageHead) -> Option<CheckError>
-    ensures { (x : CheckError) → (result ≡ Some x) ↔ IsPrevOff c.now w.0 s.now x }
+// 8935, where this page is before that of the index row.
+fn prev_error(row: &IndexRow, before: PageNo, head: &PageHead) -> Option<CheckError>
+    ensures { (error : CheckError) → (result ≡ Some error) ↔ IsPrevOff row.now before.0 head.now error }
 {
-    if s.prev.0 == w.0 {
+    if head.prev.0 == before.0 {
         return None;
     }
-    Some(row_error(8935, c, u64::from(s.prev.0)))
+    Some(row_error(8935, row, u64::from(head.prev.0)))
 }
 
 /// 8935, as the catalog shows it of a root page.
-pub fn root_prev_error(t: &Root, s: &PageHead) -> Option<CheckError>
-    ensures { (x : CheckError) → (result ≡ Some x) ↔ IsRootPrevOff t.now s.now x }
+pub fn root_prev_error(root: &Root, head: &PageHead) -> Option<CheckError>
+    ensures { (error : CheckError) → (result ≡ Some error) ↔ IsRootPrevOff root.now head.now error }
 {
-    if s.prev.0 == 0 {
+    if head.prev.0 == 0 {
         return None;
     }
-    Some(tree_error(8935, t.object, t.page, PageNo(0), u64::from(s.prev.0)))
+    Some(tree_error(
+        8935,
+        root.object,
+        root.page,
+        PageNo(0),
+        u64::from(head.prev.0),
+    ))
 }
 
-// 8935, where the last page that m names is before that of the index row.
-fn last_child_error(c: &IndexRow, s: &PageHead, m: &PageHead) -> Option<CheckError>
-    ensures { (x : CheckError) → (result ≡ Some x) ↔ IsNotAfter c.now s.now m.now x }
+// 8935, where the last page that the parent's prev names is before that of the index row.
+fn last_child_error(row: &IndexRow, head: &PageHead, prev: &PageHead) -> Option<CheckError>
+    ensures { (error : CheckError) → (result ≡ Some error) ↔ IsNotAfter row.now head.now prev.now error }
 {
-    if m.level == 0 {
+    if prev.level == 0 {
         return None;
     }
-    prev_error(c, m.last_child, s)
+    prev_error(row, prev.last_child, head)
 }
 
 fn last_child_errors(
-    prev: &[PageHead],
-    c: &IndexRow,
-    s: &PageHead,
+    prev_heads: &[PageHead],
+    row: &IndexRow,
+    head: &PageHead,
     errors: &mut Vec<CheckError>,
 ) -> Result<(), NoMemory>
-    ensures { OnOk result (Adds errors.old.items errors.new.items (Each prev.now (IsNotAfter c.now s.now))) }
+    ensures { OnOk result (Adds errors.old.items errors.new.items (Each prev_heads.now (IsNotAfter row.now head.now))) }
 {
-    for m in prev {
-        push_some(errors, last_child_error(c, s, m))?;
+    for prev in prev_heads {
+        push_some(errors, last_child_error(row, head, prev))?;
     }
     Ok(())
 }
 
 /// 8935: the page that a page names as prev isn't the one before it under its parents.
 pub fn prev_errors(
-    u: &Bucket,
-    c: &IndexRow,
-    s: &PageHead,
+    bucket: &Bucket,
+    row: &IndexRow,
+    head: &PageHead,
     errors: &mut Vec<CheckError>,
 ) -> Result<(), NoMemory>
-    requires { IsSorted u.now }
-    ensures { OnOk result ((roots : List Root) → Adds errors.old.items errors.new.items (IsNotBefore (known_in roots u.now) c.now s.now)) }
+    requires { IsSorted bucket.now }
+    ensures { OnOk result ((roots : List Root) → Adds errors.old.items errors.new.items (IsNotBefore (known_in roots bucket.now) row.now head.now)) }
 {
-    if c.slot > 0 {
-        push_some(errors, prev_error(c, c.before, s))?;
+    if row.slot > 0 {
+        push_some(errors, prev_error(row, row.before, head))?;
         return Ok(());
     }
-    if c.parent_prev.0 == 0 {
-        push_some(errors, prev_error(c, PageNo(0), s))?;
+    if row.parent_prev.0 == 0 {
+        push_some(errors, prev_error(row, PageNo(0), head))?;
         return Ok(());
     }
-    let prev = heads_in(&u.pages, c.object, c.parent_prev);
-    last_child_errors(prev, c, s, errors)?;
+    let prev_heads = heads_in(&bucket.pages, row.object, row.parent_prev);
+    last_child_errors(prev_heads, row, head, errors)?;
     Ok(())
 }

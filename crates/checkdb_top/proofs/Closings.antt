@@ -17,7 +17,7 @@ use Rattle.vol_pool.specs.Writing.{Leaves, SameUnmarked, written_bytes}
 use Rattle.run_file.specs.Opening.{AreAllPages}
 use Rattle.run_close.specs.declared.close.Close.{Close}
 use Rattle.run_close.specs.Close.{IsCloseOf, MayClose}
-use Rattle.run_close.specs.Closing.{length_final, may_close}
+use Rattle.run_close.proofs.Closing.{length_final, may_close}
 use Rattle.checkdb_top.specs.declared.status.Device.{Device}
 use Rattle.checkdb_top.specs.declared.status.Status.{Status}
 use Rattle.checkdb_top.specs.declared.status.Status.TheVariants as status

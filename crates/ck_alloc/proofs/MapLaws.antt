@@ -14,10 +14,10 @@ use Rattle.db_cat.specs.declared.rows.CatRow.{CatRow}
 use Rattle.db_cat.specs.Rows.{row_of}
 use Rattle.spec_file.specs.declared.role.Role.{Role}
 use Rattle.ck_error.specs.Gathered.{Adds, Below, Gathers}
-use Rattle.ck_error.specs.GatheringLaws.{gathers_more, gathers_as}
+use Rattle.ck_error.proofs.GatheringLaws.{gathers_more, gathers_as}
 use Rattle.ck_facts.specs.declared.map.AllocMap.{AllocMap}
 use Rattle.ck_facts.specs.MapOf.{IsMapOf, extent_at, ids_of}
-use Rattle.ck_facts.specs.MapLaws.{extent_of}
+use Rattle.ck_facts.proofs.MapLaws.{extent_of}
 use Rattle.ck_facts.specs.Maps.{rows_of_objects}
 use Rattle.ck_alloc.specs.declared.extents.ExtentState.{ExtentState}
 use Rattle.ck_alloc.specs.declared.pages.PageState.{PageState}

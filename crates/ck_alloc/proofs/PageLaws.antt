@@ -21,7 +21,7 @@ use Rattle.ck_facts.specs.declared.map.PageUse.{PageUse}
 use Rattle.ck_facts.specs.Maps.{use_of}
 use Rattle.ck_alloc.specs.declared.pages.PageState.{PageState}
 use Rattle.ck_alloc.specs.PageRules.{has_wrong_flags, has_wrong_fullness, holds_rows, TestSays, kind_of_place, kind_of_mark, UseSays, ByteSays, PageSays}
-use Rattle.spec_check.specs.Members.{map_from, map_in, none_there, none_from, sorted_same}
+use Rattle.spec_check.proofs.Members.{map_from, map_in, none_there, none_from, sorted_same}
 
 -- the state of a page of an image
 abbrev pub seen_page : Geometry → Image → ℕ → PageState

@@ -9,7 +9,7 @@ use Rattle.spec_file.specs.CatalogRows.{CatalogRow}
 use Rattle.spec_file.specs.Header.{header_of, page_type}
 use Rattle.spec_rows.specs.PageTest.{PassesTest}
 use Rattle.spec_rows.specs.Slots.{slot_count}
-use Rattle.spec_rows.specs.SlotLaws.{rows_room}
+use Rattle.spec_rows.proofs.SlotLaws.{rows_room}
 use Rattle.spec_check.specs.declared.report.TableLine.{TableLine}
 use Rattle.spec_tables.specs.Seen.{IsSeen, rows_on}
 use Rattle.spec_file.specs.declared.data.Kind.{Kind}

@@ -8,7 +8,7 @@ use Rattle.std.proofs.lemmas.List.Elements.{Contains-get_or, Contains-append_lef
 use Rattle.spec_file.specs.Image.{Image}
 use Rattle.spec_check.specs.declared.report.CheckError.{CheckError}
 use Rattle.ck_error.specs.Gathered.{Gathers, Adds, Below}
-use Rattle.ck_error.specs.GatheringLaws.{gathers_as, gathers_more}
+use Rattle.ck_error.proofs.GatheringLaws.{gathers_as, gathers_more}
 use Rattle.ck_facts.specs.declared.facts.Fact.{Fact}
 use Rattle.ck_facts.specs.declared.map.AllocMap.{AllocMap}
 use Rattle.ck_facts.specs.declared.owners.OwnedPage.{OwnedPage}
@@ -16,7 +16,7 @@ use Rattle.ck_facts.specs.Owners.{IsOwnerIn, AreOwnersIn, owned_cmp}
 use Rattle.ck_scan.specs.declared.findings.Findings.{Findings}
 use Rattle.ck_scan.specs.Shown.{IsErrorAt, IsFactAt, Among, And}
 use Rattle.ck_scan.specs.Found.{AreFound, AddsPage, IsBehind}
-use Rattle.spec_check.specs.Members.{nothing_there, cons_cases, below, rest_sorted}
+use Rattle.spec_check.proofs.Members.{nothing_there, cons_cases, below, rest_sorted}
 use Rattle.ck_scan.proofs.Counting.{less_from}
 use Rattle.ck_scan.proofs.CountLaws.{counts_more, counts_as}
 

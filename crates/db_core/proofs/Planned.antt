@@ -11,7 +11,7 @@ use Rattle.spec_run.specs.Begun.{begun, by_outcome, sight_of}
 use Rattle.law_undo.specs.Shapes.{view_shape, whole_shape}
 use Rattle.law_plan.specs.Good.{HaveCells}
 use Rattle.law_plan.specs.InsertGood.{insert_good, count_writes_nothing}
-use Rattle.law_plan.specs.InsertShort.{insert_is_short}
+use Rattle.law_plan.proofs.InsertShort.{insert_is_short}
 use Rattle.law_plan.specs.Laws.{IsNoWrite, IsShort}
 use Rattle.law_run.specs.Legal.{legal_right}
 use Rattle.db_heap.specs.declared.plan.Plan.{Plan}

@@ -4,5 +4,3 @@ pub mod RowFits
 pub mod ReadingGood
 pub mod Laws
 pub mod InsertGood
-pub mod InsertShort
-pub mod Numbers

@@ -11,5 +11,4 @@ pub mod Begins
 pub mod Written
 pub mod Laws
 pub mod Legal
-pub mod Bounds
 pub mod Ongoing

@@ -9,9 +9,6 @@ pub mod Views
 pub mod Laws
 pub mod CellAtoms
 pub mod Law
-pub mod Commits
 pub mod Unguarded
-pub mod TakenParts
-pub mod Damage
 pub mod HolderLaws
 pub mod Shapes

@@ -1,2 +1,4 @@
 pub mod FirstBytes
 pub mod Written
+pub mod HeaderLaws
+pub mod NumberLaws

@@ -10,10 +10,10 @@ use Rattle.spec_file.specs.declared.data.Kind.TheVariants.{Clustered}
 use Rattle.spec_rows.specs.Rows.{is_data_row, is_index_row, row_limit}
 use Rattle.spec_rows.specs.Slots.{slot_count, rows_end, has_index_rows, slot_at, begins_row, row_size, row_end, page_row, page_rows, rows_size, fits_page}
 use Rattle.spec_rows.specs.PageTest as spec
-use Rattle.spec_rows.specs.SlotLaws.{RowStands, row_stands, rows_size_more, rows_room}
-use Rattle.spec_rows.specs.ApartLaws.{AreApart, apart_from_order, order_from_apart}
-use Rattle.spec_rows.specs.PartLaws.{number_in_part, byte_in_part}
-use Rattle.spec_rows.specs.WholeRows.{row_length}
+use Rattle.spec_rows.proofs.SlotLaws.{RowStands, row_stands, rows_size_more, rows_room}
+use Rattle.spec_rows.proofs.ApartLaws.{AreApart, apart_from_order, order_from_apart}
+use Rattle.spec_rows.proofs.PartLaws.{number_in_part, byte_in_part}
+use Rattle.spec_rows.proofs.WholeRows.{row_length}
 
 -- the row of slot j
 pub record HasRow (bytes : List ℕ) (j : ℕ) (row : List ℕ) : Type 0 where

@@ -8,9 +8,9 @@ use Rattle.spec_file.specs.declared.data.Kind.TheVariants.{Clustered}
 use Rattle.spec_rows.specs.Slots.{slot_count, rows_end, row_size, row_end, page_row, page_rows, rows_size}
 use Rattle.spec_rows.specs.PageTest as spec
 use Rattle.spec_rows.specs.Changes.{IsCompacted}
-use Rattle.spec_rows.specs.SlotLaws.{row_stands, rows_room, rows_size_more}
-use Rattle.spec_rows.specs.PartLaws.{byte_stays_in}
-use Rattle.spec_rows.specs.WholeRows.{row_length, row_fits}
+use Rattle.spec_rows.proofs.SlotLaws.{row_stands, rows_room, rows_size_more}
+use Rattle.spec_rows.proofs.PartLaws.{byte_stays_in}
+use Rattle.spec_rows.proofs.WholeRows.{row_length, row_fits}
 use Rattle.pg_slots.proofs.Arranged.{HasRow, has_row, Layout, layout_of, layout_size, layout_rows, holds_of}
 use Rattle.pg_slots.proofs.Moved.{same_kind, fits_still, room_from, row_count, row_of_slot, parts}
 

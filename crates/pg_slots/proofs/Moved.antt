@@ -9,10 +9,10 @@ use Rattle.spec_file.specs.declared.header.Header.{Header}
 use Rattle.spec_rows.specs.Slots.{slot_limit, slot_count, rows_end, has_index_rows, slot_at, row_size, row_end, page_row, page_rows, rows_size, fits_page}
 use Rattle.spec_rows.specs.PageTest as spec
 use Rattle.spec_rows.specs.Changes.{with_counts, Stays}
-use Rattle.spec_rows.specs.SlotLaws.{RowsRoom, row_stands, rows_room}
-use Rattle.spec_rows.specs.ApartLaws.{AreApart}
-use Rattle.spec_rows.specs.PartLaws.{part_stays_in}
-use Rattle.spec_rows.specs.WholeRows.{row_length, row_fits}
+use Rattle.spec_rows.proofs.SlotLaws.{RowsRoom, row_stands, rows_room}
+use Rattle.spec_rows.proofs.ApartLaws.{AreApart}
+use Rattle.spec_rows.proofs.PartLaws.{part_stays_in}
+use Rattle.spec_rows.proofs.WholeRows.{row_length, row_fits}
 use Rattle.pg_slots.proofs.Arranged.{HasRow, has_row, layout_of, layout_size}
 
 -- the page has rows of the same kind

@@ -12,8 +12,8 @@ use Rattle.spec_file.specs.declared.data.Kind.TheVariants.{Clustered}
 use Rattle.spec_rows.specs.Slots.{slot_count, rows_end, slot_at, page_row, page_rows, fits_page}
 use Rattle.spec_rows.specs.PageTest as spec
 use Rattle.spec_rows.specs.Changes.{IsPlaced, FitsBehind}
-use Rattle.spec_rows.specs.SlotLaws.{row_stands, rows_room}
-use Rattle.spec_rows.specs.PartLaws.{byte_stays_in}
+use Rattle.spec_rows.proofs.SlotLaws.{row_stands, rows_room}
+use Rattle.spec_rows.proofs.PartLaws.{byte_stays_in}
 use Rattle.pg_slots.proofs.Arranged.{HasRow, has_row, Layout, layout_of, layout_rows, holds_of}
 use Rattle.pg_slots.proofs.Moved.{same_kind, fits_still, moved, came, apart_still, room_from, row_count, row_of_slot, parts}
 

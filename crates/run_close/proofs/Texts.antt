@@ -5,7 +5,7 @@ use Rattle.std.proofs.lemmas.List.{take_more, take-append-drop, length-take-le}
 use Rattle.spec_script.specs.declared.reply.Reply.{Reply}
 use Rattle.spec_script.specs.Replies.{reply_text, session_text}
 use Rattle.vol_dev.specs.Devices.{WroteFront}
-use Rattle.vol_dev.specs.DeviceLaws.{append_known-then, WroteFront-after}
+use Rattle.vol_dev.proofs.DeviceLaws.{append_known-then, WroteFront-after}
 
 text_append : (s i : ℕ) (xs ys : List Reply) → session_text s i (xs ++ ys) ≡ session_text s i xs ++ session_text s (i + length xs) ys
 text_append s i [] ys = ap (λ k. session_text s k ys) (omega arith)

@@ -15,7 +15,7 @@ use Rattle.run_file.specs.declared.why.FileWhy.{FileWhy}
 use Rattle.run_file.specs.declared.why.FileWhy.TheVariants as why
 use Rattle.run_file.specs.Form.{IsSmallFirst, IsSmallFile}
 use Rattle.run_file.specs.Opening.{count_fault, opening_fault, file_fault, IsRefusedForRun, IsLater, IsLeftOutBy, FileFault, AreAllPages, HasPages}
-use Rattle.run_file.specs.OpeningLaws.{after_size, passes_first}
+use Rattle.run_file.proofs.OpeningLaws.{after_size, passes_first}
 
 -- page 0 of a told file decides
 page_decides : (bytes first : List ℕ) (pages : ℕ) (fault : Option FileWhy) → HasPages pages bytes → 16 ≤ pages → first ≡ page_at bytes 0

@@ -5,7 +5,6 @@ pub mod Places
 pub mod PlacesLaws
 pub mod Roles
 pub mod Catalog
-pub mod NameLaws
 pub mod FileForm
 pub mod CatalogRows
 pub mod Iam

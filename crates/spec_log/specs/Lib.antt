@@ -1,6 +1,5 @@
 pub mod Items
 pub mod Bytes
-pub mod BytesLaws
 pub mod Log
 pub mod ItemLaws
 pub mod Cover

@@ -3,7 +3,7 @@ use Rattle.std.specs.List.{range_with_len}
 use Rattle.std.proofs.lemmas.Result.{err_from_is_err_and}
 use Rattle.spec_file.specs.Header.{header_of}
 use Rattle.spec_script.specs.PageText.{page_text, slot_line, shown_slots}
-use Rattle.vol_dev.specs.Lines.{first_front, all_parts, all_parts_front}
+use Rattle.vol_dev.proofs.Lines.{first_front, all_parts, all_parts_front}
 use Rattle.ck_text.proofs.page.write_page.Goals as goal
 
 pub returns-in_err-write_line-clause-err : goal.returns-in_err-write_line-clause-err

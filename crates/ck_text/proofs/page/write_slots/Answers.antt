@@ -4,7 +4,7 @@ use Rattle.std.specs.Io.KnownBytes.{append_known}
 use Rattle.std.specs.List.{range_with_len}
 use Rattle.std.proofs.lemmas.Result.{err_from_is_err_and}
 use Rattle.spec_script.specs.PageText.{slot_line}
-use Rattle.vol_dev.specs.Lines.{lines_front, lines_more}
+use Rattle.vol_dev.proofs.Lines.{lines_front, lines_more}
 use Rattle.ck_text.proofs.Ranges.{in_range, at_range, all_range}
 use Rattle.ck_text.proofs.page.write_slots.Goals as goal
 

@@ -1,8 +1,8 @@
 use Rattle.std.specs.Prelude.{codes, flat_map}
 use Rattle.std.proofs.lemmas.Result.{err_from_is_err_and}
 use Rattle.spec_script.specs.Replies.{payload_line, shown_byte}
-use Rattle.vol_dev.specs.DeviceLaws.{append_known-then}
-use Rattle.vol_dev.specs.Lines.{first_front, second_front, all_parts, all_parts_front}
+use Rattle.vol_dev.proofs.DeviceLaws.{append_known-then}
+use Rattle.vol_dev.proofs.Lines.{first_front, second_front, all_parts, all_parts_front}
 use Rattle.ck_text.proofs.payload.write_payload_line.Goals as goal
 
 pub returns-in_err-write_bytes-clause-err : goal.returns-in_err-write_bytes-clause-err

@@ -1,7 +1,7 @@
 use Rattle.std.proofs.Common.{ap}
 use Rattle.std.proofs.lemmas.Result.{err_from_is_err_and}
 use Rattle.spec_script.specs.Replies.{payload_line}
-use Rattle.vol_dev.specs.Lines.{lines_front}
+use Rattle.vol_dev.proofs.Lines.{lines_front}
 use Rattle.ck_text.proofs.payload.write_payloads.Goals as goal
 
 pub returns-in_err-write_payload_line-clause-err : goal.returns-in_err-write_payload_line-clause-err

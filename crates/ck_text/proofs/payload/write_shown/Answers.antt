@@ -1,7 +1,7 @@
 use Rattle.std.proofs.Common.{◌∙◌}
 use Rattle.std.proofs.lemmas.Result.{err_from_is_err_and}
 use Rattle.spec_script.specs.Replies.{shown_byte}
-use Rattle.vol_dev.specs.Lines.{lines_front}
+use Rattle.vol_dev.proofs.Lines.{lines_front}
 use Rattle.ck_text.proofs.payload.write_shown.Goals as goal
 
 pub returns-in_err-write_bytes-clause-err : goal.returns-in_err-write_bytes-clause-err

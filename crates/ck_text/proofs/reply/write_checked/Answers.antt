@@ -1,6 +1,6 @@
 use Rattle.std.proofs.lemmas.Result.{err_from_is_err_and}
 use Rattle.spec_check.specs.Text.{report_text}
-use Rattle.vol_dev.specs.Lines.{first_front, all_parts, all_parts_front}
+use Rattle.vol_dev.proofs.Lines.{first_front, all_parts, all_parts_front}
 use Rattle.ck_text.proofs.reply.write_checked.Goals as goal
 
 pub returns-in_err-write_line-clause-err : goal.returns-in_err-write_line-clause-err

@@ -1,7 +1,7 @@
 use Rattle.std.specs.Prelude.{codes}
 use Rattle.std.proofs.lemmas.Result.{err_from_is_err_and}
-use Rattle.vol_dev.specs.DeviceLaws.{append_known-then}
-use Rattle.vol_dev.specs.Lines.{first_front, second_front, all_parts, all_parts_front}
+use Rattle.vol_dev.proofs.DeviceLaws.{append_known-then}
+use Rattle.vol_dev.proofs.Lines.{first_front, second_front, all_parts, all_parts_front}
 use Rattle.ck_text.proofs.reply.write_named.Goals as goal
 
 pub returns-in_err-write_line-clause-err : goal.returns-in_err-write_line-clause-err

@@ -1,6 +1,6 @@
 use Rattle.std.proofs.lemmas.Result.{err_from_is_err_and}
 use Rattle.spec_check.specs.Text.{table_line}
-use Rattle.vol_dev.specs.Lines.{lines_front}
+use Rattle.vol_dev.proofs.Lines.{lines_front}
 use Rattle.ck_text.proofs.report.write_tables.Goals as goal
 
 pub returns-in_err-write_line-clause-err : goal.returns-in_err-write_line-clause-err

@@ -8,8 +8,8 @@ use Rattle.spec_rows.specs.Rows.{is_data_row, is_index_row}
 use Rattle.spec_rows.specs.Slots.{has_index_rows}
 use Rattle.spec_rows.specs.Changes.{IsInserted, MeetsTest}
 use Rattle.spec_plan.specs.Rows.{free_count}
-use Rattle.law_rows.specs.Passes.{test_from, test_into}
-use Rattle.law_rows.specs.Inserted.{row_inserted}
+use Rattle.law_rows.proofs.Passes.{test_from, test_into}
+use Rattle.law_rows.proofs.Inserted.{row_inserted}
 use Rattle.heap_page.proofs.Answered.{on_ok}
 use Rattle.heap_page.proofs.page.put_row.Goals as goal
 

@@ -1,7 +1,7 @@
 use Rattle.std.proofs.Common.{◌+◌, ◌-◌, ◌*◌, length, arith, ◌∙◌}
 use Rattle.spec_file.specs.Header.{header_of}
-use Rattle.spec_rows.specs.SlotLaws.{rows_room}
-use Rattle.pg_base.specs.NumberLaws.{same_front}
+use Rattle.spec_rows.proofs.SlotLaws.{rows_room}
+use Rattle.pg_base.proofs.NumberLaws.{same_front}
 use Rattle.pg_slots.proofs.Bytes.{stays_front, slot_stays_back}
 use Rattle.pg_slots.proofs.Compacted.{row_ends}
 use Rattle.pg_slots.proofs.pack.move_row.Goals as goal

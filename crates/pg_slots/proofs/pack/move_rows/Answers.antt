@@ -1,7 +1,7 @@
 use Rattle.std.proofs.Common.{ℕ, ◌≡◌, ◌+◌, slice_range, arith, ap, sym, ◌∙◌, inl, inr}
 use Rattle.std.proofs.lemmas.Bool.{cases_order}
 use Rattle.spec_rows.specs.Slots.{slot_at, rows_size, page_row}
-use Rattle.pg_base.specs.NumberLaws.{same_front}
+use Rattle.pg_base.proofs.NumberLaws.{same_front}
 use Rattle.pg_slots.proofs.Bytes.{stays_front}
 use Rattle.pg_slots.proofs.Compacted.{rises, room_for}
 use Rattle.pg_slots.proofs.pack.move_rows.Goals as goal

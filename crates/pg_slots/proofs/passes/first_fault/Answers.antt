@@ -2,7 +2,7 @@ use Rattle.std.proofs.Common.{◌≡◌, None, sym, subst, ◌∙◌}
 use Rattle.spec_file.specs.declared.header.Header.{Header}
 use Rattle.spec_file.specs.Header.{header_version}
 use Rattle.spec_rows.specs.PageTest.{owner_fault, form_fault, HeaderPasses}
-use Rattle.spec_rows.specs.TestLaws.{passes_from}
+use Rattle.spec_rows.proofs.TestLaws.{passes_from}
 use Rattle.pg_slots.proofs.passes.first_fault.Goals as goal
 
 pub returns : goal.returns

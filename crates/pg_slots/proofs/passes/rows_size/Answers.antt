@@ -1,7 +1,7 @@
 use Rattle.std.proofs.Common.{arith, ap, ◌∙◌, ◌≡◌}
 use Rattle.spec_file.specs.declared.header.Header.{Header}
 use Rattle.spec_rows.specs.Slots.{slot_count, size_at, row_size}
-use Rattle.spec_rows.specs.SlotLaws.{row_stands, rows_size_more}
+use Rattle.spec_rows.proofs.SlotLaws.{row_stands, rows_size_more}
 use Rattle.pg_slots.proofs.passes.rows_size.Goals as goal
 
 pub loop-slot-preserved : goal.loop-slot-preserved

@@ -1,8 +1,8 @@
 use Rattle.std.proofs.Common.{ℕ, List, IsTrue, arith, sym, subst}
 use Rattle.spec_file.specs.Header.{header_of}
 use Rattle.spec_rows.specs.Slots.{fits_page}
-use Rattle.spec_rows.specs.SlotLaws.{row_stands, rows_room}
-use Rattle.spec_rows.specs.WholeRows.{row_fits}
+use Rattle.spec_rows.proofs.SlotLaws.{row_stands, rows_room}
+use Rattle.spec_rows.proofs.WholeRows.{row_fits}
 use Rattle.pg_slots.proofs.view.SlotView.row.Goals as goal
 
 pub returns-clause-fits : goal.returns-clause-fits

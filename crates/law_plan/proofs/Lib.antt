@@ -1,0 +1,2 @@
+pub mod InsertShort
+pub mod Numbers

@@ -1,0 +1,3 @@
+pub mod Commits
+pub mod Damage
+pub mod TakenParts

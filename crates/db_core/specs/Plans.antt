@@ -18,7 +18,7 @@ use Rattle.db_heap.specs.declared.plan.Plan.TheVariants as plan
 use Rattle.db_heap.specs.Plans.{outcome_of}
 use Rattle.db_core.specs.declared.session.Doing.TheVariants.{Idle}
 use Rattle.db_core.specs.declared.session.Session.{Session}
-use Rattle.db_core.specs.declared.starts.Place.{Place}
+use Rattle.db_core.specs.declared.starts.StatementNo.{StatementNo}
 use Rattle.db_core.specs.declared.state.State.{State}
 use Rattle.db_core.specs.States.{whole_log, GoesOnWith, KeepsRoom, IsSame}
 use Rattle.db_core.specs.Store.{run_is, log_of}
@@ -97,7 +97,7 @@ pub record IsReady (st : State) (at : ℕ) (x : Session) (result : Result Plan N
   pub free : IsFreeIfPlanned st x result
 
 -- it writes, in transaction `tran`, of which this was left and held and announced before
-pub record IsWriting (place : Place) (tran : ℕ) (takes : List Resource) (changes : List Planned) (left : List ℕ) (held : List Resource) (used : ℕ) (own : Bool)
+pub record IsWriting (place : StatementNo) (tran : ℕ) (takes : List Resource) (changes : List Planned) (left : List ℕ) (held : List Resource) (used : ℕ) (own : Bool)
     (old new : Session) (x : Record) : Type 0 where
   pub item : x ≡ Start place.session place.index (record { 0 = tran }) 0 (length changes) (planned_size changes) takes
   pub script : new.script.items ≡ old.script.items
@@ -108,18 +108,18 @@ pub record IsWriting (place : Place) (tran : ℕ) (takes : List Resource) (chang
   pub goes : GoesOnWith changes own (Some 1) old new
 
 -- in the open transaction, or in one of its own, the next after the greatest
-abbrev pub Writes : ℕ → Place → List Resource → List Planned → Session → Session → Record → Type 0
+abbrev pub Writes : ℕ → StatementNo → List Resource → List Planned → Session → Session → Record → Type 0
 Writes last place takes changes old new x =
     ((old.tran ≡ 0) × IsWriting place (last + 1) takes changes [] [] 0 true old new x)
     ⊎ ((old.tran ≢ 0) × IsWriting place old.tran takes changes old.left.items old.held.items old.used false old new x)
 
 -- the record of a planned statement, and the session behind it
-abbrev pub BeginsBy : ℕ → Place → Plan → Session → Session → Record → Type 0
+abbrev pub BeginsBy : ℕ → StatementNo → Plan → Session → Session → Record → Type 0
 BeginsBy last place (plan.Refused refusal) old new x = IsEnded place refusal.number (Refused refusal) old new x
 BeginsBy last place (plan.Counted count) old new x = IsEnded place 0 (Rows count []) old new x
 BeginsBy last place (plan.Written takes changes) old new x = Writes last place takes changes.items old new x
 
-abbrev pub BeginsAs : ℕ → Place → Result Plan NoMemory → Session → Session → Record → Type 0
+abbrev pub BeginsAs : ℕ → StatementNo → Result Plan NoMemory → Session → Session → Record → Type 0
 BeginsAs last place (Ok p) old new x = BeginsBy last place p old new x
 BeginsAs last place (Err e) old new x = IsEnded place 701 (Refused (plain_refusal 701)) old new x
 

@@ -10,7 +10,7 @@ ghost use Rattle.db_core.specs.Plans.{BeginsAs, BeginsBy, HasRoomFor, IsPlanned,
 ghost use Rattle.db_core.specs.Words.{IsEnded};
 
 use crate::session::Session;
-use crate::starts::{Place, plain_start, refuse, refuse_by};
+use crate::starts::{StatementNo, plain_start, refuse, refuse_by};
 use crate::state::{State, owed_by, settle};
 use crate::steps::{end, go_on};
 use crate::turns::place_of;
@@ -109,7 +109,7 @@ fn make_room(session: &mut Session, changes: usize, takes: usize) -> Result<(), 
 }
 
 /// COUNT answers so many rows.
-fn answer_count(alloc: Global, session: &mut Session, place: Place, count: u64) -> Record
+fn answer_count(alloc: Global, session: &mut Session, place: StatementNo, count: u64) -> Record
     requires { vec_len session.old.replies < vec_capacity session.old.replies }
     ensures ended { IsEnded place 0 (reply.Rows count []) session.old session.new result }
     ensures kept_room { KeepsRoom session.old session.new }
@@ -163,7 +163,7 @@ fn start_afresh(session: &mut Session, tran: u64)
 fn announce(
     alloc: Global,
     session: &mut Session,
-    place: Place,
+    place: StatementNo,
     takes: Values<Resource>,
     changes: Vec<Planned>,
     own: bool,
@@ -199,7 +199,7 @@ fn announce(
 fn write(
     alloc: Global,
     session: &mut Session,
-    place: Place,
+    place: StatementNo,
     last: u64,
     takes: Values<Resource>,
     changes: Vec<Planned>,
@@ -221,7 +221,7 @@ fn write(
 }
 
 /// The record of a statement by its plan; `last` is the greatest transaction so far.
-fn start_by(alloc: Global, session: &mut Session, place: Place, last: u64, plan: Plan) -> Record
+fn start_by(alloc: Global, session: &mut Session, place: StatementNo, last: u64, plan: Plan) -> Record
     requires replies { vec_len session.old.replies < vec_capacity session.old.replies }
     requires small { IsProper plan }
     requires used { session.old.used ≤ 8192 }
@@ -241,7 +241,7 @@ fn start_by(alloc: Global, session: &mut Session, place: Place, last: u64, plan:
 fn start_planned(
     alloc: Global,
     session: &mut Session,
-    place: Place,
+    place: StatementNo,
     last: u64,
     plan: Result<Plan, NoMemory>,
 ) -> Record

@@ -11,7 +11,7 @@ use Rattle.spec_file.specs.declared.geometry.Geometry.TheVariants.{Standard, Sma
 use Rattle.spec_file.specs.Image.{Image, page}
 use Rattle.spec_file.specs.Places.{interval_size, interval_of_page}
 use Rattle.spec_file.specs.CatalogRows.{CatalogRow}
-use Rattle.spec_file.specs.Iam.{slot_count, iam_interval, iam_slot, iam_slots, iam_mark}
+use Rattle.spec_file.specs.Iam.{single_slot_count, iam_interval, iam_slot, iam_slots, iam_mark}
 use Rattle.spec_chain.specs.Chains.{pointer}
 use Rattle.spec_chain.specs.ChainLaws.{page_below, below_page}
 use Rattle.spec_chain.specs.Marks.{IsMarked}
@@ -43,7 +43,7 @@ slot_from g image row n p chain below single =
     let some = some_page g image row n chain in
     let slots = iam_slots (page image (first_page (chain_pages image row n))) in
     let parts = and_parts (not (p == 0)) (list_any (λ q. q == p) slots) single in
-    let found = found_from (λ q. q == p) (iam_slot (page image (first_page (chain_pages image row n)))) slot_count parts.1 in
+    let found = found_from (λ q. q == p) (iam_slot (page image (first_page (chain_pages image row n)))) single_slot_count parts.1 in
     let is = ap (λ q. iam_slot (page image q) found.0) (sym (first_is image row n some)) ∙ eqb-true _ p found.2 in
     (found.0, ((found.1, below_page g image row n 0 chain.pages.pages some, is), and_from (not (p == 0)) (nat_lt p (length image)) parts.0 (lt-ltb p (length image) below)))
 
@@ -54,7 +54,7 @@ slot_in g image row n p i chain holds =
     let is = ap (λ q. iam_slot (page image q) i) (first_is image row n some) ∙ holds.0.2 in
     and_from (not (p == 0)) (list_any (λ q. q == p) (iam_slots (page image (first_page (chain_pages image row n)))))
     (not_from_false (p == 0) (ne_eqb p 0 (inside_nonzero (length image) p holds.1)))
-    (found_in (λ q. q == p) (iam_slot (page image (first_page (chain_pages image row n)))) slot_count i holds.0.0 (eq-eqb _ p is))
+    (found_in (λ q. q == p) (iam_slot (page image (first_page (chain_pages image row n)))) single_slot_count i holds.0.0 (eq-eqb _ p is))
 
 mark_from : (g : Geometry) (image : Image) (row : CatalogRow) (n p : ℕ) → IsWhole g image row n
     → is_marked g image (chain_pages image row n) p ≡ true → IsMarked g image row (p / 8)

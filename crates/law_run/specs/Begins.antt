@@ -12,7 +12,7 @@ use Rattle.spec_log.specs.Sound.{Fits, is_old}
 use Rattle.law_undo.specs.Holders.{unfinished_parts, unfinished_from}
 use Rattle.spec_plan.specs.declared.plan.Planned.{Planned}
 use Rattle.spec_run.specs.Shapes.{plain_start}
-use Rattle.spec_run.specs.Sessions.{session_of, owner_of}
+use Rattle.spec_run.specs.Sessions.{session_of, starter_of}
 use Rattle.spec_run.specs.Begun.{Setting}
 use Rattle.spec_run.specs.Progress.{Progress, is_short, moved_to}
 use Rattle.law_run.specs.Fresh.{not_started_above, not_ended_above, not_undone_above, not_old_above}
@@ -68,7 +68,7 @@ started run log s i u number changes size takes (inr (inl o)) free nothing =
             not_ended = parts.not_ended;
           });
           is_new = o.0.is_new;
-          owner = ap (λ b. if b then s else owner_of log u) (eq-eqb u u refl);
+          owner = ap (λ b. if b then s else starter_of log u) (eq-eqb u u refl);
         },
         o.1,
       );
@@ -90,7 +90,7 @@ started run log s i u number changes size takes (inr (inr fresh)) free nothing =
             not_ended = ap not (not_ended_above g u above);
           });
           is_new = not_old_above log run.opened u above;
-          owner = ap (λ b. if b then s else owner_of log u) (eq-eqb u u refl);
+          owner = ap (λ b. if b then s else starter_of log u) (eq-eqb u u refl);
         },
         not_undone_above log run.opened u above,
       );

@@ -10,7 +10,7 @@ use Rattle.spec_log.specs.Images.{final_image}
 use Rattle.spec_log.specs.Sound.{Fits, is_old}
 use Rattle.spec_plan.specs.declared.plan.Planned.{Planned}
 use Rattle.spec_run.specs.Shapes.{change_item, undo_items}
-use Rattle.spec_run.specs.Sessions.{owner_of, session_of}
+use Rattle.spec_run.specs.Sessions.{starter_of, session_of}
 use Rattle.spec_run.specs.Begun.{Setting}
 use Rattle.spec_run.specs.Progress.{Progress, moved}
 use Rattle.law_run.specs.Plans.{ArePlanned}
@@ -19,7 +19,7 @@ use Rattle.law_run.specs.Plans.{ArePlanned}
 pub record Owns (run : Setting) (log : List Record) (s t : ℕ) : Type 0 where
   pub unfinished : is_unfinished (log ++ run.opened) t ≡ true
   pub is_new : is_old run.opened t ≡ false
-  pub owner : owner_of log t ≡ s
+  pub owner : starter_of log t ≡ s
 
 -- the session's open transaction, with nothing undone, or none
 abbrev pub Opens : Setting → List Record → ℕ → ℕ → Type 0
@@ -48,7 +48,7 @@ pub data IsDoing (run : Setting) (log : List Record) (s : ℕ) (p : Progress) : 
 
 -- the item's transaction is none, a new one, or one of the session
 abbrev pub IsOwn : Setting → List Record → ℕ → Record → Type 0
-IsOwn run log s x = (tran_of x ≡ 0) ⊎ ((has_started (log ++ run.opened) (tran_of x) ≡ false) ⊎ (owner_of log (tran_of x) ≡ s))
+IsOwn run log s x = (tran_of x ≡ 0) ⊎ ((has_started (log ++ run.opened) (tran_of x) ≡ false) ⊎ (starter_of log (tran_of x) ≡ s))
 
 -- the item may come, and leaves the session doing the rest
 pub record StepsTo (run : Setting) (log : List Record) (s : ℕ) (w : Progress) (x : Record) : Type 0 where

@@ -10,7 +10,7 @@ use Rattle.spec_log.specs.Images.{final_image}
 use Rattle.spec_log.specs.Sound.{IsSound}
 use Rattle.law_undo.specs.Holders.{unfinished_parts}
 use Rattle.law_undo.specs.Views.{sound_rules, sound_forms}
-use Rattle.spec_run.specs.Sessions.{owner_of, session_of}
+use Rattle.spec_run.specs.Sessions.{starter_of, session_of}
 use Rattle.spec_run.specs.Begun.{Setting}
 use Rattle.spec_run.specs.Progress.{Progress, progress_of, at_work, moved}
 use Rattle.law_run.specs.Others.{unfinished_other, owner_other, undone_other, left_other}
@@ -47,7 +47,7 @@ apart run log x s other t (inl none) differ o same =
     both_ways (ltb 0 t) (ap (ltb 0) (sym same ∙ none)) (unfinished_parts (log ++ run.opened) t o.unfinished).above
 apart run log x s other t (inr (inl fresh)) differ o same =
     both_ways (has_started (log ++ run.opened) t) (subst (λ u. has_started (log ++ run.opened) u ≡ false) same fresh) (unfinished_parts (log ++ run.opened) t o.unfinished).started
-apart run log x s other t (inr (inr owned)) differ o same = differ (sym owned ∙ ap (owner_of log) same ∙ o.owner)
+apart run log x s other t (inr (inr owned)) differ o same = differ (sym owned ∙ ap (starter_of log) same ∙ o.owner)
 
 -- an item moves its own session alone
 pub progress_other : (run : Setting) (log : List Record) (s other : ℕ) (x : Record) → session_of log x ≡ s → (s ≡ other → ⊥) →

@@ -8,7 +8,7 @@ use Rattle.spec_log.specs.declared.item.Record.{Record}
 use Rattle.spec_log.specs.declared.item.Record.TheVariants.{Start, Change, Undo, Commit, Abort, Snap, Failed, CheckEnd}
 use Rattle.spec_log.specs.Items.{tran_of, is_same}
 use Rattle.spec_log.specs.Log.{has_started, has_ended, has_undone, has_taken, is_unfinished, holds, rest_of, left_of}
-use Rattle.spec_run.specs.Sessions.{owner_of}
+use Rattle.spec_run.specs.Sessions.{starter_of}
 
 pub unfinished_other : (x : Record) (g : List Record) (t : ℕ) → (tran_of x ≡ t → ⊥) → is_unfinished (x ∷ g) t ≡ is_unfinished g t
 unfinished_other (Start session index tran number changes size takes) g t n = ap (λ b. ltb 0 t && ((b || has_started g t) && not (has_ended g t))) (ne_eqb tran.0 t n)
@@ -33,8 +33,8 @@ taken_other (CheckEnd session index outcome) g t r n = refl
 pub holds_other : (x : Record) (g : List Record) (t : ℕ) (r : Resource) → (tran_of x ≡ t → ⊥) → holds (x ∷ g) t r ≡ holds g t r
 holds_other x g t r n = ap (λ b. b && has_taken (x ∷ g) t r) (unfinished_other x g t n) ∙ ap (λ b. is_unfinished g t && b) (taken_other x g t r n)
 
-pub owner_other : (x : Record) (log : List Record) (t : ℕ) → (tran_of x ≡ t → ⊥) → owner_of (x ∷ log) t ≡ owner_of log t
-owner_other (Start session index tran number changes size takes) log t n = ap (λ b. if b then session else owner_of log t) (ne_eqb tran.0 t n)
+pub owner_other : (x : Record) (log : List Record) (t : ℕ) → (tran_of x ≡ t → ⊥) → starter_of (x ∷ log) t ≡ starter_of log t
+owner_other (Start session index tran number changes size takes) log t n = ap (λ b. if b then session else starter_of log t) (ne_eqb tran.0 t n)
 owner_other (Change tran cell before after) log t n = refl
 owner_other (Undo tran change) log t n = refl
 owner_other (Commit tran) log t n = refl

@@ -2,3 +2,4 @@ pub mod FirstBytes
 pub mod Written
 pub mod HeaderLaws
 pub mod NumberLaws
+pub mod ReadingLaws

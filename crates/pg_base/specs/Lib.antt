@@ -1,4 +1,5 @@
 pub mod Faults
 pub mod Numbers
+pub mod Stops
 pub mod Reading
 pub mod Zeros

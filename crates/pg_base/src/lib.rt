@@ -5,16 +5,22 @@
 mod header;
 mod numbers;
 mod page;
+mod read;
 mod reader;
 mod words;
 
 pub use header::{is_page_of, read_header, write_header};
 pub use numbers::{put_u16, put_u32, u16_at, u32_at};
-pub use page::{PAGE_SIZE, Page, is_whole};
-pub use reader::{ReadStop, SnapReader, read_page};
+pub use page::{Page, is_whole};
+pub use read::read_page;
+pub use reader::{ReadStop, SnapReader};
+pub use spec_file::{
+    BOOT_TYPE, DATA_TYPE, FILE_HEADER_TYPE, GAM_TYPE, IAM_TYPE, INDEX_TYPE, PFS_TYPE, SGAM_TYPE,
+};
 pub use spec_file::{
     ExtentNo, Geometry, Header, Kind, Lsn, NoMemory, ObjId, PageNo, Resource, Role, Tran,
 };
+pub use spec_file::{MAPS_START, PAGE_SIZE};
 pub use words::Words;
 
 #[cfg(test)]

@@ -9,3 +9,4 @@ pub mod FileForm
 pub mod CatalogRows
 pub mod Iam
 pub mod Pfs
+pub mod Kinds

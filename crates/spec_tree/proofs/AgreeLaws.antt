@@ -7,7 +7,7 @@ use Rattle.spec_tree.specs.declared.known.Root.{Root}
 use Rattle.spec_tree.specs.declared.known.PageHead.{PageHead}
 use Rattle.spec_tree.specs.declared.known.Link.{Link}
 use Rattle.spec_tree.specs.declared.known.IndexRow.{IndexRow}
-use Rattle.spec_tree.specs.declared.known.Place.{Place}
+use Rattle.spec_tree.specs.declared.known.RowPlace.{RowPlace}
 use Rattle.spec_tree.specs.Known.{Known, IsTable, IsPage, IsLink, IsRow, IsUnseenOf, IsUnseen, HasNoLink, HasNoRow, IsSeenElsewhere, IsIndexPage}
 use Rattle.spec_tree.specs.Parents.{ArePlaces, HasNoParent, HasParent, High, Before}
 use Rattle.spec_tree.specs.ParentRules.{IsParentOf, IsRootOf, HasWrongFirstKey, HasWrongPrev}
@@ -69,7 +69,7 @@ elsewhere K L k o w a h = record {
   lowest = λ v s p. h.lowest v s (seen L K k v s (agrees_back K L k a) p);
 }
 
-places : (K L : Known) (k o : ℕ) (ps : List Place) → Agrees K L k → ArePlaces K o k ps → ArePlaces L o k ps
+places : (K L : Known) (k o : ℕ) (ps : List RowPlace) → Agrees K L k → ArePlaces K o k ps → ArePlaces L o k ps
 places K L k o ps a h = record {
   sorted = h.sorted;
   sound = λ q i. let r = h.sound q i in (r.0, row K L k o r.0 a r.1, r.2);

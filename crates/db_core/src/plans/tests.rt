@@ -70,7 +70,7 @@ fn a_limit_is_passed_by_one_more(rt: HostRuntime) -> Result<(), Fail> {
 fn a_count_ends_at_once(rt: HostRuntime) -> Result<(), Fail> {
     let alloc = rt.alloc();
     let mut x = session(alloc, 3, 0)?;
-    let place = Place {
+    let place = StatementNo {
         session: 1,
         index: 1,
     };
@@ -85,7 +85,7 @@ fn a_count_ends_at_once(rt: HostRuntime) -> Result<(), Fail> {
 fn want_of_memory_is_a_refusal(rt: HostRuntime) -> Result<(), Fail> {
     let alloc = rt.alloc();
     let mut x = session(alloc, 0, 0)?;
-    let place = Place {
+    let place = StatementNo {
         session: 1,
         index: 1,
     };

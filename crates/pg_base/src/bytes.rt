@@ -1,10 +1,10 @@
-// Bytes at the end of the log's bytes.
+// Bytes at the end of others, as the items of a log or the lines of a script.
 ghost use Rattle.std.specs.Prelude.{◌≡◌, ◌++◌, length, take, OnOk, OnErr};
 
-use spec_file::NoMemory;
+use crate::NoMemory;
 
-/// All these bytes, or none.
-pub(crate) fn push(into: &mut Vec<u8>, bytes: &[u8]) -> Result<(), NoMemory>
+/// Puts all these bytes at the end. Where memory runs out nothing changes.
+pub fn append(into: &mut Vec<u8>, bytes: &[u8]) -> Result<(), NoMemory>
     ensures ok { OnOk result (into.new.items ≡ into.old.items ++ bytes.now) }
     ensures err { OnErr result (into.new.items ≡ into.old.items) }
 {
@@ -13,16 +13,16 @@ pub(crate) fn push(into: &mut Vec<u8>, bytes: &[u8]) -> Result<(), NoMemory>
 }
 
 // Two parts, of which the first may stand there after an error.
-fn push_both(into: &mut Vec<u8>, first: &[u8], second: &[u8]) -> Result<(), NoMemory>
+fn append_both(into: &mut Vec<u8>, first: &[u8], second: &[u8]) -> Result<(), NoMemory>
     ensures ok { OnOk result (into.new.items ≡ into.old.items ++ (first.now ++ second.now)) }
     ensures err { OnErr result (take (length into.old.items) into.new.items ≡ into.old.items) }
 {
-    push(into, first)?;
-    push(into, second)
+    append(into, first)?;
+    append(into, second)
 }
 
-/// Three parts, or none.
-pub(crate) fn push_all(
+/// Puts three parts at the end, one after another. Where memory runs out nothing changes.
+pub fn append_three(
     into: &mut Vec<u8>,
     first: &[u8],
     second: &[u8],
@@ -32,8 +32,8 @@ pub(crate) fn push_all(
     ensures err { OnErr result (into.new.items ≡ into.old.items) }
 {
     let before = into.len();
-    push(into, first)?;
-    match push_both(into, second, third) {
+    append(into, first)?;
+    match append_both(into, second, third) {
         Ok(()) => Ok(()),
         Err(stop) => {
             into.truncate(before);

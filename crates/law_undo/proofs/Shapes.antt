@@ -6,9 +6,9 @@ use Rattle.spec_log.specs.declared.item.Record.{Record}
 use Rattle.spec_log.specs.Cells.{HasWholePages}
 use Rattle.spec_log.specs.Images.{view_of, final_image}
 use Rattle.spec_log.specs.Sound.{IsSound}
-use Rattle.law_undo.specs.Reading.{SameShape, shape_trans}
-use Rattle.law_undo.specs.ReadLogs.{shape_applied}
-use Rattle.law_undo.specs.Views.{sound_commits, shape_view}
+use Rattle.law_undo.proofs.Reading.{SameShape, shape_trans}
+use Rattle.law_undo.proofs.ReadLogs.{shape_applied}
+use Rattle.law_undo.proofs.Views.{sound_commits, shape_view}
 
 pub shape_sym : (x y : Image) → SameShape x y → SameShape y x
 shape_sym x y s = record { pages = sym s.pages; bytes = λ p. sym (s.bytes p) }

@@ -19,13 +19,15 @@ use Rattle.spec_run.specs.Shapes.{Refused as Refusing, Opening, Writing, Committ
 use Rattle.spec_run.specs.Sessions.{session_of, open_after}
 use Rattle.spec_run.specs.Begun.{Setting, Begun, surely, with_memory, refused, by_outcome, by_damage, begun, sight_of}
 use Rattle.spec_run.specs.Progress.{Progress, progress_of, is_short, at_work, with_statement, script_of, cut_short, moved_to, moved, first_of, MayCome}
-use Rattle.law_undo.specs.Holders.{unfinished_parts}
+use Rattle.law_undo.proofs.Holders.{unfinished_parts}
 use Rattle.law_run.specs.Laws.{UnfinishedIsOpen}
-use Rattle.law_run.specs.Doing.{change_items, abort_items, IsDoing, Idle, Changing, Undoing, Checking}
-use Rattle.law_run.specs.Others.{unfinished_other}
-use Rattle.law_run.specs.Keeps.{progress_other}
-use Rattle.law_run.specs.Moved.{moved_tran}
-use Rattle.law_run.specs.Legal.{legal_right, comes_steps}
+use Rattle.law_run.specs.Doing.{change_items, abort_items}
+use Rattle.law_run.proofs.Doing.{Idle, Changing, Undoing, Checking}
+use Rattle.law_run.proofs.Doing.{IsDoing}
+use Rattle.law_run.proofs.Others.{unfinished_other}
+use Rattle.law_run.proofs.Keeps.{progress_other}
+use Rattle.law_run.proofs.Moved.{moved_tran}
+use Rattle.law_run.proofs.Legal.{legal_right, comes_steps}
 
 -- an item of a session whose open transaction is t is of that transaction, or leaves it open
 abbrev Stays : ℕ → Record → Type 0

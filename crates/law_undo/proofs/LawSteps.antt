@@ -12,9 +12,9 @@ use Rattle.spec_log.specs.Items.{tran_of}
 use Rattle.spec_log.specs.Log.{starts, commits, ends, takes_it, has_started, has_ended, has_committed, has_taken, is_unfinished, holds, IsFreeFor, rest_of, left_of}
 use Rattle.spec_log.specs.Rules.{IsLastLeft}
 use Rattle.spec_log.specs.Sound.{is_old}
-use Rattle.law_undo.specs.Atoms.{Atom, has_atom, bit_in, change_on, turned, named_on, write_on, over, taken_back_at, IsQuiet, taken_back_at-same, applied_at-same}
-use Rattle.law_undo.specs.Holders.{FollowsAt, RulesAt, or_false, not_or, unfinished_parts, unfinished_from, holds_parts, taken_started, holds_older, taken_free, one_holder, AreQuiet, left_quiet, quiet_without_take}
-use Rattle.law_undo.specs.LawAtAtom.{start_at, final_at, committed_at, view_at, Chain, LawAt, applied_still, taken_back_still, taken_back_none, Chain-quiet, not_true, quiet_or_holds, Writes, undone_step, committed_step, seen_step}
+use Rattle.law_undo.proofs.Atoms.{Atom, has_atom, bit_in, change_on, turned, named_on, write_on, over, taken_back_at, IsQuiet, taken_back_at-same, applied_at-same}
+use Rattle.law_undo.proofs.Holders.{FollowsAt, RulesAt, or_false, not_or, unfinished_parts, unfinished_from, holds_parts, taken_started, holds_older, taken_free, one_holder, AreQuiet, left_quiet, quiet_without_take}
+use Rattle.law_undo.proofs.LawAtAtom.{start_at, final_at, committed_at, view_at, Chain, LawAt, applied_still, taken_back_still, taken_back_none, Chain-quiet, not_true, quiet_or_holds, Writes, undone_step, committed_step, seen_step}
 
 -- a change puts itself on what is left
 Chain-change : (k : Atom) (tran : Tran) (cell : Cell) (before after : List ℕ) (number : ℕ) (ps : List (ℕ × Record)) (v w : ℕ) → (has_atom cell (length after) k ≡ true → bit_in cell before k ≡ w) → Chain k ps v w →

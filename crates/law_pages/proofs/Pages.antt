@@ -14,12 +14,12 @@ use Rattle.spec_log.specs.Cover.{byte_guard, bit_guard}
 use Rattle.spec_log.specs.Images.{view_of, final_image}
 use Rattle.spec_log.specs.Sound.{IsSound}
 use Rattle.law_undo.specs.Laws.{IsOngoing}
-use Rattle.law_undo.specs.HolderLaws.{none_other}
-use Rattle.law_undo.specs.Law.{file_shows_bytes}
-use Rattle.law_undo.specs.Unguarded.{unguarded_stay}
-use Rattle.law_undo.specs.Shapes.{final_shape, view_final_shape, whole_shape}
-use Rattle.law_cover.specs.Places.{pages_guard_bytes}
-use Rattle.law_cover.specs.Pages.{pages_guard_themselves, catalog_guards_boot, pfs_headers_are_fixed}
+use Rattle.law_undo.proofs.HolderLaws.{none_other}
+use Rattle.law_undo.proofs.Law.{file_shows_bytes}
+use Rattle.law_undo.proofs.Unguarded.{unguarded_stay}
+use Rattle.law_undo.proofs.Shapes.{final_shape, view_final_shape, whole_shape}
+use Rattle.law_cover.proofs.Places.{pages_guard_bytes}
+use Rattle.law_cover.proofs.Pages.{pages_guard_themselves, catalog_guards_boot, pfs_headers_are_fixed}
 use Rattle.law_pages.specs.Laws.{FileIsShown}
 
 -- a page with one guard that nobody else holds

@@ -12,12 +12,12 @@ use Rattle.spec_log.specs.declared.item.Record.TheVariants.{Start, Change, Undo,
 use Rattle.spec_log.specs.Items.{tran_of, has_form, has_cell_form}
 use Rattle.spec_log.specs.Log.{is_unfinished, item_at}
 use Rattle.spec_log.specs.Rules.{HaveForm}
-use Rattle.spec_log.specs.RulesLaws.{older_forms}
+use Rattle.spec_log.proofs.RulesLaws.{older_forms}
 use Rattle.spec_log.specs.Cells.{put}
 use Rattle.spec_log.specs.Images.{put_before, put_after, apply, take_back, applied, taken_back, start_image}
-use Rattle.law_undo.specs.Atoms.{Atom, read, has_atom, bit_in, turned, named_on, write_on, over, under, applied_at, taken_back_at}
-use Rattle.law_undo.specs.LawAtAtom.{start_at}
-use Rattle.law_undo.specs.Reading.{IsInside, SameShape, shape_refl, shape_trans, inside_shape, shape_put, MayPut, read_put}
+use Rattle.law_undo.proofs.Atoms.{Atom, read, has_atom, bit_in, turned, named_on, write_on, over, under, applied_at, taken_back_at}
+use Rattle.law_undo.proofs.LawAtAtom.{start_at}
+use Rattle.law_undo.proofs.Reading.{IsInside, SameShape, shape_refl, shape_trans, inside_shape, shape_put, MayPut, read_put}
 
 -- what the form of a Change says of its bytes
 pub record CellForm (cell : Cell) (before after : List ℕ) : Type 0 where

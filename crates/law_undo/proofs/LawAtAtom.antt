@@ -7,8 +7,8 @@ use Rattle.spec_log.specs.declared.item.Record.TheVariants.{Start, Change, Undo,
 use Rattle.spec_log.specs.Items.{tran_of}
 use Rattle.spec_log.specs.Log.{commits, ends, has_ended, has_committed, has_taken, is_unfinished, holds, IsFreeFor, left_of}
 use Rattle.spec_log.specs.Sound.{is_old}
-use Rattle.law_undo.specs.Atoms.{Atom, change_on, write_on, over, under, applied_at, taken_back_at, IsQuiet, taken_back_at-same, applied_at-same}
-use Rattle.law_undo.specs.Holders.{RulesAt, unfinished_parts, holds_parts, AreQuiet, quiet_without_take}
+use Rattle.law_undo.proofs.Atoms.{Atom, change_on, write_on, over, under, applied_at, taken_back_at, IsQuiet, taken_back_at-same, applied_at-same}
+use Rattle.law_undo.proofs.Holders.{RulesAt, unfinished_parts, holds_parts, AreQuiet, quiet_without_take}
 
 abbrev pub start_at : Atom → List Record → ℕ → ℕ
 start_at k opened b = taken_back_at (is_unfinished opened) k opened b

@@ -12,8 +12,8 @@ use Rattle.spec_log.specs.declared.item.Cell.TheVariants.{Bytes, Bit}
 use Rattle.spec_log.specs.Items.{has_cell_form}
 use Rattle.spec_log.specs.Cells.{read_cell}
 use Rattle.spec_log.specs.Images.{page_of_cell}
-use Rattle.law_undo.specs.Reading.{IsInside, SameShape}
-use Rattle.law_undo.specs.Atoms.{Atom, read, has_atom, bit_in}
+use Rattle.law_undo.proofs.Reading.{IsInside, SameShape}
+use Rattle.law_undo.proofs.Atoms.{Atom, read, has_atom, bit_in}
 
 -- byte i of the part of a list from off
 part_at : (xs : List ℕ) (off n i : ℕ) → off ≤ i → i < off + n → get_or (take (off + n - off) (drop off xs)) (i - off) 0 ≡ get_or xs i 0

@@ -12,12 +12,12 @@ use Rattle.spec_log.specs.Rules.{HaveForm, KeepsRules}
 use Rattle.spec_log.specs.Cells.{put}
 use Rattle.spec_log.specs.Images.{apply, applied, changed, start_image, committed_image, view_of}
 use Rattle.spec_log.specs.Sound.{IsSound}
-use Rattle.law_undo.specs.Atoms.{Atom, read, has_atom, bit_in, turned, named_on, write_on, over, applied_at, IsQuiet, applied_at-same}
-use Rattle.law_undo.specs.Holders.{FollowsAt, RulesAt, or_false, unfinished_parts, one_holder, AreQuiet, left_quiet, quiet_without_take}
-use Rattle.law_undo.specs.LawAtAtom.{start_at, committed_at, view_at, not_true, quiet_or_holds, committed_ended}
-use Rattle.law_undo.specs.LawSteps.{taken_holds}
-use Rattle.law_undo.specs.Reading.{IsInside, SameShape, inside_shape}
-use Rattle.law_undo.specs.ReadLogs.{read_applied, read_from_start, shape_applied, shape_start}
+use Rattle.law_undo.proofs.Atoms.{Atom, read, has_atom, bit_in, turned, named_on, write_on, over, applied_at, IsQuiet, applied_at-same}
+use Rattle.law_undo.proofs.Holders.{FollowsAt, RulesAt, or_false, unfinished_parts, one_holder, AreQuiet, left_quiet, quiet_without_take}
+use Rattle.law_undo.proofs.LawAtAtom.{start_at, committed_at, view_at, not_true, quiet_or_holds, committed_ended}
+use Rattle.law_undo.proofs.LawSteps.{taken_holds}
+use Rattle.law_undo.proofs.Reading.{IsInside, SameShape, inside_shape}
+use Rattle.law_undo.proofs.ReadLogs.{read_applied, read_from_start, shape_applied, shape_start}
 
 -- a sound log keeps the rules, and its items have their form
 pub sound_rules : (g : Geometry) (pages : ℕ) (opened : List Record) (b : Image) (log : List Record) → IsSound g pages opened b log → KeepsRules g pages (log ++ opened)

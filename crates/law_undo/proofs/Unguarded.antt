@@ -13,14 +13,14 @@ use Rattle.spec_log.specs.Log.{item_at, has_committed, is_unfinished}
 use Rattle.spec_log.specs.Cover.{byte_guard, bit_guard, HoldsGuard, IsCovered}
 use Rattle.spec_log.specs.Rules.{KeepsRules}
 use Rattle.spec_log.specs.Images.{final_image, committed_image, view_of}
-use Rattle.law_undo.specs.Atoms.{Atom, read, has_atom, bit_in, change_on, turned, named_on, write_on, over, under, applied_at, taken_back_at}
-use Rattle.law_undo.specs.LawAtAtom.{start_at}
-use Rattle.law_undo.specs.Reading.{IsInside, inside_shape, shape_refl}
-use Rattle.law_undo.specs.ReadLogs.{read_applied, shape_applied}
-use Rattle.law_undo.specs.Guards.{atom}
-use Rattle.law_undo.specs.Views.{sound_rules, sound_forms, sound_commits, read_committed, shape_committed, shape_view}
+use Rattle.law_undo.proofs.Atoms.{Atom, read, has_atom, bit_in, change_on, turned, named_on, write_on, over, under, applied_at, taken_back_at}
+use Rattle.law_undo.proofs.LawAtAtom.{start_at}
+use Rattle.law_undo.proofs.Reading.{IsInside, inside_shape, shape_refl}
+use Rattle.law_undo.proofs.ReadLogs.{read_applied, shape_applied}
+use Rattle.law_undo.proofs.Guards.{atom}
+use Rattle.law_undo.proofs.Views.{sound_rules, sound_forms, sound_commits, read_committed, shape_committed, shape_view}
 use Rattle.law_undo.specs.Laws.{UnguardedStay}
-use Rattle.law_undo.specs.Law.{same_byte}
+use Rattle.law_undo.proofs.Law.{same_byte}
 
 -- no item writes the atom
 abbrev pub Unwritten : Atom → List Record → Type 0

@@ -1,11 +1,12 @@
 -- What the pages of a file's bytes are.
-use Rattle.std.specs.Prelude.{◌≡◌, ℕ, zero, suc, ◌+◌, ◌*◌, ◌/◌, ◌<◌, List, [], ◌++◌, length, take, map, flat_map, refl}
+use Rattle.std.specs.Prelude.{◌≡◌, ℕ, zero, suc, ◌+◌, ◌*◌, ◌/◌, ◌<◌, List, [], ◌++◌, length, take, map, refl}
 use Rattle.std.specs.List.{range_with_len}
 use Rattle.std.proofs.lemmas.List.FromFn.{length-map-range_with_len, get_or-map-range_with_len, map-range_with_len_more}
 use Rattle.std.proofs.lemmas.List.{flat_map_more}
 use Rattle.std.proofs.Math.Seq.{take-add, take-length}
 use Rattle.std.proofs.Common.{arith, sym, ap, ◌∙◌}
-use Rattle.spec_file.specs.Image.{Image, page_size, page_at, pages_of, page}
+use Rattle.spec_file.specs.Image.{page_size, page_at, pages_of, page}
+use Rattle.spec_file.specs.Image.{bytes_of}
 
 pub length-pages_of : (bytes : List ℕ) → length (pages_of bytes) ≡ length bytes / page_size
 unfolding pages_of
@@ -14,10 +15,6 @@ length-pages_of bytes = length-map-range_with_len (page_at bytes) 0 (length byte
 pub page-pages_of : (bytes : List ℕ) (p : ℕ) → p < length bytes / page_size → page (pages_of bytes) p ≡ page_at bytes p
 unfolding pages_of
 page-pages_of bytes p h = get_or-map-range_with_len (page_at bytes) 0 (length bytes / page_size) p p [] h (omega arith)
-
--- the pages of an image, one after another
-abbrev pub bytes_of : Image → List ℕ
-bytes_of image = flat_map (λ page. page) image
 
 -- the first n pages hold the first bytes
 front_bytes : (bytes : List ℕ) (n : ℕ) → bytes_of (map (page_at bytes) (range_with_len 0 n)) ≡ take (page_size * n) bytes

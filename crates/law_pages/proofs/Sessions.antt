@@ -7,8 +7,8 @@ use Rattle.spec_file.specs.declared.geometry.Geometry.{Geometry}
 use Rattle.spec_log.specs.declared.item.Record.{Record}
 use Rattle.spec_log.specs.Log.{holds, holder_of, IsFreeFor}
 use Rattle.spec_log.specs.Rules.{KeepsRules}
-use Rattle.law_undo.specs.Holders.{holds_parts}
-use Rattle.law_undo.specs.HolderLaws.{IsOther, holder_is_other, holders_are_one}
+use Rattle.law_undo.proofs.Holders.{holds_parts}
+use Rattle.law_undo.proofs.HolderLaws.{IsOther, holder_is_other, holders_are_one}
 use Rattle.law_pages.specs.Laws.{HolderIsExact, IsHolderAmong, HolderIsSession, FirstIsAmong}
 
 -- who holds a resource and isn't t is named

@@ -15,16 +15,16 @@ use Rattle.spec_log.specs.Cover.{bit_guard}
 use Rattle.spec_log.specs.Rules.{KeepsRules}
 use Rattle.spec_log.specs.Images.{final_image, committed_image, undone_image, view_of}
 use Rattle.spec_log.specs.Sound.{IsSound}
-use Rattle.law_undo.specs.Atoms.{Atom, read, taken_back_at, IsQuiet, applied_at-same}
-use Rattle.law_undo.specs.Holders.{unfinished_parts, one_holder, quiet_without_take}
-use Rattle.law_undo.specs.LawAtAtom.{start_at, committed_at, final_at, view_at, Chain, LawAt, not_true, quiet_or_holds}
-use Rattle.law_undo.specs.LawSteps.{FitsAt, law_step, opened_law, taken_above}
-use Rattle.law_undo.specs.Reading.{IsInside, SameShape, inside_shape, shape_trans}
-use Rattle.law_undo.specs.ReadLogs.{cell_form, read_applied, read_taken_back, shape_applied, shape_taken_back, same_images}
-use Rattle.law_undo.specs.Guards.{no_byte_guard, atom, guard_of, first_guard, rules_at, follows_at}
-use Rattle.law_undo.specs.Views.{sound_rules, sound_forms, sound_commits, read_committed, read_view, shape_committed, shape_view}
+use Rattle.law_undo.proofs.Atoms.{Atom, read, taken_back_at, IsQuiet, applied_at-same}
+use Rattle.law_undo.proofs.Holders.{unfinished_parts, one_holder, quiet_without_take}
+use Rattle.law_undo.proofs.LawAtAtom.{start_at, committed_at, final_at, view_at, Chain, LawAt, not_true, quiet_or_holds}
+use Rattle.law_undo.proofs.LawSteps.{FitsAt, law_step, opened_law, taken_above}
+use Rattle.law_undo.proofs.Reading.{IsInside, SameShape, inside_shape, shape_trans}
+use Rattle.law_undo.proofs.ReadLogs.{cell_form, read_applied, read_taken_back, shape_applied, shape_taken_back, same_images}
+use Rattle.law_undo.proofs.Guards.{no_byte_guard, atom, guard_of, first_guard, rules_at, follows_at}
+use Rattle.law_undo.proofs.Views.{sound_rules, sound_forms, sound_commits, read_committed, read_view, shape_committed, shape_view}
 use Rattle.law_undo.specs.Laws.{UndoGivesCommitted, FileShowsBytes, FileShowsBits, UndosBringBack, NobodySeesCommitted, IsOngoing}
-use Rattle.law_undo.specs.CellAtoms.{cell_atom}
+use Rattle.law_undo.proofs.CellAtoms.{cell_atom}
 
 -- what a Change found is what its transaction saw at each atom of the cell
 pub fits_at : (g : Geometry) (opened log : List Record) (b : Image) (p i j : ℕ) (x : Record) → IsInside (atom g (length b) p i j) b → IsSound g (length b) opened b (x ∷ log) →

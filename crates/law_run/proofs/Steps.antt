@@ -9,16 +9,18 @@ use Rattle.spec_log.specs.Items.{has_form}
 use Rattle.spec_log.specs.Log.{has_undone, left_of, rest_of}
 use Rattle.spec_log.specs.Cover.{IsCovered, HoldsGuard}
 use Rattle.spec_log.specs.Sound.{IsSound}
-use Rattle.law_undo.specs.ReadLogs.{cell_form}
+use Rattle.law_undo.proofs.ReadLogs.{cell_form}
 use Rattle.spec_plan.specs.declared.plan.Planned.{Planned}
 use Rattle.spec_run.specs.Shapes.{change_item}
 use Rattle.spec_run.specs.Begun.{Setting}
 use Rattle.spec_run.specs.Progress.{Progress, is_short, moved_to}
-use Rattle.law_run.specs.Plans.{all_covered_more}
-use Rattle.law_run.specs.Doing.{Owns, Opens, change_items, abort_items, ArePlannedIn, IsDoing, Idle, Changing, Undoing, StepsTo}
-use Rattle.law_run.specs.Left.{AreNamed, left_named}
-use Rattle.law_run.specs.Shows.{covered_cell_shows}
-use Rattle.law_run.specs.Moved.{moved_whole, moved_short, moved_due, moved_tran, moved_want}
+use Rattle.law_run.proofs.Plans.{all_covered_more}
+use Rattle.law_run.specs.Doing.{change_items, abort_items}
+use Rattle.law_run.proofs.Doing.{Idle, Changing, Undoing}
+use Rattle.law_run.proofs.Doing.{Owns, Opens, ArePlannedIn, IsDoing, StepsTo}
+use Rattle.law_run.proofs.Left.{AreNamed, left_named}
+use Rattle.law_run.proofs.Shows.{covered_cell_shows}
+use Rattle.law_run.proofs.Moved.{moved_whole, moved_short, moved_due, moved_tran, moved_want}
 
 abbrev pub IsSoundIn : Setting → List Record → Type 0
 IsSoundIn run log = IsSound run.geometry (length run.image) run.opened run.image log

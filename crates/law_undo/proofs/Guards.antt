@@ -18,8 +18,8 @@ use Rattle.spec_log.specs.Items.{is_same}
 use Rattle.spec_log.specs.Log.{holds, greatest_of}
 use Rattle.spec_log.specs.Cover.{bit_guard, bit_guard_by, in_file, byte_guard, byte_guard_by, HoldsGuard, IsCovered}
 use Rattle.spec_log.specs.Rules.{MayStart, Follows, KeepsRules}
-use Rattle.law_undo.specs.Atoms.{Atom, has_atom}
-use Rattle.law_undo.specs.Holders.{FollowsAt, RulesAt, unfinished_parts}
+use Rattle.law_undo.proofs.Atoms.{Atom, has_atom}
+use Rattle.law_undo.proofs.Holders.{FollowsAt, RulesAt, unfinished_parts}
 
 -- the first that there is; where there is none, nobody writes there, and any will do
 abbrev pub first_guard : Option Resource → Option Resource → Resource

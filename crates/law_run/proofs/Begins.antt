@@ -9,15 +9,17 @@ use Rattle.spec_log.specs.Items.{has_form}
 use Rattle.spec_log.specs.Log.{has_started, has_undone, greatest_of, left_of}
 use Rattle.spec_log.specs.Rules.{Follows, AreFreeFor}
 use Rattle.spec_log.specs.Sound.{Fits, is_old}
-use Rattle.law_undo.specs.Holders.{unfinished_parts, unfinished_from}
+use Rattle.law_undo.proofs.Holders.{unfinished_parts, unfinished_from}
 use Rattle.spec_plan.specs.declared.plan.Planned.{Planned}
 use Rattle.spec_run.specs.Shapes.{plain_start}
 use Rattle.spec_run.specs.Sessions.{session_of, starter_of}
 use Rattle.spec_run.specs.Begun.{Setting}
 use Rattle.spec_run.specs.Progress.{Progress, is_short, moved_to}
-use Rattle.law_run.specs.Fresh.{not_started_above, not_ended_above, not_undone_above, not_old_above}
-use Rattle.law_run.specs.Doing.{Owns, Opens, change_items, abort_items, ArePlannedIn, IsDoing, Idle, Changing, Undoing, Checking, IsOwn, StepsTo}
-use Rattle.law_run.specs.Moved.{moved_whole, moved_short, moved_due, moved_tran, moved_want}
+use Rattle.law_run.proofs.Fresh.{not_started_above, not_ended_above, not_undone_above, not_old_above}
+use Rattle.law_run.specs.Doing.{change_items, abort_items}
+use Rattle.law_run.proofs.Doing.{Idle, Changing, Undoing, Checking}
+use Rattle.law_run.proofs.Doing.{Owns, Opens, ArePlannedIn, IsDoing, IsOwn, StepsTo}
+use Rattle.law_run.proofs.Moved.{moved_whole, moved_short, moved_due, moved_tran, moved_want}
 
 -- which transactions a Start may have
 abbrev pub Begins : Setting → List Record → ℕ → ℕ → Type 0

@@ -21,15 +21,17 @@ use Rattle.spec_script.specs.declared.reply.Reply.TheVariants.{Done, Rows, Refus
 use Rattle.spec_run.specs.Progress.{Progress, progress_of, at_work, with_statement, script_of, moved, work_of, first_of, MayCome}
 use Rattle.spec_run.specs.Turns.{IsLegal}
 use Rattle.law_run.specs.Laws.{IsStart, LegalIsSound, NextBelongs}
-use Rattle.law_run.specs.Doing.{Owns, Opens, change_items, abort_items, IsDoing, Idle, Changing, Undoing, Checking, StepsTo}
-use Rattle.law_run.specs.Keeps.{other_session}
-use Rattle.law_run.specs.Steps.{IsSoundIn, change_steps, commit_steps, abort_steps, undo_steps, end_steps}
+use Rattle.law_run.specs.Doing.{change_items, abort_items}
+use Rattle.law_run.proofs.Doing.{Idle, Changing, Undoing, Checking}
+use Rattle.law_run.proofs.Doing.{Owns, Opens, IsDoing, StepsTo}
+use Rattle.law_run.proofs.Keeps.{other_session}
+use Rattle.law_run.proofs.Steps.{IsSoundIn, change_steps, commit_steps, abort_steps, undo_steps, end_steps}
 use Rattle.law_plan.specs.Good.{IsGoodPlan}
-use Rattle.law_run.specs.Begins.{Begins, opens_begins, single_steps, committing_steps, rolling_steps, writing_steps, snap_steps}
-use Rattle.law_undo.specs.Shapes.{view_shape, whole_shape}
+use Rattle.law_run.proofs.Begins.{Begins, opens_begins, single_steps, committing_steps, rolling_steps, writing_steps, snap_steps}
+use Rattle.law_undo.proofs.Shapes.{view_shape, whole_shape}
 use Rattle.law_plan.specs.Laws.{IsNoWrite}
-use Rattle.law_plan.specs.InsertGood.{insert_good, count_writes_nothing}
-use Rattle.law_run.specs.Written.{writes_for, few_changes, is_written}
+use Rattle.law_plan.proofs.InsertGood.{insert_good, count_writes_nothing}
+use Rattle.law_run.proofs.Written.{writes_for, few_changes, is_written}
 
 some_same : (x y : Record) → Some x ≡ Some y → x ≡ y
 some_same x y e = cc

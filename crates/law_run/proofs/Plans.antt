@@ -14,17 +14,18 @@ use Rattle.spec_log.specs.Cells.{read_cell, put}
 use Rattle.spec_log.specs.Cover.{IsCovered, HoldsGuard, byte_guard, bit_guard}
 use Rattle.spec_log.specs.Images.{apply}
 use Rattle.spec_log.specs.Rules.{Follows, KeepsRules, HaveForm}
-use Rattle.law_undo.specs.Atoms.{read, has_atom, bit_in, write_on, over}
-use Rattle.law_undo.specs.Reading.{IsInside, SameShape, shape_trans, inside_shape, shape_put, read_put}
-use Rattle.law_undo.specs.ReadLogs.{cell_form, read_apply, shape_apply}
-use Rattle.law_undo.specs.Guards.{guard_of, atom, covered_at, follows_at, rules_at}
-use Rattle.law_undo.specs.Holders.{one_holder}
-use Rattle.law_undo.specs.CellAtoms.{same_cell}
-use Rattle.law_undo.specs.Views.{writer_holds}
-use Rattle.law_undo.specs.Shapes.{shape_sym}
+use Rattle.law_undo.proofs.Atoms.{read, has_atom, bit_in, write_on, over}
+use Rattle.law_undo.proofs.Reading.{IsInside, SameShape, shape_trans, inside_shape, shape_put, read_put}
+use Rattle.law_undo.proofs.ReadLogs.{cell_form, read_apply, shape_apply}
+use Rattle.law_undo.proofs.Guards.{guard_of, atom, covered_at, follows_at, rules_at}
+use Rattle.law_undo.proofs.Holders.{one_holder}
+use Rattle.law_undo.proofs.CellAtoms.{same_cell}
+use Rattle.law_undo.proofs.Views.{writer_holds}
+use Rattle.law_undo.proofs.Shapes.{shape_sym}
 use Rattle.spec_plan.specs.declared.plan.Planned.{Planned}
-use Rattle.law_plan.specs.Good.{Find, HaveCells, AreCovered}
-use Rattle.law_run.specs.Others.{holds_other}
+use Rattle.law_plan.specs.Good.{Find, HaveCells}
+use Rattle.law_plan.proofs.Good.{AreCovered}
+use Rattle.law_run.proofs.Others.{holds_other}
 
 -- changes of transaction t that are planned over an image after a log
 pub record ArePlanned (g : Geometry) (pages : ℕ) (log : List Record) (t : ℕ) (image : Image) (changes : List Planned) : Type 0 where

@@ -8,7 +8,7 @@ use Rattle.spec_log.specs.declared.item.Record.TheVariants.{Start, Change, Undo,
 use Rattle.spec_log.specs.Items.{is_same}
 use Rattle.spec_log.specs.Log.{starts, ends, takes_it, has_started, has_ended, has_taken, is_unfinished, holds, IsFreeFor, rest_of, left_of}
 use Rattle.spec_log.specs.Rules.{IsLastLeft}
-use Rattle.law_undo.specs.Atoms.{Atom, has_atom, bit_in, change_on, turned, named_on, IsQuiet}
+use Rattle.law_undo.proofs.Atoms.{Atom, has_atom, bit_in, change_on, turned, named_on, IsQuiet}
 
 -- what the rules of a log ask of an item, as far as one atom is concerned
 abbrev pub FollowsAt : Atom → List Record → Record → Type 0

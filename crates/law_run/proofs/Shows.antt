@@ -10,17 +10,17 @@ use Rattle.spec_log.specs.Cells.{read_cell}
 use Rattle.spec_log.specs.Cover.{IsCovered}
 use Rattle.spec_log.specs.Images.{view_of, final_image}
 use Rattle.spec_log.specs.Sound.{IsSound, is_old}
-use Rattle.law_undo.specs.Reading.{inside_shape}
-use Rattle.law_undo.specs.Guards.{guard_of, atom, covered_at}
-use Rattle.law_undo.specs.Holders.{unfinished_parts}
-use Rattle.law_undo.specs.HolderLaws.{holders_are_one}
-use Rattle.law_undo.specs.LawAtAtom.{not_true}
-use Rattle.law_undo.specs.Law.{shows_at}
+use Rattle.law_undo.proofs.Reading.{inside_shape}
+use Rattle.law_undo.proofs.Guards.{guard_of, atom, covered_at}
+use Rattle.law_undo.proofs.Holders.{unfinished_parts}
+use Rattle.law_undo.proofs.HolderLaws.{holders_are_one}
+use Rattle.law_undo.proofs.LawAtAtom.{not_true}
+use Rattle.law_undo.proofs.Law.{shows_at}
 use Rattle.law_undo.specs.Laws.{IsOngoing}
-use Rattle.law_undo.specs.Views.{sound_rules}
-use Rattle.law_undo.specs.CellAtoms.{same_cell}
-use Rattle.law_undo.specs.Shapes.{shape_sym, view_shape, view_final_shape}
-use Rattle.law_run.specs.Plans.{SameWhereHeld}
+use Rattle.law_undo.proofs.Views.{sound_rules}
+use Rattle.law_undo.proofs.CellAtoms.{same_cell}
+use Rattle.law_undo.proofs.Shapes.{shape_sym, view_shape, view_final_shape}
+use Rattle.law_run.proofs.Plans.{SameWhereHeld}
 
 -- what a longer log's holder holds is free for the transaction now
 pub view_shows : (g : Geometry) (opened log : List Record) (b : Image) (t : ℕ) (longer : List Record) (u : ℕ) → IsSound g (length b) opened b log → IsOngoing opened log t →

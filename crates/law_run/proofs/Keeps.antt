@@ -8,14 +8,16 @@ use Rattle.spec_log.specs.Log.{has_started}
 use Rattle.spec_log.specs.Rules.{Follows}
 use Rattle.spec_log.specs.Images.{final_image}
 use Rattle.spec_log.specs.Sound.{IsSound}
-use Rattle.law_undo.specs.Holders.{unfinished_parts}
-use Rattle.law_undo.specs.Views.{sound_rules, sound_forms}
+use Rattle.law_undo.proofs.Holders.{unfinished_parts}
+use Rattle.law_undo.proofs.Views.{sound_rules, sound_forms}
 use Rattle.spec_run.specs.Sessions.{starter_of, session_of}
 use Rattle.spec_run.specs.Begun.{Setting}
 use Rattle.spec_run.specs.Progress.{Progress, progress_of, at_work, moved}
-use Rattle.law_run.specs.Others.{unfinished_other, owner_other, undone_other, left_other}
-use Rattle.law_run.specs.Plans.{planned_other}
-use Rattle.law_run.specs.Doing.{Owns, Opens, abort_items, IsDoing, Idle, Changing, Undoing, Checking, IsOwn}
+use Rattle.law_run.proofs.Others.{unfinished_other, owner_other, undone_other, left_other}
+use Rattle.law_run.proofs.Plans.{planned_other}
+use Rattle.law_run.specs.Doing.{abort_items}
+use Rattle.law_run.proofs.Doing.{Idle, Changing, Undoing, Checking}
+use Rattle.law_run.proofs.Doing.{Owns, Opens, IsDoing, IsOwn}
 
 pub Owns_other : (run : Setting) (log : List Record) (x : Record) (s t : ℕ) → (tran_of x ≡ t → ⊥) → Owns run log s t → Owns run (x ∷ log) s t
 Owns_other run log x s t n o = record {

@@ -18,8 +18,8 @@ use Rattle.spec_log.specs.declared.item.Cell.TheVariants.{Bytes}
 use Rattle.spec_log.specs.Items.{is_same, grain_of, number_of, has_cell_form}
 use Rattle.spec_log.specs.Cells.{HasWholePages, read_cell, put, with_bytes}
 use Rattle.spec_log.specs.Cover.{IsOfOneExtent, byte_guard, paged_at}
-use Rattle.law_cover.specs.Places.{pages_guard_bytes}
-use Rattle.law_cover.specs.Pages.{ordinary_role, pages_guard_themselves, pfs_inside}
+use Rattle.law_cover.proofs.Places.{pages_guard_bytes}
+use Rattle.law_cover.proofs.Pages.{ordinary_role, pages_guard_themselves, pfs_inside}
 use Rattle.spec_chain.specs.Uses.{pfs_byte}
 use Rattle.spec_rows.specs.Slots.{slot_count}
 use Rattle.spec_plan.specs.Sight.{Sight, Outcome, Refuses, Counts, Writes}
@@ -29,9 +29,9 @@ use Rattle.spec_plan.specs.Rows.{passes_page, heap_row, with_row, free_count}
 use Rattle.spec_plan.specs.Changes.{change_between, page_changes}
 use Rattle.spec_plan.specs.Statements.{with_fullness, counted, byte_change, not_own, row_put, inserted}
 use Rattle.law_plan.specs.Good.{Find, HaveCells, IsGoodPlan, IsOwnOrTaken, IsCoveredBy, AreCoveredBy}
-use Rattle.law_plan.specs.PageChanges.{slice_length, slice_get, between_cells, between_covered, between_find}
-use Rattle.law_plan.specs.ReadingGood.{all_heap, all_counted, all_inserted, IsChosen}
-use Rattle.law_plan.specs.RowFits.{RowFits, row_fits}
+use Rattle.law_plan.proofs.PageChanges.{slice_length, slice_get, between_cells, between_covered, between_find}
+use Rattle.law_plan.proofs.ReadingGood.{all_heap, all_counted, all_inserted, IsChosen}
+use Rattle.law_plan.proofs.RowFits.{RowFits, row_fits}
 use Rattle.law_plan.specs.Laws.{InsertIsGood, IsNoWrite, CountWritesNothing}
 
 pub count_writes_nothing : CountWritesNothing

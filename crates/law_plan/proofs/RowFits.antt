@@ -12,7 +12,7 @@ use Rattle.spec_file.specs.Header.{header_of, header_version}
 use Rattle.spec_rows.specs.Slots.{slot_count, slot_limit, rows_end, row_size, rows_size, page_row, row_end, slot_at}
 use Rattle.spec_rows.specs.PageTest.{owner_fault, form_fault, has_level, has_rows, has_links, has_room, has_no_ghosts, has_free_count}
 use Rattle.spec_plan.specs.Rows.{passes_page, free_count, has_room_for, counted_header, rows_bytes, slots_bytes, compacted, with_row_at, fits_behind, with_row}
-use Rattle.law_plan.specs.PageChanges.{slice_length}
+use Rattle.law_plan.proofs.PageChanges.{slice_length}
 
 pub record RowFits (old new : List ℕ) : Type 0 where
   pub long : length new ≡ 8192

@@ -8,10 +8,10 @@ use Rattle.spec_file.specs.declared.geometry.Geometry.{Geometry}
 use Rattle.spec_log.specs.declared.item.Record.{Record}
 use Rattle.spec_log.specs.declared.item.Record.TheVariants.{Start, Change, Undo, Commit, Abort, Snap, Failed, CheckEnd}
 use Rattle.spec_log.specs.Items.{tran_of, is_same}
-use Rattle.spec_log.specs.ItemLaws.{starts_tran}
+use Rattle.spec_log.proofs.ItemLaws.{starts_tran}
 use Rattle.spec_log.specs.Log.{starts, takes_it, has_started, holds, IsFreeFor, holder_among, holder_of}
 use Rattle.spec_log.specs.Rules.{Follows}
-use Rattle.law_undo.specs.Holders.{holds_parts, taken_started, holds_older}
+use Rattle.law_undo.proofs.Holders.{holds_parts, taken_started, holds_older}
 use Rattle.law_undo.specs.Laws.{HolderIsOther, HoldersAreOne}
 
 abbrev pub IsOther : List Record → Resource → ℕ → ℕ → Type 0

@@ -10,24 +10,25 @@ use Rattle.spec_log.specs.Log.{takes_it, has_started, has_ended, has_taken, has_
 use Rattle.spec_log.specs.Limits.{passes_limit, changes_of}
 use Rattle.spec_log.specs.Images.{view_of, final_image}
 use Rattle.spec_log.specs.Sound.{is_old}
-use Rattle.law_undo.specs.Holders.{unfinished_parts, holds_parts, holds_older}
-use Rattle.law_undo.specs.HolderLaws.{none_other, holders_are_one}
-use Rattle.law_undo.specs.LawAtAtom.{not_true}
+use Rattle.law_undo.proofs.Holders.{unfinished_parts, holds_parts, holds_older}
+use Rattle.law_undo.proofs.HolderLaws.{none_other, holders_are_one}
+use Rattle.law_undo.proofs.LawAtAtom.{not_true}
 use Rattle.law_undo.specs.Laws.{IsOngoing}
-use Rattle.law_undo.specs.Views.{sound_rules}
-use Rattle.law_undo.specs.Shapes.{view_shape, view_final_shape}
-use Rattle.law_plan.specs.Good.{AreCovered, IsGoodPlan, IsOwnOrTaken, AreCoveredBy, all_covered_by, size_bound}
+use Rattle.law_undo.proofs.Views.{sound_rules}
+use Rattle.law_undo.proofs.Shapes.{view_shape, view_final_shape}
+use Rattle.law_plan.specs.Good.{IsGoodPlan, IsOwnOrTaken, AreCoveredBy}
+use Rattle.law_plan.proofs.Good.{AreCovered, all_covered_by, size_bound}
 use Rattle.spec_plan.specs.declared.plan.Planned.{Planned}
 use Rattle.spec_plan.specs.Planned.{planned_size}
 use Rattle.spec_run.specs.Shapes.{tran_to_write}
 use Rattle.spec_run.specs.Begun.{Setting, sight_of}
-use Rattle.law_undo.specs.Law.{zero_open}
-use Rattle.law_run.specs.Fresh.{not_started_above}
-use Rattle.law_run.specs.Plans.{find_same}
-use Rattle.law_run.specs.Doing.{Owns, Opens, ArePlannedIn}
-use Rattle.law_run.specs.Shows.{view_shows}
-use Rattle.law_run.specs.Steps.{IsSoundIn}
-use Rattle.law_run.specs.Begins.{Begins, Started, started, start_form}
+use Rattle.law_undo.proofs.Law.{zero_open}
+use Rattle.law_run.proofs.Fresh.{not_started_above}
+use Rattle.law_run.proofs.Plans.{find_same}
+use Rattle.law_run.proofs.Doing.{Owns, Opens, ArePlannedIn}
+use Rattle.law_run.proofs.Shows.{view_shows}
+use Rattle.law_run.proofs.Steps.{IsSoundIn}
+use Rattle.law_run.proofs.Begins.{Begins, Started, started, start_form}
 
 -- the transaction u that writes for a session whose open transaction is t
 abbrev pub WritesFor : List Record → ℕ → ℕ → Type 0

@@ -2,7 +2,7 @@
 use Rattle.std.proofs.Common.{◌≡◌, ℕ, ◌<◌, ◌≤◌, Bool, true, false, ltb, List, [], ◌∷◌, ◌++◌, inl, inr, refl, arith}
 use Rattle.std.proofs.lemmas.Bool.{false≢true, or_cases, and_parts}
 use Rattle.spec_log.specs.declared.item.Record.{Record}
-use Rattle.spec_log.specs.ItemLaws.{starts_tran, ends_tran, undoes_tran}
+use Rattle.spec_log.proofs.ItemLaws.{starts_tran, ends_tran, undoes_tran}
 use Rattle.spec_log.specs.Log.{starts, ends, undoes, has_started, has_ended, has_undone, greatest_of}
 use Rattle.spec_log.specs.Sound.{is_old}
 

@@ -9,7 +9,7 @@ use Rattle.spec_file.specs.Image.{Image, page, maps_start}
 use Rattle.spec_log.specs.declared.item.Cell.{Cell}
 use Rattle.spec_log.specs.declared.item.Cell.TheVariants.{Bytes, Bit}
 use Rattle.spec_log.specs.Cells.{byte_with, with_bytes, with_bit, with_map_bit, put}
-use Rattle.law_undo.specs.Atoms.{Atom, read, has_atom, bit_in}
+use Rattle.law_undo.proofs.Atoms.{Atom, read, has_atom, bit_in}
 
 -- the atom lies inside the image
 pub record IsInside (k : Atom) (image : Image) : Type 0 where

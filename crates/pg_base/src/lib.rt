@@ -16,6 +16,3 @@ pub use spec_file::{
     ExtentNo, Geometry, Header, Kind, Lsn, NoMemory, ObjId, PageNo, Resource, Role, Tran,
 };
 pub use words::Words;
-
-#[cfg(test)]
-mod tests;

@@ -13,6 +13,3 @@ pub use geometry::Geometry;
 pub use header::Header;
 pub use pfs::PfsKind;
 pub use role::Role;
-
-#[cfg(test)]
-mod tests;

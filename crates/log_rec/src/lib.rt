@@ -7,6 +7,3 @@ mod parts;
 
 pub use item::encode;
 pub use spec_log::{Cell, Record};
-
-#[cfg(test)]
-mod tests;

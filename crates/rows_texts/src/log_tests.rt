@@ -1,4 +1,7 @@
-use super::*;
+// The images under a log, and its rules, as the plain program computes them.
+use plain_log::{
+    PlainImage, committed_image, damaged_page, final_image, first_broken, start_image,
+};
 use spec_file::{ExtentNo, Geometry, Lsn, NoMemory, PageNo, Resource, Tran};
 use spec_log::{Cell, Record, Values};
 use std::alloc::Global;
@@ -253,8 +256,8 @@ fn these_logs_keep_the_rules(rt: HostRuntime) -> Result<(), Fail> {
             }
         ]?,
     ]?;
-    for log in logs.iter() {
-        assert!(rt; broken(log.as_slice()).is_none());
+    for (i, log) in logs.iter().enumerate() {
+        assert!(rt; broken(log.as_slice()).is_none(), "log {i}");
     }
     Ok(())
 }
@@ -265,39 +268,39 @@ fn the_first_item_that_breaks_a_rule_is_named(rt: HostRuntime) -> Result<(), Fai
     let page = Resource::Page(PageNo(8));
     let apart = [Resource::Byte(PageNo(7)), Resource::Byte(PageNo(8))];
     let logs = vec![in a;
-        // It takes what another holds.
         (
+            "it takes what another holds",
             vec![in a; taking(a, 1, &[page])?, taking(a, 2, &[page])?]?,
             2
         ),
-        // It changes a page that it doesn't hold.
         (
+            "it changes a page that it doesn't hold",
             vec![in a; taking(a, 1, &[page])?, putting(a, 1, 10, 96, &[1])?]?,
             2
         ),
-        // It changes a byte that has no guard.
         (
+            "it changes a byte that has no guard",
             vec![in a; taking(a, 1, &[page])?, putting(a, 1, 0, 96, &[1])?]?,
             2
         ),
-        // It changes PFS bytes of two extents at once.
         (
+            "it changes PFS bytes of two extents at once",
             vec![in a;
                 taking(a, 1, apart.as_slice())?,
                 putting(a, 1, 1, 103, &[1, 1])?
             ]?,
             2
         ),
-        // The bit's extent is past the file's end.
         (
+            "the bit's extent is past the file's end",
             vec![in a;
                 taking(a, 1, &[Resource::Extent(ExtentNo(1))])?,
                 marking(a, 1, 2, 2)?
             ]?,
             2
         ),
-        // It undoes a change that isn't the newest.
         (
+            "it undoes a change that isn't the newest",
             vec![in a;
                 taking(a, 1, &[page])?,
                 putting(a, 1, 8, 0, &[1])?,
@@ -306,11 +309,18 @@ fn the_first_item_that_breaks_a_rule_is_named(rt: HostRuntime) -> Result<(), Fai
             ]?,
             4
         ),
-        // It commits, or starts, again.
-        (vec![in a; start(a, 1), commit(1), commit(1)]?, 3),
-        (vec![in a; start(a, 1), commit(1), start(a, 1)]?, 3),
-        // It aborts with a change left.
         (
+            "it commits again",
+            vec![in a; start(a, 1), commit(1), commit(1)]?,
+            3
+        ),
+        (
+            "it starts again",
+            vec![in a; start(a, 1), commit(1), start(a, 1)]?,
+            3
+        ),
+        (
+            "it aborts with a change left",
             vec![in a;
                 taking(a, 1, &[page])?,
                 putting(a, 1, 8, 0, &[1])?,
@@ -318,13 +328,15 @@ fn the_first_item_that_breaks_a_rule_is_named(rt: HostRuntime) -> Result<(), Fai
             ]?,
             3
         ),
-        // It skips a number.
-        (vec![in a; start(a, 2)]?, 1),
-        // No transaction takes a page.
-        (vec![in a; taking(a, 0, &[page])?]?, 1),
+        ("it skips a number", vec![in a; start(a, 2)]?, 1),
+        (
+            "no transaction takes a page",
+            vec![in a; taking(a, 0, &[page])?]?,
+            1
+        ),
     ]?;
-    for (log, lsn) in logs.iter() {
-        assert_eq!(rt; broken(log.as_slice()), Some(Lsn(*lsn)));
+    for (name, log, lsn) in logs.iter() {
+        assert_eq!(rt; broken(log.as_slice()), Some(Lsn(*lsn)), "{name}");
     }
     Ok(())
 }

@@ -1,8 +1,16 @@
-use super::*;
+// Scripts and schedules read, and statements printed.
 use spec_log::Values;
 use spec_script::{Name, ScriptWhy, Statement};
+use sql_script::{ScriptStop, print_statement, read_schedule, read_script};
 use std::alloc::Global;
 use std::test::Fail;
+
+#[test]
+fn a_name_keeps_its_text(rt: HostRuntime) -> Result<(), Fail> {
+    assert_eq!(rt; Name::copied(rt.alloc(), "t_1")?.as_str(), "t_1");
+    assert_eq!(rt; Name::empty(rt.alloc()).as_str(), "");
+    Ok(())
+}
 
 // The line and the reason at which a script's reading stops.
 fn fault_of(alloc: Global, text: &str) -> Option<(u32, ScriptWhy)> {

@@ -1,4 +1,5 @@
-use super::*;
+// The bytes of items of the log.
+use log_rec::{Cell, Record, encode};
 use spec_file::{ExtentNo, Lsn, ObjId, PageNo, Resource, Tran};
 use spec_log::Values;
 use std::test::Fail;
@@ -64,46 +65,42 @@ fn changes_stand_one_behind_another(rt: HostRuntime) -> Result<(), Fail> {
 
 #[test]
 fn the_other_kinds_have_their_fields_in_order(rt: HostRuntime) -> Result<(), Fail> {
-    let mut bytes = Vec::new(rt.alloc());
-    encode(
-        &Record::Snap {
-            session: 1,
-            index: 1,
-        },
-        &mut bytes,
-    )?;
-    assert_eq!(rt; bytes[..], [6, 1, 0, 1, 0, 0, 0][..]);
-    bytes.clear();
-    encode(
-        &Record::Undo {
-            tran: Tran(3),
-            change: Lsn(256),
-        },
-        &mut bytes,
-    )?;
-    assert_eq!(rt;
-        bytes[..],
-        [3, 3, 0, 0, 0, 0, 0, 0, 0, 0, 1, 0, 0, 0, 0, 0, 0][..]
-    );
-    bytes.clear();
-    encode(
-        &Record::Failed {
-            session: 2,
-            index: 3,
-            page: PageNo(10),
-        },
-        &mut bytes,
-    )?;
-    assert_eq!(rt; bytes[..], [7, 2, 0, 3, 0, 0, 0, 10, 0, 0, 0][..]);
-    bytes.clear();
-    encode(
-        &Record::CheckEnd {
-            session: 2,
-            index: 3,
-            outcome: 1,
-        },
-        &mut bytes,
-    )?;
-    assert_eq!(rt; bytes[..], [8, 2, 0, 3, 0, 0, 0, 1][..]);
+    let cases: [(Record, &[u8]); 4] = [
+        (
+            Record::Snap {
+                session: 1,
+                index: 1,
+            },
+            &[6, 1, 0, 1, 0, 0, 0],
+        ),
+        (
+            Record::Undo {
+                tran: Tran(3),
+                change: Lsn(256),
+            },
+            &[3, 3, 0, 0, 0, 0, 0, 0, 0, 0, 1, 0, 0, 0, 0, 0, 0],
+        ),
+        (
+            Record::Failed {
+                session: 2,
+                index: 3,
+                page: PageNo(10),
+            },
+            &[7, 2, 0, 3, 0, 0, 0, 10, 0, 0, 0],
+        ),
+        (
+            Record::CheckEnd {
+                session: 2,
+                index: 3,
+                outcome: 1,
+            },
+            &[8, 2, 0, 3, 0, 0, 0, 1],
+        ),
+    ];
+    for (item, wanted) in cases.iter() {
+        let mut bytes = Vec::new(rt.alloc());
+        encode(item, &mut bytes)?;
+        assert_eq!(rt; bytes.as_slice(), *wanted, "{wanted:?}");
+    }
     Ok(())
 }

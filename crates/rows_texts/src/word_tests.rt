@@ -1,4 +1,5 @@
-use super::*;
+// The words of the command line.
+use app_words::{Command, names_of, read_words};
 use pg_base::{PageNo, Words};
 use std::alloc::{AllocError, Global};
 use std::test::Fail;
@@ -51,7 +52,11 @@ fn the_first_wrong_or_missing_word_is_named(rt: HostRuntime) -> Result<(), Fail>
     ];
     for (texts, wanted) in rows {
         let words = words_of(alloc, texts)?;
-        assert_eq!(rt; read_words(&words).map_err(|stop| stop.at), wanted);
+        assert_eq!(rt;
+            read_words(&words).map_err(|stop| stop.at),
+            wanted,
+            "{texts:?}"
+        );
     }
     for (names, wanted) in [
         (3, Err(5)),
@@ -60,7 +65,11 @@ fn the_first_wrong_or_missing_word_is_named(rt: HostRuntime) -> Result<(), Fail>
         (30, Err(21)),
     ] {
         let words = replay(alloc, names)?;
-        assert_eq!(rt; read_words(&words).map_err(|stop| stop.at), wanted);
+        assert_eq!(rt;
+            read_words(&words).map_err(|stop| stop.at),
+            wanted,
+            "{names} names"
+        );
     }
     Ok(())
 }

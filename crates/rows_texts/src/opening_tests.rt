@@ -1,9 +1,9 @@
-use super::*;
+// The file and the log of a run are opened.
 use pg_base::PageNo;
-use spec_script::{ScriptWhy, Statement};
+use run_file::{FileStop, FileWhy, LogWhy, open_file, open_log};
 use std::alloc::{AllocError, Global};
 use std::test::Fail;
-use vol_dev::{FailAt, MemLog, MemSource, MemVolume};
+use vol_dev::{FailAt, MemLog, MemVolume};
 
 const PAGE: usize = 8192;
 
@@ -125,32 +125,23 @@ fn no_page_is_read_before_page_0_has_passed(rt: HostRuntime) -> Result<(), Fail>
 }
 
 #[test]
-fn page_0_is_read_once(rt: HostRuntime) -> Result<(), Fail> {
+fn page_0_is_read_once_and_each_page_is_read(rt: HostRuntime) -> Result<(), Fail> {
     let alloc = rt.alloc();
-    let failing = vec![in alloc;
-        FailAt {
-            page: PageNo(0),
-            write: false,
-            nth: 2
-        },
-    ]?;
-    let mut volume = MemVolume::of(base(alloc, 16)?, failing);
-    assert_eq!(rt; open_file(alloc, &mut volume).err(), None);
-    Ok(())
-}
-
-#[test]
-fn a_page_that_is_not_read_fails_the_opening(rt: HostRuntime) -> Result<(), Fail> {
-    let alloc = rt.alloc();
-    let failing = vec![in alloc;
-        FailAt {
-            page: PageNo(7),
-            write: false,
-            nth: 1
-        },
-    ]?;
-    let mut volume = MemVolume::of(base(alloc, 16)?, failing);
-    assert_eq!(rt; open_file(alloc, &mut volume).err(), Some(FileStop::Failed));
+    for (page, nth, stop) in [(0, 2, None), (7, 1, Some(FileStop::Failed))] {
+        let failing = vec![in alloc;
+            FailAt {
+                page: PageNo(page),
+                write: false,
+                nth,
+            },
+        ]?;
+        let mut volume = MemVolume::of(base(alloc, 16)?, failing);
+        assert_eq!(rt;
+            open_file(alloc, &mut volume).err(),
+            stop,
+            "call {nth} of page {page}"
+        );
+    }
     Ok(())
 }
 
@@ -163,94 +154,5 @@ fn a_log_is_taken_where_it_is_empty(rt: HostRuntime) -> Result<(), Fail> {
     assert_eq!(rt; open_log(alloc, &mut later), Err(LogWhy::Later));
     let mut failing = MemLog::of(Vec::new(alloc), true, None);
     assert_eq!(rt; open_log(alloc, &mut failing), Err(LogWhy::Failed));
-    Ok(())
-}
-
-// Sources of these texts, one of which fails at its first read.
-fn sources_of(
-    alloc: Global,
-    texts: &[&str],
-    failing: Option<usize>,
-) -> Result<Vec<MemSource>, Fail> {
-    let mut sources = Vec::new(alloc);
-    for (i, text) in texts.iter().enumerate() {
-        let fails = if failing == Some(i) { Some(1) } else { None };
-        let bytes = Vec::from_slice(alloc, text.as_bytes())?;
-        sources.push(MemSource::of(bytes, fails))?;
-    }
-    Ok(sources)
-}
-
-fn read(
-    alloc: Global,
-    texts: &[&str],
-    failing: Option<usize>,
-) -> Result<Result<Texts, SourcesStop>, Fail> {
-    let mut sources = sources_of(alloc, texts, failing)?;
-    if sources.is_empty() || sources.len() > 17 {
-        return Ok(Err(SourcesStop::NoMemory));
-    }
-    Ok(read_sources(alloc, &mut sources))
-}
-
-#[test]
-fn a_schedule_and_its_scripts_are_read(rt: HostRuntime) -> Result<(), Fail> {
-    let alloc = rt.alloc();
-    let texts = [
-        "1 2\n-- turns\n2 1\n",
-        "BEGIN\nCOMMIT\n",
-        "",
-        "DBCC CHECKDB",
-    ];
-    let Ok(found) = read(alloc, &texts, None)? else {
-        panic!(rt; "the texts are right");
-    };
-    assert_eq!(rt; found.schedule.as_slice(), [(1, 2), (2, 1)].as_slice());
-    assert_eq!(rt; found.scripts.len(), 3);
-    let lengths = |i: usize| found.scripts.get(i).map(|script| script.len());
-    assert_eq!(rt; lengths(0), Some(2));
-    assert_eq!(rt; lengths(1), Some(0));
-    assert_eq!(rt; lengths(2), Some(1));
-    let last = found.scripts.get(2).and_then(|script| script.get(0));
-    assert!(rt; matches!(last, Some(Statement::Check { workers: 4 })));
-    Ok(())
-}
-
-#[test]
-fn the_first_wrong_source_is_named(rt: HostRuntime) -> Result<(), Fail> {
-    let alloc = rt.alloc();
-    let fault = |script: u32, line: u32| SourcesStop::Fault {
-        script,
-        line,
-        why: ScriptWhy::Statement,
-    };
-    let wrong = ["1 1\n", "BEGIN\n\nSELEC t 1\n", "ROLLBAC"];
-    assert_eq!(rt; read(alloc, &wrong, None)?.err(), Some(fault(1, 3)));
-    let missing = ["1 1\n3 1\n", "BEGIN\n", "ROLLBAC"];
-    assert_eq!(rt; read(alloc, &missing, None)?.err(), Some(fault(0, 2)));
-    let last = ["", "BEGIN\n", "ROLLBAC"];
-    assert_eq!(rt; read(alloc, &last, None)?.err(), Some(fault(2, 1)));
-    Ok(())
-}
-
-#[test]
-fn the_first_source_that_is_wrong_or_fails_decides(rt: HostRuntime) -> Result<(), Fail> {
-    let alloc = rt.alloc();
-    let fault = |script: u32, line: u32| SourcesStop::Fault {
-        script,
-        line,
-        why: ScriptWhy::Statement,
-    };
-    let wrong = ["1 1\n", "BEGIN\n\nSELEC t 1\n", ""];
-    let rows = [
-        (0, SourcesStop::Failed),
-        (1, SourcesStop::Failed),
-        (2, fault(1, 3)),
-    ];
-    for (failing, stop) in rows {
-        assert_eq!(rt; read(alloc, &wrong, Some(failing))?.err(), Some(stop));
-    }
-    let schedule = ["3 1\n", "BEGIN\n", ""];
-    assert_eq!(rt; read(alloc, &schedule, Some(1))?.err(), Some(fault(0, 1)));
     Ok(())
 }

@@ -1,5 +1,7 @@
-use super::*;
+// The text of reports, replies and pages, and which errors a report counts as allocation errors.
+use ck_text::{write_page, write_reply};
 use pg_base::{ExtentNo, Header, Lsn, ObjId, Page, PageNo, Resource, Tran, write_header};
+use run_close::write_session;
 use spec_check::{CheckError, CheckReport, TableLine};
 use spec_log::Values;
 use spec_script::{Cause, Name, Refusal, Reply};
@@ -17,45 +19,63 @@ fn text_of(alloc: Global, reply: &Reply) -> Result<Vec<u8>, Fail> {
     }
 }
 
+fn numbered(number: u32) -> CheckError {
+    CheckError {
+        number,
+        object: 0,
+        page: 0,
+        other: 0,
+        slot: 0,
+        value: 0,
+    }
+}
+
+#[test]
+fn rules_of_maps_and_chains_are_allocation_errors(rt: HostRuntime) {
+    for number in [
+        8946, 8998, 8903, 8904, 8905, 8906, 8910, 8913, 8948, 8914, 2579, 8968, 2575, 8959, 8969,
+        2577, 8947,
+    ] {
+        assert!(rt; numbered(number).is_allocation(), "{number}");
+    }
+    for number in [8909, 8938, 2534, 8939, 8941, 8942, 8943, 2511, 8928, 8937] {
+        assert!(rt; !numbered(number).is_allocation(), "{number}");
+    }
+}
+
 #[test]
 fn refusals_say_what_was_in_the_way(rt: HostRuntime) -> Result<(), Fail> {
-    let mut held = Refusal::plain(rt.alloc(), 1222);
+    let alloc = rt.alloc();
+    let mut held = Refusal::plain(alloc, 1222);
     held.resource = Some(Resource::Extent(ExtentNo(2)));
     held.by = Tran(38);
-    assert_eq!(rt;
-        text_of(rt.alloc(), &Reply::Refused(held))?[..],
-        *b"2.3 MSG 1222 EXTENT 2 TRAN 38\n".as_slice()
-    );
-    let mut unknown = Refusal::plain(rt.alloc(), 208);
-    unknown.name = Name::copied(rt.alloc(), "t")?;
-    assert_eq!(rt;
-        text_of(rt.alloc(), &Reply::Refused(unknown))?[..],
-        *b"2.3 MSG 208 t\n".as_slice()
-    );
-    let mut twice = Refusal::plain(rt.alloc(), 2627);
+    let mut unknown = Refusal::plain(alloc, 208);
+    unknown.name = Name::copied(alloc, "t")?;
+    let mut twice = Refusal::plain(alloc, 2627);
     twice.key = 1;
-    assert_eq!(rt;
-        text_of(rt.alloc(), &Reply::Refused(twice))?[..],
-        *b"2.3 MSG 2627 1\n".as_slice()
-    );
-    let mut bad = Refusal::plain(rt.alloc(), 824);
+    let mut bad = Refusal::plain(alloc, 824);
     bad.page = PageNo(11);
-    assert_eq!(rt;
-        text_of(rt.alloc(), &Reply::Refused(bad))?[..],
-        *b"2.3 MSG 824 PAGE 11\n".as_slice()
-    );
-    assert_eq!(rt;
-        text_of(
-            rt.alloc(),
-            &Reply::Refused(Refusal::plain(rt.alloc(), 1105))
-        )?[..],
-        *b"2.3 MSG 1105\n".as_slice()
-    );
-    let damaged = Reply::Terminated(Cause::Damaged(PageNo(10)));
-    assert_eq!(rt;
-        text_of(rt.alloc(), &damaged)?[..],
-        *b"2.3 MSG 8921 DAMAGED PAGE 10\n".as_slice()
-    );
+    let cases = [
+        (Reply::Refused(held), "2.3 MSG 1222 EXTENT 2 TRAN 38\n"),
+        (Reply::Refused(unknown), "2.3 MSG 208 t\n"),
+        (Reply::Refused(twice), "2.3 MSG 2627 1\n"),
+        (Reply::Refused(bad), "2.3 MSG 824 PAGE 11\n"),
+        (
+            Reply::Refused(Refusal::plain(alloc, 1105)),
+            "2.3 MSG 1105\n",
+        ),
+        (
+            Reply::Terminated(Cause::Damaged(PageNo(10))),
+            "2.3 MSG 8921 DAMAGED PAGE 10\n",
+        ),
+    ];
+    for (reply, text) in cases.iter() {
+        assert_eq!(rt;
+            text_of(alloc, reply)?.as_slice(),
+            text.as_bytes(),
+            "{text}"
+        );
+    }
     Ok(())
 }
 
@@ -127,5 +147,22 @@ fn a_page_shows_its_header_and_slots(rt: HostRuntime) -> Result<(), Fail> {
     let lines =
         "page 10\ntype 1 level 0 object 1\nprev 0 next 0\nslots 1 free 8082 freedata 108 ghosts 0\nslot 0 offset 96\n";
     assert_eq!(rt; out.into_bytes()[..], *lines.as_bytes());
+    Ok(())
+}
+
+#[test]
+fn the_replies_of_a_session_are_written(rt: HostRuntime) -> Result<(), Fail> {
+    let alloc = rt.alloc();
+    let rows = Reply::Rows {
+        count: 1,
+        payloads: Values::new(alloc),
+    };
+    let replies = vec![in alloc; Reply::Done, rows]?;
+    let mut out = MemSink::of(alloc, None);
+    assert_eq!(rt; write_session(3, &replies, &mut out), Ok(()));
+    assert_eq!(rt;
+        out.into_bytes().as_slice(),
+        b"3.1 OK\n3.2 ROWS 1\n".as_slice()
+    );
     Ok(())
 }

@@ -1,13 +1,13 @@
+// COUNT and INSERT planned over a view in memory.
 ghost use Rattle.std.specs.Prelude.{◌≡◌, ◌==◌, ◌&&◌, IfOk, length, map};
 ghost use Rattle.spec_file.specs.declared.geometry.Geometry.TheVariants.{Small};
 ghost use Rattle.spec_log.specs.Cells.{HasWholePages};
 ghost use Rattle.spec_log.specs.Items as items;
 ghost use Rattle.spec_file.specs.Places.{HasShape};
 
-use super::*;
-use pg_base::{
-    Geometry, Header, NoMemory, ObjId, Page, PageNo, Resource, Tran, put_u32, write_header,
-};
+use crate::made::{heap_page, iam_page, typed};
+use db_heap::{Plan, PlanView, plan_count, plan_insert};
+use pg_base::{Geometry, NoMemory, ObjId, Page, PageNo, Resource, Tran};
 use spec_log::{Cell, Values};
 use spec_plan::Planned;
 use spec_script::{Name, Refusal};
@@ -120,25 +120,6 @@ impl PlanView for MemView {
     ghost size = { λ v. v.size };
 }
 
-// A page of this type and number, of an object, with nothing in it.
-fn typed(kind: u8, p: u32, object: u32) -> Page {
-    let mut page = Page { bytes: [0; 8192] };
-    let header = Header {
-        page_type: kind,
-        level: 0,
-        page_id: PageNo(p),
-        object: ObjId(object),
-        prev: PageNo(0),
-        next: PageNo(0),
-        slots: 0,
-        free_count: 0,
-        free_from: 0,
-        ghosts: 0,
-    };
-    write_header(&mut page, &header);
-    page
-}
-
 // Pages 8 and 10 are an IAM page and a page in a mixed extent.
 fn pfs_page(byte: u8) -> Page {
     let mut page = typed(11, 1, 0);
@@ -158,30 +139,14 @@ fn boot_page() -> Page {
     page
 }
 
-// Object 1 has page 10 in slot 0.
-fn iam_page() -> Page {
-    let mut page = typed(10, 8, 1);
-    page.bytes[104] = 10;
-    page
-}
-
-// No rows: 8,096 bytes are free, from byte 96 on.
-fn heap_page(object: u32) -> Page {
-    let mut page = typed(1, 10, object);
-    page.bytes[22] = 0xA0;
-    page.bytes[23] = 0x1F;
-    page.bytes[24] = 96;
-    page
-}
-
 fn page_of(p: u32, object: u32, byte: u8) -> Page
     ensures { length result.bytes ≡ 8192 }
 {
     match p {
         1 => pfs_page(byte),
-        8 => iam_page(),
+        8 => iam_page(8, 1, 10),
         9 => boot_page(),
-        10 => heap_page(object),
+        10 => heap_page(10, object),
         _ => Page { bytes: [0; 8192] },
     }
 }
@@ -316,12 +281,15 @@ fn meets(
 #[test]
 fn each_refusal_has_its_cause(rt: HostRuntime) -> Result<(), Fail> {
     let alloc = rt.alloc();
-    let open = view_of(alloc, 1, 0x60, None, None)?;
-    assert!(rt; meets(alloc, &open, "u", 208, 0, 0)?);
-    let other = view_of(alloc, 2, 0x60, None, None)?;
-    assert!(rt; meets(alloc, &other, "t", 824, 10, 0)?);
-    let full = view_of(alloc, 1, 0x64, None, None)?;
-    assert!(rt; meets(alloc, &full, "t", 1105, 0, 0)?);
+    let cases = [
+        (1, 0x60, "u", 208, 0),
+        (2, 0x60, "t", 824, 10),
+        (1, 0x64, "t", 1105, 0),
+    ];
+    for (object, byte, table, number, page) in cases {
+        let view = view_of(alloc, object, byte, None, None)?;
+        assert!(rt; meets(alloc, &view, table, number, page, 0)?, "{number}");
+    }
     Ok(())
 }
 

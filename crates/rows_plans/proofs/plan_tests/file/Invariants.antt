@@ -1,7 +1,7 @@
 use Rattle.std.proofs.Common.{◌≡◌, length, map}
 use Rattle.spec_log.specs.Cells.{HasWholePages}
 use Rattle.pg_base.specs.declared.page.Page.{Page}
-use Rattle.db_heap.proofs.tests.file.Given as goal
+use Rattle.rows_plans.proofs.plan_tests.file.Given as goal
 
 abbrev pub invariant-loop-p : goal.invariant-loop-p
 invariant-loop-p l = record {

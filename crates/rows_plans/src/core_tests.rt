@@ -1,5 +1,6 @@
 // Sessions that take turns over one file, and what each holds.
-ghost use Rattle.std.specs.Prelude.{◌≡◌, [], ◌∷◌, IfOk, length};
+ghost use Rattle.std.specs.Prelude.{◌≡◌, [], ◌∷◌, IfOk, length, map};
+ghost use Rattle.run_file.specs.Sources.{AreProper, AreShort, AreTurnsOf};
 ghost use Rattle.spec_file.specs.Places.{HasShape};
 ghost use Rattle.spec_file.specs.declared.geometry.Geometry.TheVariants.{Small};
 ghost use Rattle.spec_log.specs.Cells.{HasWholePages};
@@ -134,9 +135,12 @@ fn source(alloc: Global, text: &str) -> Result<MemSource, Fail> {
     Ok(MemSource::of(Vec::from_slice(alloc, text.as_bytes())?, None))
 }
 
-// Three sessions over both heaps, after the turns of a schedule and all others.
-fn three_sessions(alloc: Global, schedule: &str, scripts: [&str; 3]) -> Result<Core, Fail>
-    ensures { IfOk result (λ core. length core.run.scripts ≡ 3) }
+// A schedule and three scripts.
+fn texts_of(alloc: Global, schedule: &str, scripts: [&str; 3]) -> Result<Texts, Fail>
+    ensures count { IfOk result (λ texts. length texts.scripts.items ≡ 3) }
+    ensures short { IfOk result (λ texts. AreShort (map (λ script. script.items) texts.scripts.items)) }
+    ensures proper { IfOk result (λ texts. AreProper (map (λ script. script.items) texts.scripts.items)) }
+    ensures inside { IfOk result (λ texts. AreTurnsOf 3 texts.schedule.items) }
 {
     let [first, second, third] = scripts;
     let mut sources = vec![in alloc;
@@ -145,12 +149,32 @@ fn three_sessions(alloc: Global, schedule: &str, scripts: [&str; 3]) -> Result<C
         source(alloc, second)?,
         source(alloc, third)?,
     ]?;
-    let Ok(Texts { schedule, scripts }) = read_sources(alloc, &mut sources) else {
-        return Err(Fail::from("the texts are right"));
-    };
-    let mut core = Core::begin(alloc, file(alloc, true)?, scripts)?;
+    match read_sources(alloc, &mut sources) {
+        Ok(texts) => Ok(texts),
+        Err(_) => Err(Fail::from("the texts are right")),
+    }
+}
+
+// Three sessions over both heaps, after the turns of a schedule and all others.
+fn replayed(alloc: Global, texts: Texts) -> Result<Core, Fail>
+    requires count { length texts.scripts.items ≡ 3 }
+    requires short { AreShort (map (λ script. script.items) texts.scripts.items) }
+    requires proper { AreProper (map (λ script. script.items) texts.scripts.items) }
+    requires inside { AreTurnsOf 3 texts.schedule.items }
+    ensures { IfOk result (λ core. length core.run.scripts ≡ 3) }
+{
+    let frames = file(alloc, true)?;
+    let Texts { schedule, scripts } = texts;
+    let mut core = Core::begin(alloc, frames, scripts)?;
     core.replay(&schedule);
     Ok(core)
+}
+
+fn three_sessions(alloc: Global, schedule: &str, scripts: [&str; 3]) -> Result<Core, Fail>
+    ensures { IfOk result (λ core. length core.run.scripts ≡ 3) }
+{
+    let texts = texts_of(alloc, schedule, scripts)?;
+    replayed(alloc, texts)
 }
 
 // What of a Start the statement's plan decides: the transaction, number, changes, size and takes.

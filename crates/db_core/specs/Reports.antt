@@ -5,6 +5,7 @@ use Rattle.std.specs.List.{list_any}
 use Rattle.std.proofs.lemmas.Bool.{cond_both, or_from}
 use Rattle.std.proofs.lemmas.List.Folds.{list_any-append}
 use Rattle.std.proofs.lemmas.Grind.{reverse_onto}
+use Rattle.spec_script.specs.declared.limits.TheConstants.{IS_OPEN, NOTHING_TO_COMMIT, NOTHING_TO_UNDO}
 use Rattle.spec_file.specs.declared.geometry.Geometry.{Geometry}
 use Rattle.spec_log.specs.declared.item.Record.{Record}
 use Rattle.spec_log.specs.Log.{rest_of, greatest_of, left_of}
@@ -65,13 +66,13 @@ outcome_silent log s i t (Writes takes changes) =
 
 begun_silent : (run : Setting) (log : List Record) (s i t : ℕ) (st : Statement) → run.opened ≡ [] → IsSilent (begun run log s i t st).telling
 begun_silent run log s i t statement.Begin none =
-    cond_both (eqb t 0) (surely s i (Opening (greatest_of (log ++ run.opened) + 1)) Done) (surely s i (Refusing t 60001) (Refused is_open))
+    cond_both (eqb t 0) (surely s i (Opening (greatest_of (log ++ run.opened) + 1)) Done) (surely s i (Refusing t IS_OPEN) (Refused is_open))
     (λ (b : Begun). IsSilent b.telling) (λ _. refl) (λ _. refl)
 begun_silent run log s i t statement.Commit none =
-    cond_both (eqb t 0) (surely s i (Refusing t 3902) (Refused nothing_to_commit)) (surely s i (Committing t) Done)
+    cond_both (eqb t 0) (surely s i (Refusing t NOTHING_TO_COMMIT) (Refused nothing_to_commit)) (surely s i (Committing t) Done)
     (λ (b : Begun). IsSilent b.telling) (λ _. refl) (λ _. refl)
 begun_silent run log s i t statement.Rollback none =
-    cond_both (eqb t 0) (surely s i (Refusing t 3903) (Refused nothing_to_undo)) (surely s i (RollingBack t (left_of t (log ++ run.opened))) Done)
+    cond_both (eqb t 0) (surely s i (Refusing t NOTHING_TO_UNDO) (Refused nothing_to_undo)) (surely s i (RollingBack t (left_of t (log ++ run.opened))) Done)
     (λ (b : Begun). IsSilent b.telling) (λ _. refl) (λ _. refl)
 begun_silent run log s i t (statement.Insert table key payload) none =
     outcome_silent (log ++ run.opened) s i t (insert_outcome (sight_of run log t) table key payload)

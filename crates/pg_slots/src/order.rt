@@ -14,7 +14,7 @@ use pg_base::Page;
 use spec_rows::SLOT_LIMIT;
 
 /// Where the row of a slot begins. Rows stand in this order.
-#[derive(Clone, Copy, Debug, PartialEq, Eq, PartialOrd, Ord)]
+#[derive(Clone, Copy, PartialEq, Eq, PartialOrd, Ord)]
 struct RowStart {
     offset: u16,
     slot: u16,

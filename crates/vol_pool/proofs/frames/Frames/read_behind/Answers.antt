@@ -1,5 +1,4 @@
-use Rattle.std.proofs.Common.{◌≡◌, ◌<◌, ◌∙◌, [], ◌∷◌, ◌++◌, IfSome, Some, take, length, ap, subst, arith}
-use Rattle.pg_base.specs.Stops.{stop_of}
+use Rattle.std.proofs.Common.{◌≡◌, ◌<◌, ◌∙◌, [], ◌∷◌, ◌++◌, IfSome, None, take, length, ap, subst, arith}
 use Rattle.spec_file.specs.Image.{page, pages_of}
 use Rattle.vol_pool.proofs.Filled.{one_page, first_read, more_read, all_read, reads_no_page, reads_one_more}
 use Rattle.vol_pool.proofs.frames.Frames.read_behind.Goals as goal

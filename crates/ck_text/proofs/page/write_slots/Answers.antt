@@ -1,4 +1,4 @@
-use Rattle.std.proofs.Common.{◌∙◌, arith}
+use Rattle.std.proofs.Common.{◌∙◌, false, arith}
 use Rattle.std.specs.List.{range_with_len}
 use Rattle.spec_script.specs.PageText.{slot_line}
 use Rattle.std.proofs.lemmas.List.FromFn.{length-range_with_len}

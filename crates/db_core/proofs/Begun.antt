@@ -28,7 +28,8 @@ use Rattle.db_core.specs.Bounds.{most_turns, IsAtWork, HasBound}
 use Rattle.db_core.specs.Rooms.{owed_by, pending_of, started_of, HasOwnRoom, turns_left, left_of_statement}
 use Rattle.db_core.specs.declared.state.State.{State}
 use Rattle.db_core.specs.declared.out.TurnOut.{TurnOut}
-use Rattle.db_core.specs.Reports.{is_terminated, none_terminated}
+use Rattle.db_core.specs.Reports.{is_terminated}
+use Rattle.db_core.proofs.Reports.{none_terminated}
 use Rattle.db_core.specs.Runs.{AreNew, IsNew, setting_of, turns_of, rest_from}
 use Rattle.db_core.specs.Replays.{RunsSchedule, EndsSessions}
 use Rattle.db_core.specs.States.{Db, left_in, TurnIn, entries_of, run_of, IsAt, IsState}

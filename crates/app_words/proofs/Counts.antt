@@ -1,10 +1,9 @@
 -- How many words a run has.
-use Rattle.std.proofs.Common.{◌≡◌, ℕ, zero, suc, ◌+◌, ◌-◌, ◌<◌, ◌≤◌, Bool, true, false, not, is_some, List, [], ◌∷◌, length, drop, map, string_bytes, Option, Some, None, option_map, slice_get, inl, inr, refl, sym, ap, ◌∙◌, subst, arith}
+use Rattle.std.proofs.Common.{◌≡◌, ℕ, zero, suc, ◌+◌, ◌<◌, ◌≤◌, Bool, true, false, is_some, List, length, drop, Option, Some, None, option_map, slice_get, inl, inr, refl, sym, ap, ◌∙◌, arith}
 use Rattle.std.proofs.lemmas.Bool.{cases_Bool, cases_eq, not-false}
-use Rattle.std.proofs.lemmas.List.{length-map, length-drop}
+use Rattle.std.proofs.lemmas.List.{length-drop}
 use Rattle.std.proofs.lemmas.Option.{none-some, slice_get_cases}
-use Rattle.app_words.specs.declared.command.Command.{Command}
-use Rattle.app_words.specs.declared.command.Command.TheVariants.{Check, ShowPage, Replay}
+use Rattle.app_words.specs.declared.command.Command.TheVariants.{Replay}
 use Rattle.app_words.specs.declared.command.Verb.{Verb}
 use Rattle.app_words.specs.declared.command.Verb.TheVariants as verb
 use Rattle.app_words.specs.Words.{Asks, command_of, from_one, is_file, is_wrong_at, least, verb_of, wrong_behind}

@@ -18,7 +18,7 @@ pub enum Command {
 }
 
 /// What the first word asks to be done.
-#[derive(Clone, Copy, Debug, PartialEq, Eq)]
+#[derive(Clone, Copy)]
 pub enum Verb {
     Check,
     Page,
@@ -26,7 +26,7 @@ pub enum Verb {
 }
 
 /// The place of the first wrong or missing word, from 1.
-#[derive(Clone, Copy, Debug, PartialEq, Eq)]
+#[derive(Clone, Copy)]
 pub struct WordStop {
     pub at: u32,
 }

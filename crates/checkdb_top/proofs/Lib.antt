@@ -1,6 +1,8 @@
 pub mod Answering
 pub mod Completeness
 pub mod RunCompleteness
+pub mod FileReading
+pub mod Starting
 pub mod Forms
 pub mod Running
 pub mod Closings

@@ -12,7 +12,7 @@ use Rattle.spec_run.specs.Begun.{Setting}
 use Rattle.spec_run.specs.Entries.{Entry, items_of}
 use Rattle.db_core.specs.Reports.{is_terminated}
 use Rattle.db_core.proofs.Reports.{none_terminated}
-use Rattle.run_file.specs.Log.{longest_log}
+use Rattle.spec_log.specs.declared.limits.TheConstants.{LONGEST_LOG}
 use Rattle.run_file.specs.Opening.{IsRunFile}
 use Rattle.run_file.proofs.OpeningLaws.{not_refused, one_refusal, run_file}
 use Rattle.run_file.specs.Sources.{AreKnown, IsFirstOf}
@@ -88,7 +88,7 @@ same_script : (k j line other : ℕ) (why because : ScriptWhy) → k ≡ j → l
 same_script k j line other why because a b c =
     ap (λ n. status.Script n line why) a ∙ ap (λ n. status.Script j n why) b ∙ ap (λ w. status.Script j other w) c
 
-empty_short : (log : List ℕ) → log ≡ [] → longest_log < length log → ⊥
+empty_short : (log : List ℕ) → log ≡ [] → LONGEST_LOG < length log → ⊥
 empty_short log empty long = let none = ap length empty in omega (arith, none, long)
 
 module _ (lefts : List (Option (List ℕ))) (bytes log : List ℕ) (some : 0 < length lefts) (known : AreKnown lefts) where

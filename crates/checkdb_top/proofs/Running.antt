@@ -1,8 +1,7 @@
 -- Lists of scripts and replies, one after another.
-use Rattle.std.proofs.Common.{◌≡◌, ℕ, zero, suc, ◌+◌, ◌-◌, ◌<◌, ◌≤◌, ◌⊎◌, subst, Bool, true, ◌||◌, List, [], ◌∷◌, ◌++◌, length, take, drop, map, get_or, Option, Some, All, refl, sym, ap, ◌∙◌, inl, inr, ⊎_elim, append_assoc, append-nil, arith}
+use Rattle.std.proofs.Common.{◌≡◌, ℕ, zero, suc, ◌+◌, ◌-◌, ◌<◌, ◌≤◌, ◌⊎◌, subst, Bool, true, false, ◌||◌, List, [], ◌∷◌, ◌++◌, length, take, drop, map, get_or, Option, Some, All, refl, sym, ap, ◌∙◌, inl, inr, ⊎_elim, append_assoc, append-nil, arith}
 use Rattle.std.specs.Prelude.{slice_get}
 use Rattle.std.specs.List.{list_any, list_all}
-use Rattle.std.specs.Io.KnownBytes.{append_known}
 use Rattle.std.proofs.lemmas.Bool.{and_parts}
 use Rattle.std.proofs.lemmas.Option.{same_Some, slice_get_within, slice_get-get_or, unwrap_or-slice_get}
 use Rattle.std.specs.Prelude.{unwrap_or}
@@ -10,8 +9,9 @@ use Rattle.std.proofs.lemmas.List.{take_more, take-append-drop, length-take-le}
 use Rattle.spec_script.specs.declared.reply.Reply.{Reply}
 use Rattle.spec_script.specs.Replies.{session_text, texts_from, text_of}
 use Rattle.checkdb_top.specs.Runs.{replies_to}
-use Rattle.vol_dev.specs.Devices.{WroteFront}
-use Rattle.vol_dev.proofs.DeviceLaws.{append_known-then, WroteFront-after}
+use Rattle.vol_dev.specs.declared.device.Sink.{Ghosts}
+use Rattle.vol_dev.specs.Output.{Wrote}
+use Rattle.vol_dev.proofs.Output.{wrote_then, wrote_front}
 
 pub any_mapped : {A B : Type 0} (f : A → B) (p : B → Bool) (xs : List A) → list_any (λ x. p (f x)) xs ≡ list_any p (map f xs)
 any_mapped f p [] = refl
@@ -52,26 +52,20 @@ texts_more n xs d below =
     ∙ ap (λ k. text_of (take n xs) ++ (session_text k 1 (get_or xs n d) ++ [])) place
     ∙ ap (λ l. text_of (take n xs) ++ l) (append-nil (session_text (n + 1) 1 (get_or xs n d))))
 
--- the replies of one session more are written
-pub more_written : (n : ℕ) (xs : List (List Reply)) (x : List Reply) (old now new : Option (List ℕ)) → n < length xs → x ≡ get_or xs n x
-    → now ≡ append_known old (text_of (take n xs)) → new ≡ append_known now (session_text (n + 1) 1 x)
-    → new ≡ append_known old (text_of (take (n + 1) xs))
-more_written n xs x old now new below is so_far more =
-    append_known-then old now new (text_of (take n xs)) (session_text (n + 1) 1 x) so_far more
-    ∙ ap (λ r. append_known old (text_of (take n xs) ++ session_text (n + 1) 1 r)) is
-    ∙ ap (append_known old) (texts_more n xs x below)
+module _ {X : Type 0} (k : Ghosts X) (n : ℕ) (xs : List (List Reply)) (x : List Reply) (a b c : X) (below : n < length xs) (is : x ≡ get_or xs n x)
+    (so_far : Wrote k a b (text_of (take n xs)) false) where
+  -- the replies of one session more are written
+  pub more_written : (failed : Bool) → Wrote k b c (session_text (n + 1) 1 x) failed → Wrote k a c (text_of (take (n + 1) xs)) failed
+  more_written failed more =
+      subst (λ l. Wrote k a c l failed) (ap (λ r. text_of (take n xs) ++ session_text (n + 1) 1 r) is ∙ texts_more n xs x below)
+      (wrote_then k a b c (text_of (take n xs)) (session_text (n + 1) 1 x) failed so_far more)
 
--- the replies of a session were written in part
-pub front_written : (n : ℕ) (xs : List (List Reply)) (x : List Reply) (old now new : Option (List ℕ)) → n < length xs → x ≡ get_or xs n x
-    → now ≡ append_known old (text_of (take n xs)) → WroteFront now new (session_text (n + 1) 1 x) → WroteFront old new (text_of xs)
-front_written n xs x old now new below is so_far front =
-    let rest = texts_from (1 + length (take (n + 1) xs)) (drop (n + 1) xs) in
-    let whole : text_of xs ≡ text_of (take n xs) ++ (session_text (n + 1) 1 x ++ rest) =
-    sym (ap text_of (take-append-drop (n + 1) xs)) ∙ texts_append 1 (take (n + 1) xs) (drop (n + 1) xs)
-    ∙ ap (λ l. l ++ rest) (sym (texts_more n xs x below))
-    ∙ append_assoc (text_of (take n xs)) (session_text (n + 1) 1 (get_or xs n x)) rest
-    ∙ ap (λ r. text_of (take n xs) ++ (session_text (n + 1) 1 r ++ rest)) (sym is) in
-    WroteFront-after old now new (text_of (take n xs)) (session_text (n + 1) 1 x) rest (text_of xs) so_far front whole
+  -- or in part
+  pub front_written : Wrote k b c (session_text (n + 1) 1 x) true → Wrote k a c (text_of xs) true
+  front_written part =
+      let front = take (n + 1) xs in
+      subst (λ l. Wrote k a c l true) (sym (texts_append 1 front (drop (n + 1) xs)) ∙ ap text_of (take-append-drop (n + 1) xs))
+      (wrote_front k a c (text_of front) (texts_from (1 + length front) (drop (n + 1) xs)) (more_written true part))
 
 pub mapped_here : {A B : Type 0} (f : A → B) (xs : List A) (n : ℕ) (x : A) → x ≡ get_or xs n x → f x ≡ get_or (map f xs) n (f x)
 mapped_here f [] n x is = refl

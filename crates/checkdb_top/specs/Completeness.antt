@@ -4,7 +4,7 @@ use Rattle.spec_file.specs.Image.{Image, pages_of}
 use Rattle.spec_file.specs.FileForm.{size_passes}
 use Rattle.run_file.specs.declared.why.FileWhy.{FileWhy}
 use Rattle.run_file.specs.declared.why.FileWhy.TheVariants.{Size}
-use Rattle.run_file.specs.Log.{longest_log}
+use Rattle.spec_log.specs.declared.limits.TheConstants.{LONGEST_LOG}
 use Rattle.run_file.specs.Opening.{IsRefusedForRun, IsRunFile}
 use Rattle.run_file.specs.Sources.{IsFirstOf}
 use Rattle.spec_script.specs.declared.stop.ScriptWhy.{ScriptWhy}
@@ -39,6 +39,6 @@ IsWholeEnd s = ((s ≡ status.Clean) ⊎ (s ≡ status.Errors)) ⊎ (s ≡ statu
 pub record CompletesRun (lefts : List (Option (List ℕ))) (bytes log : List ℕ) (s : Status) : Type 0 where
   pub script : (k line : ℕ) (why : ScriptWhy) → IsFirstOf lefts k line why → IsOrMemory (status.Script k line why) s
   pub refused : HaveTexts lefts → (why : FileWhy) → IsRefusedForRun why bytes → IsOrMemory (status.File why) s
-  pub long : HaveTexts lefts → IsRunFile bytes → longest_log < length log → IsOrMemory status.LogSize s
-  pub later : HaveTexts lefts → IsRunFile bytes → log ≢ [] → length log ≤ longest_log → IsOrMemory status.LogLater s
+  pub long : HaveTexts lefts → IsRunFile bytes → LONGEST_LOG < length log → IsOrMemory status.LogSize s
+  pub later : HaveTexts lefts → IsRunFile bytes → log ≢ [] → length log ≤ LONGEST_LOG → IsOrMemory status.LogLater s
   pub runs : HaveTexts lefts → IsRunFile bytes → log ≡ [] → IsWholeEnd s

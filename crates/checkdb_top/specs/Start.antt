@@ -1,5 +1,9 @@
 -- What a run begins with, and why it doesn't begin.
 use Rattle.std.specs.Prelude.{◌≡◌, ◌≢◌, ℕ, ◌<◌, ◌≤◌, List, [], length, Option, IfSome, ⊤}
+use Rattle.spec_file.specs.declared.geometry.Geometry.TheVariants.{Small}
+use Rattle.spec_file.specs.Image.{Image}
+use Rattle.spec_file.specs.Places.{HasShape}
+use Rattle.spec_plan.specs.ReplayForm.{IsReplayForm}
 use Rattle.spec_script.specs.declared.statement.Statement.{Statement}
 use Rattle.run_file.specs.declared.stop.SourcesStop.{SourcesStop}
 use Rattle.run_file.specs.declared.stop.SourcesStop.TheVariants as sources
@@ -10,9 +14,9 @@ use Rattle.run_file.specs.declared.log.LogWhy.TheVariants as log
 use Rattle.checkdb_top.specs.declared.status.Device.TheVariants as device
 use Rattle.checkdb_top.specs.declared.status.Status.{Status}
 use Rattle.checkdb_top.specs.declared.status.Status.TheVariants as status
-use Rattle.run_file.specs.Sources.{AreTexts, IsFirstOf}
-use Rattle.run_file.specs.Opening.{IsRefusedForRun, IsRunFile}
-use Rattle.run_file.specs.Log.{longest_log}
+use Rattle.run_file.specs.Sources.{AreProper, AreShort, AreTexts, AreTurnsOf, IsFirstOf}
+use Rattle.run_file.specs.Opening.{AreAllPages, IsRefusedForRun, IsRunFile}
+use Rattle.spec_log.specs.declared.limits.TheConstants.{LONGEST_LOG}
 
 abbrev pub sources_start : SourcesStop → Status
 sources_start (sources.Fault k line why) = status.Script k line why
@@ -33,6 +37,20 @@ log_start log.NoMemory = status.Memory
 abbrev pub IsEmptyLog : List ℕ → Type 0
 IsEmptyLog bytes = bytes ≡ []
 
+-- what a run of so many sessions begins with: the texts of its sources, the pages of its file, which has the form that sessions need,
+-- and an empty log
+pub record Begins (sessions : ℕ) (lefts : List (Option (List ℕ))) (file log : Option (List ℕ)) (turns : List (ℕ × ℕ)) (scripts : List (List Statement))
+    (image : Image) : Type 0 where
+  pub texts : AreTexts lefts turns scripts
+  pub count : length scripts ≡ sessions
+  pub short : AreShort scripts
+  pub proper : AreProper scripts
+  pub inside : AreTurnsOf sessions turns
+  pub form : IsReplayForm Small image
+  pub shape : HasShape Small (length image)
+  pub pages : IfSome file (AreAllPages image)
+  pub empty : IfSome log IsEmptyLog
+
 -- all sources are texts, where they are told
 abbrev pub HaveTexts : List (Option (List ℕ)) → Type 0
 HaveTexts lefts = (turns : List (ℕ × ℕ)) × (scripts : List (List Statement)) × AreTexts lefts turns scripts
@@ -47,9 +65,9 @@ abbrev pub StopsStart : List (Option (List ℕ)) → Option (List ℕ) → Optio
 StopsStart lefts told log_told (status.Script k line why) = IsFirstOf lefts k line why
 StopsStart lefts told log_told (status.File why) = HaveTexts lefts × IfSome told (IsRefusedForRun why)
 StopsStart lefts told log_told status.LogSize =
-    HaveTexts lefts × HasForm told × IfSome log_told (λ bytes. longest_log < length bytes)
+    HaveTexts lefts × HasForm told × IfSome log_told (λ bytes. LONGEST_LOG < length bytes)
 StopsStart lefts told log_told status.LogLater =
-    HaveTexts lefts × HasForm told × IfSome log_told (λ bytes. (bytes ≢ []) × (length bytes ≤ longest_log))
+    HaveTexts lefts × HasForm told × IfSome log_told (λ bytes. (bytes ≢ []) × (length bytes ≤ LONGEST_LOG))
 StopsStart lefts told log_told (status.Device device.Source) = ⊤
 StopsStart lefts told log_told (status.Device device.Volume) = HaveTexts lefts
 StopsStart lefts told log_told (status.Device device.Log) = HaveTexts lefts × HasForm told

@@ -1,10 +1,12 @@
 // The check of a still file: the report of its image, and its bytes.
-ghost use Rattle.std.specs.Prelude.{◌≡◌, ◌≤◌, IfOk, IfSome};
-ghost use Rattle.pg_base.specs.Faults.{Rose};
-ghost use Rattle.pg_base.specs.Reading.{StopHasCause};
+ghost use Rattle.std.specs.Prelude.{◌≡◌, IfOk, IfSome};
+ghost use Rattle.pg_base.specs.Faults.{Counts};
+ghost use Rattle.pg_base.specs.Reading.{OnlyReads};
+ghost use Rattle.pg_base.specs.Stops.{stop_of};
 ghost use Rattle.spec_file.specs.Places.{HasShape};
 ghost use Rattle.spec_check.specs.Text.{report_text};
 ghost use Rattle.spec_tables.specs.Written.{IsCheckOf};
+ghost use Rattle.vol_dev.specs.Files.{ReadsFile};
 ghost use Rattle.checkdb_top.specs.Form.{Passes, NamesGeometry};
 ghost use Rattle.checkdb_top.specs.Answers.{Answers, IsDevice, Prints, ended};
 ghost use Rattle.checkdb_top.specs.Printings.{check_printing, is_some_error};
@@ -30,8 +32,7 @@ pub fn has_error(report: &CheckReport) -> bool
 fn print<K: vol_dev::Sink>(report: &CheckReport, out: &mut K) -> Status
     ensures prints { Prints (report_text report.now) (ended (is_some_error report.now.errors)) (K.contents out.old) (K.contents out.new) result }
     ensures volume_fault { ¬ IsDevice Volume result }
-    ensures fault { IsDevice Sink result → Rose (K.faults out.old) (K.faults out.new) }
-    ensures faults { K.faults out.old ≤ K.faults out.new }
+    ensures faults { Counts (IsDevice Sink result) (K.faults out.old) (K.faults out.new) }
 {
     match write_report(report, out) {
         Err(_) => Status::Device {
@@ -57,10 +58,7 @@ fn scanned<R: SnapReader>(
     requires count { R.pages reader.old ≡ pages }
     requires shape { HasShape g pages }
     ensures report { IfOk result (λ report. IfSome (R.image reader.old) (λ image. IsCheckOf g image report)) }
-    ensures cause { StopHasCause (R.faults reader.old) (R.faults reader.new) (R.failed reader.new) (R.ended reader.new) result }
-    ensures faults { R.faults reader.old ≤ R.faults reader.new }
-    ensures pages { R.pages reader.new ≡ R.pages reader.old }
-    ensures image { R.image reader.new ≡ R.image reader.old }
+    ensures reads { OnlyReads R.SnapReader reader.old reader.new (stop_of result) }
 {
     let map = read_maps(alloc, reader, g, pages)?;
     let report = scan_one(alloc, reader, &map)?;
@@ -78,11 +76,8 @@ fn report<V: vol_dev::Volume, K: vol_dev::Sink>(
     requires passes { IfSome (V.contents reader.old.volume) Passes }
     requires geometry { IfSome (V.contents reader.old.volume) (NamesGeometry g) }
     ensures answers { Answers check_printing (V.contents reader.old.volume) (K.contents out.old) (K.contents out.new) result }
-    ensures contents { V.contents reader.new.volume ≡ V.contents reader.old.volume }
-    ensures volume_fault { IsDevice Volume result → Rose (V.faults reader.old.volume) (V.faults reader.new.volume) }
-    ensures sink_fault { IsDevice Sink result → Rose (K.faults out.old) (K.faults out.new) }
-    ensures volume_faults { V.faults reader.old.volume ≤ V.faults reader.new.volume }
-    ensures sink_faults { K.faults out.old ≤ K.faults out.new }
+    ensures reads { ReadsFile V.Volume reader.old.volume reader.new.volume (IsDevice Volume result) }
+    ensures faults { Counts (IsDevice Sink result) (K.faults out.old) (K.faults out.new) }
 {
     let pages = reader.pages;
     match scanned(alloc, reader, g, pages) {
@@ -98,11 +93,8 @@ pub fn check<V: vol_dev::Volume, K: vol_dev::Sink>(
     out: &mut K,
 ) -> Finished<V>
     ensures answers { Answers check_printing (V.contents volume) (K.contents out.old) (K.contents out.new) result.status }
-    ensures contents { V.contents result.volume ≡ V.contents volume }
-    ensures volume_fault { IsDevice Volume result.status → Rose (V.faults volume) (V.faults result.volume) }
-    ensures sink_fault { IsDevice Sink result.status → Rose (K.faults out.old) (K.faults out.new) }
-    ensures volume_faults { V.faults volume ≤ V.faults result.volume }
-    ensures sink_faults { K.faults out.old ≤ K.faults out.new }
+    ensures reads { ReadsFile V.Volume volume result.volume (IsDevice Volume result.status) }
+    ensures faults { Counts (IsDevice Sink result.status) (K.faults out.old) (K.faults out.new) }
 {
     let PassedFile {
         mut reader,

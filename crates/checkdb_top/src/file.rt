@@ -1,20 +1,18 @@
 // A data file that has passed its tests, as one image.
-ghost use Rattle.std.specs.Prelude.{◌≡◌, ◌≢◌, ◌%◌, ◌≤◌, IsTrue, IfOk, IfErr, OnOk, IfSome, length};
-ghost use Rattle.pg_base.specs.Faults.{Rose};
+ghost use Rattle.std.specs.Prelude.{◌≡◌, ◌≢◌, ◌%◌, ◌≤◌, IsTrue, IfOk, IfErr, IsErrAnd, MatchResult, OnOk, IfSome, length};
 ghost use Rattle.pg_base.specs.declared.reader.ReadStop.TheVariants.{Ended};
 ghost use Rattle.spec_file.specs.FileForm.{size_passes};
 ghost use Rattle.spec_file.specs.Places.{HasShape};
+ghost use Rattle.vol_dev.specs.Files.{ReadsFile};
 ghost use Rattle.checkdb_top.specs.Form.{Passes, NamesGeometry};
 ghost use Rattle.checkdb_top.specs.Answers.{IsDevice, Stops, stopped};
 ghost use Rattle.checkdb_top.specs.declared.status.Device.TheVariants.{Volume, Sink};
 
 use crate::reader::VolumeReader;
 use crate::{Device, Status};
-use pg_base::{Geometry, PageNo, ReadStop, read_page};
+use pg_base::{Geometry, PAGE_SIZE, PageNo, ReadStop, read_page};
 use run_file::{FileWhy, passes_size, tested_geometry};
 use std::alloc::Global;
-
-const PAGE: u64 = 8192;
 
 /// A file that has passed its tests.
 pub struct PassedFile<V: vol_dev::Volume> {
@@ -30,16 +28,13 @@ pub struct Finished<V> {
 
 // A file whose size passes; or how a command ends without it.
 fn whole_file<V: vol_dev::Volume>(volume: V) -> Result<VolumeReader<V>, Finished<V>>
-    ensures contents { IfOk result (λ reader. V.contents reader.volume ≡ V.contents volume) }
     ensures size { IfOk result (λ reader. IfSome (V.contents volume) (λ file. IsTrue (size_passes (length file)))) }
     ensures low { IfOk result (λ reader. 16 ≤ reader.pages) }
     ensures whole { IfOk result (λ reader. reader.pages % 8 ≡ 0) }
-    ensures faults { IfOk result (λ reader. V.faults volume ≤ V.faults reader.volume) }
     ensures stops { IfErr result (λ finished. Stops (V.contents volume) finished.status) }
-    ensures kept { IfErr result (λ finished. V.contents finished.volume ≡ V.contents volume) }
-    ensures cause { IfErr result (λ finished. IsDevice Volume finished.status → Rose (V.faults volume) (V.faults finished.volume)) }
     ensures sink { IfErr result (λ finished. ¬ IsDevice Sink finished.status) }
-    ensures counted { IfErr result (λ finished. V.faults volume ≤ V.faults finished.volume) }
+    ensures reads { MatchResult result (λ reader. ReadsFile V.Volume volume reader.volume ⊥)
+        (λ finished. ReadsFile V.Volume volume finished.volume (IsDevice Volume finished.status)) }
 {
     let mut volume = volume;
     let Ok(size) = volume.size() else {
@@ -52,7 +47,7 @@ fn whole_file<V: vol_dev::Volume>(volume: V) -> Result<VolumeReader<V>, Finished
         let status = Status::File(FileWhy::Size);
         return Err(Finished { status, volume });
     }
-    let pages = (size / PAGE) as u32;
+    let pages = (size / PAGE_SIZE as u64) as u32;
     Ok(VolumeReader::of(volume, pages))
 }
 
@@ -68,10 +63,8 @@ fn tested<V: vol_dev::Volume>(
     ensures geometry { IfOk result (λ g. IfSome (V.contents reader.old.volume) (NamesGeometry g)) }
     ensures shape { IfOk result (λ g. HasShape g reader.new.pages) }
     ensures stops { IfErr result (Stops (V.contents reader.old.volume)) }
-    ensures cause { IfErr result (λ s. IsDevice Volume s → Rose (V.faults reader.old.volume) (V.faults reader.new.volume)) }
     ensures sink { IfErr result (λ s. ¬ IsDevice Sink s) }
-    ensures faults { V.faults reader.old.volume ≤ V.faults reader.new.volume }
-    ensures contents { V.contents reader.new.volume ≡ V.contents reader.old.volume }
+    ensures reads { ReadsFile V.Volume reader.old.volume reader.new.volume (IsErrAnd result (IsDevice Volume)) }
 {
     let pages = reader.pages;
     let first = match read_page(alloc, reader, PageNo(0)) {
@@ -86,16 +79,13 @@ fn tested<V: vol_dev::Volume>(
 
 /// A file that passes its tests, to be read as one image; or how a command ends without it.
 pub fn open_file<V: vol_dev::Volume>(alloc: Global, volume: V) -> Result<PassedFile<V>, Finished<V>>
-    ensures contents { IfOk result (λ passed. V.contents passed.reader.volume ≡ V.contents volume) }
     ensures passes { OnOk result (IfSome (V.contents volume) Passes) }
     ensures geometry { IfOk result (λ passed. IfSome (V.contents volume) (NamesGeometry passed.geometry)) }
     ensures shape { IfOk result (λ passed. HasShape passed.geometry passed.reader.pages) }
-    ensures faults { IfOk result (λ passed. V.faults volume ≤ V.faults passed.reader.volume) }
     ensures stops { IfErr result (λ finished. Stops (V.contents volume) finished.status) }
-    ensures kept { IfErr result (λ finished. V.contents finished.volume ≡ V.contents volume) }
-    ensures cause { IfErr result (λ finished. IsDevice Volume finished.status → Rose (V.faults volume) (V.faults finished.volume)) }
     ensures sink { IfErr result (λ finished. ¬ IsDevice Sink finished.status) }
-    ensures counted { IfErr result (λ finished. V.faults volume ≤ V.faults finished.volume) }
+    ensures reads { MatchResult result (λ passed. ReadsFile V.Volume volume passed.reader.volume ⊥)
+        (λ finished. ReadsFile V.Volume volume finished.volume (IsDevice Volume finished.status)) }
 {
     let mut reader = match whole_file(volume) {
         Ok(reader) => reader,

@@ -2,6 +2,7 @@
 ghost use Rattle.std.specs.Prelude.{◌≡◌, ◌*◌, false, length, [], None, option_map};
 ghost use Rattle.std.specs.Option.{ForSome};
 ghost use Rattle.spec_file.specs.Image.{pages_of};
+ghost use Rattle.spec_file.specs.declared.sizes.TheConstants.{PAGE_SIZE};
 
 use pg_base::{Page, PageNo, ReadStop, SnapReader};
 use vol_dev::Volume;
@@ -11,12 +12,12 @@ pub struct VolumeReader<V: Volume> {
     pub volume: V,
     pub pages: u32,
     pub failed: Option<PageNo>,
-    ghost whole: { ForSome (V.contents volume) (λ bytes. length bytes ≡ 8192 * pages) },
+    ghost whole: { ForSome (V.contents volume) (λ bytes. length bytes ≡ PAGE_SIZE * pages) },
 }
 
 impl<V: Volume> VolumeReader<V> {
     pub fn of(volume: V, pages: u32) -> VolumeReader<V>
-        requires { ForSome (V.contents volume) (λ bytes. length bytes ≡ 8192 * pages) }
+        requires { ForSome (V.contents volume) (λ bytes. length bytes ≡ PAGE_SIZE * pages) }
         ensures volume { result.volume ≡ volume }
         ensures pages { result.pages ≡ pages }
     {

@@ -1,9 +1,8 @@
 // A run of sessions on one thread, from its sources to the text of its replies.
-ghost use Rattle.std.specs.Prelude.{◌≡◌, ◌+◌, ◌-◌, ◌<◌, ◌≤◌, ◌^◌, [], length, map, IfOk, IfSome, OnOk, OnErr, false};
+ghost use Rattle.std.specs.Prelude.{◌≡◌, ◌<◌, ◌≤◌, ◌^◌, [], length, map, is_err, IfOk, IfSome, IsOkAnd, OnErr, false};
 ghost use Rattle.std.specs.List.{list_any};
-ghost use Rattle.std.specs.Io.KnownBytes.{append_known};
-ghost use Rattle.pg_base.specs.Faults.{Rose};
-ghost use Rattle.vol_dev.specs.Devices.{WroteFront};
+ghost use Rattle.pg_base.specs.Faults.{Counts};
+ghost use Rattle.vol_dev.specs.Output.{Wrote};
 ghost use Rattle.spec_script.specs.Replies.{text_of};
 ghost use Rattle.spec_run.specs.Entries.{items_of};
 ghost use Rattle.spec_run.specs.Turns.{IsWhole};
@@ -26,7 +25,7 @@ use db_core::Core;
 use pg_base::NoMemory;
 use run_close::{Close, CloseStop, write_session};
 use run_file::Texts;
-use spec_log::Record;
+use spec_log::{Record, SHORT};
 use spec_script::Reply;
 use std::alloc::Global;
 use vol_dev::{DeviceFailed, LogFile};
@@ -60,7 +59,7 @@ fn replies_of(alloc: Global, core: &Core) -> Result<Vec<&[Reply]>, NoMemory>
 fn is_short(item: &Record) -> bool
     ensures { result ≡ ends_short item.now }
 {
-    matches!(item, Record::CheckEnd { outcome: 3, .. })
+    matches!(item, Record::CheckEnd { outcome: SHORT, .. })
 }
 
 fn is_with_errors(reply: &Reply) -> bool
@@ -114,10 +113,7 @@ fn ended(items: &[Record], replies: &[&[Reply]]) -> Status
 fn write_replies<K: vol_dev::Sink>(replies: &[&[Reply]], out: &mut K) -> Result<(), DeviceFailed>
     requires few { AreFew (map (λ r. r.now) replies.now) }
     requires sessions { length replies.now < 2 ^ 32 }
-    ensures ok { OnOk result (K.contents out.new ≡ append_known (K.contents out.old) (text_of (map (λ r. r.now) replies.now))) }
-    ensures err { OnErr result (WroteFront (K.contents out.old) (K.contents out.new) (text_of (map (λ r. r.now) replies.now))) }
-    ensures fault { OnErr result (Rose (K.faults out.old) (K.faults out.new)) }
-    ensures faults { K.faults out.old ≤ K.faults out.new }
+    ensures { Wrote K.Sink out.old out.new (text_of (map (λ r. r.now) replies.now)) (is_err result) }
 {
     for (k, session) in replies.iter().enumerate() {
         write_session(k as u32 + 1, session, out)?;
@@ -141,13 +137,10 @@ fn write_run<V: vol_dev::Volume, L: LogFile, K: vol_dev::Sink>(
     requires known { (d : AnyDevice) → ¬ IsDevice d known }
     ensures writes { Writes close.now.bytes.items close.now.changed.items frames.now (text_of (map (λ r. r.now) replies.now)) known
         (V.contents volume.old) (V.contents volume.new) (L.contents log.old) (L.contents log.new) (K.contents out.old) (K.contents out.new) result }
-    ensures volume_fault { IsDevice Volume result → Rose (V.faults volume.old) (V.faults volume.new) }
-    ensures log_fault { IsDevice Log result → Rose (L.faults log.old) (L.faults log.new) }
-    ensures sink_fault { IsDevice Sink result → Rose (K.faults out.old) (K.faults out.new) }
     ensures source_fault { ¬ IsDevice Source result }
-    ensures volume_faults { V.faults volume.old ≤ V.faults volume.new }
-    ensures log_faults { L.faults log.old ≤ L.faults log.new }
-    ensures sink_faults { K.faults out.old ≤ K.faults out.new }
+    ensures volume_faults { Counts (IsDevice Volume result) (V.faults volume.old) (V.faults volume.new) }
+    ensures log_faults { Counts (IsDevice Log result) (L.faults log.old) (L.faults log.new) }
+    ensures sink_faults { Counts (IsDevice Sink result) (K.faults out.old) (K.faults out.new) }
 {
     match close.write(frames, volume, log) {
         Err(CloseStop::Log) => return Status::Device { which: Device::Log },
@@ -186,13 +179,10 @@ fn close_run<V: vol_dev::Volume, L: LogFile, K: vol_dev::Sink>(
     ensures volume { OnErr result (V.contents volume.new ≡ V.contents volume.old) }
     ensures log { OnErr result (L.contents log.new ≡ L.contents log.old) }
     ensures out { OnErr result (K.contents out.new ≡ K.contents out.old) }
-    ensures volume_fault { IfOk result (λ s. IsDevice Volume s → Rose (V.faults volume.old) (V.faults volume.new)) }
-    ensures log_fault { IfOk result (λ s. IsDevice Log s → Rose (L.faults log.old) (L.faults log.new)) }
-    ensures sink_fault { IfOk result (λ s. IsDevice Sink s → Rose (K.faults out.old) (K.faults out.new)) }
     ensures source_fault { IfOk result (λ s. ¬ IsDevice Source s) }
-    ensures volume_faults { V.faults volume.old ≤ V.faults volume.new }
-    ensures log_faults { L.faults log.old ≤ L.faults log.new }
-    ensures sink_faults { K.faults out.old ≤ K.faults out.new }
+    ensures volume_faults { Counts (IsOkAnd result (IsDevice Volume)) (V.faults volume.old) (V.faults volume.new) }
+    ensures log_faults { Counts (IsOkAnd result (IsDevice Log)) (L.faults log.old) (L.faults log.new) }
+    ensures sink_faults { Counts (IsOkAnd result (IsDevice Sink)) (K.faults out.old) (K.faults out.new) }
 {
     let replies = replies_of(alloc, core)?;
     let items = core.items();
@@ -214,13 +204,10 @@ pub fn run<V: vol_dev::Volume, L: LogFile, S: vol_dev::Source, K: vol_dev::Sink>
     requires few { length sources.old ≤ 17 }
     ensures ends { Ends (map S.left sources.old) (map S.left sources.new) (V.contents volume.old) (V.contents volume.new)
         (L.contents log.old) (L.contents log.new) (K.contents out.old) (K.contents out.new) result }
-    ensures volume_fault { IsDevice Volume result → Rose (V.faults volume.old) (V.faults volume.new) }
-    ensures log_fault { IsDevice Log result → Rose (L.faults log.old) (L.faults log.new) }
-    ensures sink_fault { IsDevice Sink result → Rose (K.faults out.old) (K.faults out.new) }
     ensures source_fault { IsDevice Source result → HasFailedSource (map S.left sources.old) (map S.faults sources.old) (map S.faults sources.new) }
-    ensures volume_faults { V.faults volume.old ≤ V.faults volume.new }
-    ensures log_faults { L.faults log.old ≤ L.faults log.new }
-    ensures sink_faults { K.faults out.old ≤ K.faults out.new }
+    ensures volume_faults { Counts (IsDevice Volume result) (V.faults volume.old) (V.faults volume.new) }
+    ensures log_faults { Counts (IsDevice Log result) (L.faults log.old) (L.faults log.new) }
+    ensures sink_faults { Counts (IsDevice Sink result) (K.faults out.old) (K.faults out.new) }
     ensures source_faults { NoneFell (map S.faults sources.old) (map S.faults sources.new) }
 {
     let start = match start_run(alloc, volume, log, sources) {

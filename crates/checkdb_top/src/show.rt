@@ -1,7 +1,8 @@
 // The header and the slots of one page of a still file.
-ghost use Rattle.std.specs.Prelude.{◌≡◌, ◌≤◌, false, IfSome};
-ghost use Rattle.pg_base.specs.Faults.{Rose};
+ghost use Rattle.std.specs.Prelude.{false, IfSome};
+ghost use Rattle.pg_base.specs.Faults.{Counts};
 ghost use Rattle.spec_script.specs.PageText.{page_text};
+ghost use Rattle.vol_dev.specs.Files.{ReadsFile};
 ghost use Rattle.checkdb_top.specs.Form.{Passes};
 ghost use Rattle.checkdb_top.specs.Answers.{Answers, IsDevice, Prints, ended};
 ghost use Rattle.checkdb_top.specs.Printings.{page_printing};
@@ -17,8 +18,7 @@ use std::alloc::Global;
 fn print<K: vol_dev::Sink>(page: &Page, p: PageNo, out: &mut K) -> Status
     ensures prints { Prints (page_text p.0 page.now.bytes) (ended false) (K.contents out.old) (K.contents out.new) result }
     ensures volume_fault { ¬ IsDevice Volume result }
-    ensures fault { IsDevice Sink result → Rose (K.faults out.old) (K.faults out.new) }
-    ensures faults { K.faults out.old ≤ K.faults out.new }
+    ensures faults { Counts (IsDevice Sink result) (K.faults out.old) (K.faults out.new) }
 {
     match write_page(page, p, out) {
         Err(_) => Status::Device {
@@ -37,11 +37,8 @@ fn show_page<V: vol_dev::Volume, K: vol_dev::Sink>(
 ) -> Status
     requires passes { IfSome (V.contents reader.old.volume) Passes }
     ensures answers { Answers (page_printing p.0) (V.contents reader.old.volume) (K.contents out.old) (K.contents out.new) result }
-    ensures contents { V.contents reader.new.volume ≡ V.contents reader.old.volume }
-    ensures volume_fault { IsDevice Volume result → Rose (V.faults reader.old.volume) (V.faults reader.new.volume) }
-    ensures sink_fault { IsDevice Sink result → Rose (K.faults out.old) (K.faults out.new) }
-    ensures volume_faults { V.faults reader.old.volume ≤ V.faults reader.new.volume }
-    ensures sink_faults { K.faults out.old ≤ K.faults out.new }
+    ensures reads { ReadsFile V.Volume reader.old.volume reader.new.volume (IsDevice Volume result) }
+    ensures faults { Counts (IsDevice Sink result) (K.faults out.old) (K.faults out.new) }
 {
     if p.0 >= reader.pages {
         return Status::Words { at: 3 };
@@ -60,11 +57,8 @@ pub fn show<V: vol_dev::Volume, K: vol_dev::Sink>(
     out: &mut K,
 ) -> Finished<V>
     ensures answers { Answers (page_printing p.0) (V.contents volume) (K.contents out.old) (K.contents out.new) result.status }
-    ensures contents { V.contents result.volume ≡ V.contents volume }
-    ensures volume_fault { IsDevice Volume result.status → Rose (V.faults volume) (V.faults result.volume) }
-    ensures sink_fault { IsDevice Sink result.status → Rose (K.faults out.old) (K.faults out.new) }
-    ensures volume_faults { V.faults volume ≤ V.faults result.volume }
-    ensures sink_faults { K.faults out.old ≤ K.faults out.new }
+    ensures reads { ReadsFile V.Volume volume result.volume (IsDevice Volume result.status) }
+    ensures faults { Counts (IsDevice Sink result.status) (K.faults out.old) (K.faults out.new) }
 {
     let PassedFile {
         mut reader,

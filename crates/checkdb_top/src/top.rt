@@ -1,5 +1,5 @@
 ghost use Rattle.std.specs.Prelude.{◌≡◌, ◌⊎◌, ◌<◌, ◌≤◌, length, map, IfSome, Some};
-ghost use Rattle.pg_base.specs.Faults.{Rose};
+ghost use Rattle.pg_base.specs.Faults.{Rose, Counts};
 ghost use Rattle.app_words.specs.Words.{first_wrong, Asks, AsksStill};
 ghost use Rattle.app_words.specs.declared.command.Command.TheVariants.{Check, ShowPage, Replay};
 ghost use Rattle.spec_file.specs.declared.data.PageNo.{PageNo};
@@ -72,15 +72,12 @@ pub fn plain_top<V: vol_dev::Volume, L: LogFile, S: Source, K: vol_dev::Sink, G:
 
     // A device is named only where its count of faults rose, also where it tells nothing, and a source only
     // where those before it are right; a check never names log and sources.
-    ensures volume_fault { IsDevice Device.Volume result.status → Rose (V.faults volume) (V.faults result.volume) }
-    ensures sink_fault { IsDevice Device.Sink result.status → Rose (K.faults out.old) (K.faults out.new) }
-    ensures log_fault { IsDevice Device.Log result.status → Rose (L.faults log) (L.faults result.log) }
+    ensures volume_faults { Counts (IsDevice Device.Volume result.status) (V.faults volume) (V.faults result.volume) }
+    ensures log_faults { Counts (IsDevice Device.Log result.status) (L.faults log) (L.faults result.log) }
+    ensures sink_faults { Counts (IsDevice Device.Sink result.status) (K.faults out.old) (K.faults out.new) }
     ensures source_fault { IsDevice Device.Source result.status →
         HasFailedSource (map S.left sources.old.items) (map S.faults sources.old.items) (map S.faults sources.new.items) }
-    ensures volume_faults { V.faults volume ≤ V.faults result.volume }
-    ensures log_faults { L.faults log ≤ L.faults result.log }
     ensures source_faults { NoneFell (map S.faults sources.old.items) (map S.faults sources.new.items) }
-    ensures sink_faults { K.faults out.old ≤ K.faults out.new }
 
     // Where a check or a page is asked for and no device fails, the file's form fixes the status, but for want of
     // memory.

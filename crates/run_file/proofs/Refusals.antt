@@ -96,10 +96,10 @@ told_later (Some bytes) image w passes small all later =
       λ g form. later.1 (subst (IsReplayForm Small) (sym all.1) (subst (λ h. IsReplayForm h (pages_of bytes)) form.small form)),
     )
 
-pub later_file : {T : Type 0} (told : Option (List ℕ)) (before now : ℕ) (image : Image) (r : Result T FileStop)
+pub later_file : {T : Type 0} (told : Option (List ℕ)) (image : Image) (r : Result T FileStop)
     → IfSome told (λ bytes. IsTrue (size_passes (length bytes))) → IsSmallFile image → IfSome told (AreAllPages image) → IfErr r (IsLater image)
-    → FileFault told before now r
-later_file told before now image (Ok value) passes small all later = tt
-later_file told before now image (Err (Refused w)) passes small all later = told_later told image w passes small all later
-later_file told before now image (Err Failed) passes small all later = absurd later
-later_file told before now image (Err NoMemory) passes small all later = passes
+    → FileFault told r
+later_file told image (Ok value) passes small all later = tt
+later_file told image (Err (Refused w)) passes small all later = told_later told image w passes small all later
+later_file told image (Err Failed) passes small all later = absurd later
+later_file told image (Err NoMemory) passes small all later = passes

@@ -1,16 +1,17 @@
 -- The scripts that were read so far.
 use Rattle.std.proofs.Common.{◌≡◌, ℕ, zero, suc, ◌+◌, ◌-◌, ◌≤◌, ◌<◌, List, [], ◌∷◌, ◌++◌, length, take, drop, set, get_or, map, All, Option, None, IfSome, Result, Ok, Err, inl, inr, refl, sym, ap, ◌∙◌, subst, arith, length-set}
-use Rattle.std.specs.Prelude.{IsTrue}
+use Rattle.std.specs.Prelude.{IsTrue, IsErrOf}
 use Rattle.std.specs.List.{list_all}
 use Rattle.std.proofs.lemmas.Bool.{cases_eq}
 use Rattle.std.proofs.lemmas.List.{map-set, get_or-map, length-map, get_or-drop, get_or-set_same, get_or-set_other, take_more, take_more_set, drop-set-lt}
 use Rattle.std.proofs.lemmas.List.Elements.{All-push}
 use Rattle.std.proofs.lemmas.Grind.{drop_more_same}
-use Rattle.pg_base.specs.Faults.{Rose}
+use Rattle.pg_base.specs.Faults.{Rose, Counts}
 use Rattle.std.specs.Io.KnownBytes.{IsAtEnd}
 use Rattle.spec_script.specs.declared.statement.Statement.{Statement}
 use Rattle.spec_script.specs.Lines.{is_statement, IsStatementLine, IsTurnsLine}
-use Rattle.spec_script.specs.Texts.{IsScript, IsSchedule, IsWrongAt, most_lines}
+use Rattle.spec_script.specs.Texts.{IsScript, IsSchedule, IsWrongAt}
+use Rattle.spec_script.specs.declared.limits.TheConstants.{MOST_LINES}
 use Rattle.run_file.specs.declared.stop.SourcesStop.{SourcesStop}
 use Rattle.run_file.specs.declared.stop.SourcesStop.TheVariants as stop
 use Rattle.run_file.specs.declared.stop.TextStop.{TextStop}
@@ -77,7 +78,7 @@ module _ {S : Type 0} (left : S → Option (List ℕ)) (faults : S → ℕ) (old
 
   -- one script more
   pub read_next : (scripts : List (List Statement)) (script : List Statement) → AreReadTo left faults old now scripts k
-      → IfSome (left x) (λ bytes. IsScript bytes script) → IsAtEnd (left y) → faults x ≤ faults y → length script ≤ most_lines → IsTrue (list_all is_statement script)
+      → IfSome (left x) (λ bytes. IsScript bytes script) → IsAtEnd (left y) → faults x ≤ faults y → length script ≤ MOST_LINES → IsTrue (list_all is_statement script)
       → AreReadTo left faults old (set now k y) (scripts ++ script ∷ []) (k + 1)
   read_next scripts script read said end rises few allowed =
       let first : k < length old = omega (arith, below, read.size) in
@@ -94,19 +95,20 @@ module _ {S : Type 0} (left : S → Option (List ℕ)) (faults : S → ℕ) (old
         said = subst (λ l. AreScripts l (scripts ++ script ∷ [])) (sym more) (scripts_push (take k (map left old)) scripts (left x) script read.said said);
         ends = subst (All IsAtEnd) (sym shut) (All-push IsAtEnd (take k (map left now)) (left y) read.ends end);
         fell = fell_next rises read.fell;
-        short = All-push (λ s. length s ≤ most_lines) scripts script read.short few;
+        short = All-push (λ s. length s ≤ MOST_LINES) scripts script read.short few;
         proper = All-push (λ s. IsTrue (list_all is_statement s)) scripts script read.proper allowed;
       }
 
   -- a script that is wrong
   pub fault_here : {T : Type 0} (scripts : List (List Statement)) (r : Result T SourcesStop) → AreReadTo left faults old now scripts k
-      → FaultAt (k + 1) IsStatementLine (left x) (faults x) (faults y) r → ScriptsFault (map left old) (map faults old) (map faults (set now k y)) r
-  fault_here scripts (Ok v) read fault = tt
-  fault_here scripts (Err stop.NoMemory) read fault = tt
-  fault_here scripts (Err stop.Failed) read fault =
-      let rose = rose_here read.size read.rest fault in
+      → FaultAt (k + 1) IsStatementLine (left x) r → Counts (IsErrOf r stop.Failed) (faults x) (faults y)
+      → ScriptsFault (map left old) (map faults old) (map faults (set now k y)) r
+  fault_here scripts (Ok v) read fault counts = tt
+  fault_here scripts (Err stop.NoMemory) read fault counts = tt
+  fault_here scripts (Err stop.Failed) read fault counts =
+      let rose = rose_here read.size read.rest (counts.cause refl) in
       record { place = k; within = rose.0; scripts = scripts; texts = read.said; rose = rose.1 }
-  fault_here scripts (Err (stop.Fault j line why)) read fault =
+  fault_here scripts (Err (stop.Fault j line why)) read fault counts =
       subst (λ i. IsFirstWrong (map left old) i line why) (sym fault.0) (first_wrong (k + 1 - 1) (omega arith))
     where
       first_wrong : (i : ℕ) → i ≡ k → IsFirstWrong (map left old) (k + 1) line why
@@ -136,11 +138,11 @@ others left first rest = let same = length-map rest left in omega (arith, same)
 
 module _ {S : Type 0} (left : S → Option (List ℕ)) (faults : S → ℕ) (first new : S) (rest after : List S) where
   -- a schedule that is wrong or fails
-  pub fault_first : (T : Type 0) (r : TextStop) → TextFault {T = T} (IsTurnsLine (length rest)) (left first) (faults first) (faults new) (Err r)
-      → SourcesFault {T = T} (map left (first ∷ rest)) (map faults (first ∷ rest)) (map faults (new ∷ after)) (Err (sources_stop 0 r))
-  fault_first T text.NoMemory fault = tt
-  fault_first T text.Failed fault = record { place = 0; within = omega arith; texts = tt; rose = fault }
-  fault_first T (text.Fault line why) fault =
+  pub fault_first : (T U : Type 0) (r : TextStop) → TextFault {T = T} (IsTurnsLine (length rest)) (left first) (Err r)
+      → Counts (IsErrOf {T = U} (Err r) text.Failed) (faults first) (faults new) → SourcesFault {T = T} (map left (first ∷ rest)) (map faults (first ∷ rest)) (map faults (new ∷ after)) (Err (sources_stop 0 r))
+  fault_first T U text.NoMemory fault counts = tt
+  fault_first T U text.Failed fault counts = record { place = 0; within = omega arith; texts = tt; rose = counts.cause refl }
+  fault_first T U (text.Fault line why) fault counts =
       subst (λ n. IfSome (left first) (λ bytes. IsWrongAt (IsTurnsLine n) bytes line why)) (sym (others left first rest)) fault
 
   -- a script that is wrong behind a schedule

@@ -1,7 +1,7 @@
 -- The form of a data file, in the parts in which it is tested.
 use Rattle.std.specs.Prelude.{◌≡◌, ◌≢◌, ℕ, ◌*◌, ◌<◌, ◌≤◌, IsTrue, List, length, Some}
 use Rattle.spec_file.specs.declared.geometry.Geometry.TheVariants.{Small}
-use Rattle.spec_file.specs.Image.{Image, page}
+use Rattle.spec_file.specs.Image.{Image, page, page_size}
 use Rattle.spec_file.specs.FileForm.{size_passes, header_passes, version_passes, geometry_of, count_passes}
 use Rattle.spec_file.specs.Iam.{single_slot_count, iam_slot}
 use Rattle.spec_log.specs.Cells.{HasWholePages}
@@ -19,7 +19,7 @@ pub record IsSmallFirst (pages : ℕ) (first : List ℕ) : Type 0 where
 -- a small file of at most 88 pages whose page 0 passes its tests
 pub record IsSmallFile (image : Image) : Type 0 where
   pub whole : HasWholePages image
-  pub size : IsTrue (size_passes (8192 * length image))
+  pub size : IsTrue (size_passes (page_size * length image))
   pub header : IsTrue (header_passes (page image 0))
   pub version : IsTrue (version_passes (page image 0))
   pub geometry : geometry_of (page image 0) ≡ Some Small

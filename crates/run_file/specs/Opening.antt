@@ -5,7 +5,6 @@ use Rattle.spec_file.specs.declared.geometry.Geometry.TheVariants.{Small}
 use Rattle.spec_file.specs.Image.{Image, page_size, pages_of, page}
 use Rattle.spec_file.specs.FileForm.{size_passes, header_passes, version_passes, geometry_of, count_passes}
 use Rattle.spec_plan.specs.ReplayForm.{IsReplayForm}
-use Rattle.pg_base.specs.Faults.{Rose}
 use Rattle.run_file.specs.declared.why.FileStop.{FileStop}
 use Rattle.run_file.specs.declared.why.FileStop.TheVariants.{Refused, Failed, NoMemory}
 use Rattle.run_file.specs.declared.why.FileWhy.{FileWhy}
@@ -40,14 +39,14 @@ abbrev pub IsRunFile : List ℕ → Type 0
 IsRunFile bytes = IsTrue (size_passes (length bytes)) × IsReplayForm Small (pages_of bytes)
 
 -- what a stop says of the file, where that is told: no memory is wanted before the size has passed
-abbrev pub StopSays : Option (List ℕ) → ℕ → ℕ → FileStop → Type 0
-StopSays told before now (Refused w) = IfSome told (IsRefusedForRun w)
-StopSays told before now Failed = Rose before now
-StopSays told before now NoMemory = IfSome told (λ bytes. IsTrue (size_passes (length bytes)))
+abbrev pub StopSays : Option (List ℕ) → FileStop → Type 0
+StopSays told (Refused w) = IfSome told (IsRefusedForRun w)
+StopSays told Failed = ⊤
+StopSays told NoMemory = IfSome told (λ bytes. IsTrue (size_passes (length bytes)))
 
-abbrev pub FileFault : {T : Type 0} → Option (List ℕ) → ℕ → ℕ → Result T FileStop → Type 0
-FileFault told before now (Err stop) = StopSays told before now stop
-FileFault told before now (Ok value) = ⊤
+abbrev pub FileFault : {T : Type 0} → Option (List ℕ) → Result T FileStop → Type 0
+FileFault told (Err stop) = StopSays told stop
+FileFault told (Ok value) = ⊤
 
 -- page 0 of a file of so many pages fails a test, or the file isn't small or has more than 88 pages
 abbrev pub IsLeftOutBy : ℕ → List ℕ → FileWhy → Type 0

@@ -6,9 +6,8 @@ use Rattle.pg_base.specs.Faults.{Rose}
 use Rattle.spec_script.specs.declared.statement.Statement.{Statement}
 use Rattle.spec_script.specs.declared.stop.ScriptWhy.{ScriptWhy}
 use Rattle.spec_script.specs.Lines.{is_statement, IsStatementLine, IsTurnsLine}
-use Rattle.spec_script.specs.Texts.{IsScript, IsSchedule, IsWrongAt, most_lines}
-use Rattle.run_file.specs.declared.stop.SourceStop.{SourceStop}
-use Rattle.run_file.specs.declared.stop.SourceStop.TheVariants as source
+use Rattle.spec_script.specs.Texts.{IsScript, IsSchedule, IsWrongAt}
+use Rattle.spec_script.specs.declared.limits.TheConstants.{MOST_LINES}
 use Rattle.run_file.specs.declared.stop.SourcesStop.{SourcesStop}
 use Rattle.run_file.specs.declared.stop.SourcesStop.TheVariants as sources
 use Rattle.run_file.specs.declared.stop.TextStop.{TextStop}
@@ -20,18 +19,12 @@ pub record Moves (before now : List ℕ) (old new : Option (List ℕ)) : Type 0 
   pub grown : now ≡ before ++ piece
   pub moved : old ≡ prepend_known piece new
 
--- a failure of the source raised its count; want of memory is free
-abbrev pub SourceFault : {T : Type 0} → ℕ → ℕ → Result T SourceStop → Type 0
-SourceFault before now (Err source.Failed) = Rose before now
-SourceFault before now (Err source.NoMemory) = ⊤
-SourceFault before now (Ok value) = ⊤
-
 -- a fault names the first wrong line of the source's text, where that is told, and why
-abbrev pub TextFault : {X T : Type 0} → (List ℕ → X → Type 0) → Option (List ℕ) → ℕ → ℕ → Result T TextStop → Type 0
-TextFault IsLine left before now (Err (text.Fault line why)) = IfSome left (λ bytes. IsWrongAt IsLine bytes line why)
-TextFault IsLine left before now (Err text.Failed) = Rose before now
-TextFault IsLine left before now (Err text.NoMemory) = ⊤
-TextFault IsLine left before now (Ok value) = ⊤
+abbrev pub TextFault : {X T : Type 0} → (List ℕ → X → Type 0) → Option (List ℕ) → Result T TextStop → Type 0
+TextFault IsLine left (Err (text.Fault line why)) = IfSome left (λ bytes. IsWrongAt IsLine bytes line why)
+TextFault IsLine left (Err text.Failed) = ⊤
+TextFault IsLine left (Err text.NoMemory) = ⊤
+TextFault IsLine left (Ok value) = ⊤
 
 -- each of these sources has the script in its place, where it is told
 abbrev pub AreScripts : List (Option (List ℕ)) → List (List Statement) → Type 0
@@ -59,11 +52,11 @@ AreKnown (None ∷ lefts) = ⊥
 AreKnown (Some bytes ∷ lefts) = AreKnown lefts
 
 -- a fault names this source
-abbrev pub FaultAt : {X T : Type 0} → ℕ → (List ℕ → X → Type 0) → Option (List ℕ) → ℕ → ℕ → Result T SourcesStop → Type 0
-FaultAt at IsLine left before now (Err (sources.Fault k line why)) = (k ≡ at) × IfSome left (λ bytes. IsWrongAt IsLine bytes line why)
-FaultAt at IsLine left before now (Err sources.Failed) = Rose before now
-FaultAt at IsLine left before now (Err sources.NoMemory) = ⊤
-FaultAt at IsLine left before now (Ok value) = ⊤
+abbrev pub FaultAt : {X T : Type 0} → ℕ → (List ℕ → X → Type 0) → Option (List ℕ) → Result T SourcesStop → Type 0
+FaultAt at IsLine left (Err (sources.Fault k line why)) = (k ≡ at) × IfSome left (λ bytes. IsWrongAt IsLine bytes line why)
+FaultAt at IsLine left (Err sources.Failed) = ⊤
+FaultAt at IsLine left (Err sources.NoMemory) = ⊤
+FaultAt at IsLine left (Ok value) = ⊤
 
 -- script k, counted from 1, is the first of these sources that is wrong
 pub record IsFirstWrong (lefts : List (Option (List ℕ))) (k line : ℕ) (why : ScriptWhy) : Type 0 where
@@ -135,4 +128,4 @@ AreProper scripts = All (λ script. IsTrue (list_all is_statement script)) scrip
 
 -- no script has more statements than a script may have
 abbrev pub AreShort : List (List Statement) → Type 0
-AreShort scripts = All (λ script. length script ≤ most_lines) scripts
+AreShort scripts = All (λ script. length script ≤ MOST_LINES) scripts

@@ -5,8 +5,9 @@ ghost use Rattle.spec_file.specs.FileForm as form;
 ghost use Rattle.run_file.specs.Opening as spec;
 
 use crate::FileWhy;
-use pg_base::{Geometry, Page, PageNo, is_page_of, u16_at, u32_at};
+use pg_base::{FILE_HEADER_TYPE, Geometry, Page, PageNo, is_page_of, u16_at, u32_at};
 use pg_geom::page_limit;
+use spec_file::{EXTENT_SIZE, LARGEST_FILE, SMALLEST_FILE};
 
 const MAGIC: [u8; 8] = *b"PGCHKDB1";
 
@@ -14,7 +15,7 @@ const MAGIC: [u8; 8] = *b"PGCHKDB1";
 pub fn passes_size(bytes: u64) -> bool
     ensures { result ≡ form.size_passes bytes }
 {
-    bytes % 65_536 == 0 && bytes >= 131_072 && bytes <= 4_294_967_296
+    bytes % EXTENT_SIZE == 0 && bytes >= SMALLEST_FILE && bytes <= LARGEST_FILE
 }
 
 fn has_magic(first: &Page) -> bool
@@ -26,7 +27,7 @@ fn has_magic(first: &Page) -> bool
 fn passes_header(first: &Page) -> bool
     ensures { result ≡ form.header_passes first.now.bytes }
 {
-    first.bytes[0] == 1 && is_page_of(first, 15, PageNo(0)) && has_magic(first)
+    first.bytes[0] == 1 && is_page_of(first, FILE_HEADER_TYPE, PageNo(0)) && has_magic(first)
 }
 
 fn passes_version(first: &Page) -> bool

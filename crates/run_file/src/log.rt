@@ -1,5 +1,6 @@
 // The log of a run, which is empty when the run begins.
-ghost use Rattle.std.specs.Prelude.{◌≡◌, ◌≤◌, [], IfSome, OnOk};
+ghost use Rattle.std.specs.Prelude.{◌≡◌, [], IfSome, IsErrOf, OnOk};
+ghost use Rattle.pg_base.specs.Faults.{Counts};
 ghost use Rattle.run_file.specs.Log.{LogFault};
 
 use std::alloc::Global;
@@ -20,9 +21,9 @@ pub enum LogWhy {
 /// Whether a log is empty: it is, at Ok, and else it is told why it is not taken.
 pub fn open_log<L: LogFile>(alloc: Global, log: &mut L) -> Result<(), LogWhy>
     ensures empty { OnOk result (IfSome (L.contents log.old) (λ bytes. bytes ≡ [])) }
-    ensures fault { LogFault (L.contents log.old) (L.faults log.old) (L.faults log.new) result }
+    ensures fault { LogFault (L.contents log.old) result }
     ensures same { L.contents log.new ≡ L.contents log.old }
-    ensures faults { L.faults log.old ≤ L.faults log.new }
+    ensures faults { Counts (IsErrOf result LogWhy.Failed) (L.faults log.old) (L.faults log.new) }
 {
     let mut bytes = Vec::new(alloc);
     match log.read_all(&mut bytes) {

@@ -1,22 +1,21 @@
 // The file of a run: its tests, and its pages in memory.
-ghost use Rattle.std.specs.Prelude.{◌≡◌, ◌*◌, ◌≤◌, IsTrue, IfOk, IfErr, IfSome, OnOk};
+ghost use Rattle.std.specs.Prelude.{◌≡◌, ◌*◌, ◌≤◌, IsTrue, IfOk, IfErr, IfSome, IsErrOf, OnOk};
 ghost use Rattle.std.specs.Option.{ForSome};
 ghost use Rattle.spec_file.specs.declared.geometry.Geometry.TheVariants.{Small};
 ghost use Rattle.spec_file.specs.Image.{page_at};
 ghost use Rattle.spec_file.specs.FileForm.{size_passes};
 ghost use Rattle.spec_plan.specs.ReplayForm.{IsReplayForm};
+ghost use Rattle.vol_dev.specs.Files.{ReadsFile};
 ghost use Rattle.run_file.specs.Form.{IsSmallFirst, IsSmallFile};
 ghost use Rattle.run_file.specs.Opening.{FileFault, IsLater, IsLeftOutBy, AreAllPages, HasPages};
 
 use crate::first_page::{passes_size, tested_geometry};
 use crate::form::has_replay_form;
 use crate::why::{FileStop, FileWhy};
-use pg_base::{Geometry, NoMemory, Page, PageNo, ReadStop};
+use pg_base::{Geometry, NoMemory, PAGE_SIZE, Page, PageNo, ReadStop};
 use std::alloc::Global;
 use vol_dev::Volume;
 use vol_pool::Frames;
-
-const PAGE: u64 = 8192;
 
 /// The most pages of a file with the form that sessions need.
 const MOST_PAGES: u32 = 88;
@@ -26,9 +25,8 @@ fn first_page<V: Volume>(alloc: Global, volume: &mut V, pages: u32) -> Result<Bo
     requires low { 16 ≤ pages }
     requires pages { ForSome (V.contents volume.old) (HasPages pages) }
     ensures page { IfOk result (λ first. IfSome (V.contents volume.old) (λ bytes. first.value.bytes ≡ page_at bytes 0)) }
-    ensures fault { FileFault (V.contents volume.old) (V.faults volume.old) (V.faults volume.new) result }
-    ensures same { V.contents volume.new ≡ V.contents volume.old }
-    ensures faults { V.faults volume.old ≤ V.faults volume.new }
+    ensures fault { FileFault (V.contents volume.old) result }
+    ensures reads { ReadsFile V.Volume volume.old volume.new (IsErrOf result FileStop.Failed) }
 {
     let Ok(mut first) = Page::zeroed(alloc) else {
         return Err(FileStop::NoMemory);
@@ -63,9 +61,8 @@ fn tested_first<V: Volume>(alloc: Global, volume: &mut V, pages: u32) -> Result<
     requires pages { ForSome (V.contents volume.old) (HasPages pages) }
     ensures passes { IfOk result (λ first. IsSmallFirst pages first.value.bytes) }
     ensures page { IfOk result (λ first. IfSome (V.contents volume.old) (λ bytes. first.value.bytes ≡ page_at bytes 0)) }
-    ensures fault { FileFault (V.contents volume.old) (V.faults volume.old) (V.faults volume.new) result }
-    ensures same { V.contents volume.new ≡ V.contents volume.old }
-    ensures faults { V.faults volume.old ≤ V.faults volume.new }
+    ensures fault { FileFault (V.contents volume.old) result }
+    ensures reads { ReadsFile V.Volume volume.old volume.new (IsErrOf result FileStop.Failed) }
 {
     let first = match first_page(alloc, volume, pages) {
         Ok(first) => first,
@@ -85,14 +82,13 @@ fn pages_in_memory<V: Volume>(
     pages: u32,
 ) -> Result<Frames, FileStop>
     requires passes { IsSmallFirst pages first.value.bytes }
-    requires size { IsTrue (size_passes (8192 * pages)) }
+    requires size { IsTrue (size_passes (PAGE_SIZE * pages)) }
     requires page { IfSome (V.contents volume.old) (λ bytes. first.value.bytes ≡ page_at bytes 0) }
     requires pages { ForSome (V.contents volume.old) (HasPages pages) }
     ensures small { IfOk result IsSmallFile }
     ensures told { IfOk result (λ frames. IfSome (V.contents volume.old) (AreAllPages frames)) }
-    ensures fault { FileFault (V.contents volume.old) (V.faults volume.old) (V.faults volume.new) result }
-    ensures same { V.contents volume.new ≡ V.contents volume.old }
-    ensures faults { V.faults volume.old ≤ V.faults volume.new }
+    ensures fault { FileFault (V.contents volume.old) result }
+    ensures reads { ReadsFile V.Volume volume.old volume.new (IsErrOf result FileStop.Failed) }
 {
     match Frames::read_behind(alloc, first, volume, pages) {
         Ok(frames) => Ok(frames),
@@ -121,9 +117,8 @@ fn formed(alloc: Global, frames: Frames) -> Result<Frames, FileStop>
 pub fn open_file<V: Volume>(alloc: Global, volume: &mut V) -> Result<Frames, FileStop>
     ensures form { IfOk result (IsReplayForm Small) }
     ensures told { IfOk result (λ frames. IfSome (V.contents volume.old) (AreAllPages frames)) }
-    ensures fault { FileFault (V.contents volume.old) (V.faults volume.old) (V.faults volume.new) result }
-    ensures same { V.contents volume.new ≡ V.contents volume.old }
-    ensures faults { V.faults volume.old ≤ V.faults volume.new }
+    ensures fault { FileFault (V.contents volume.old) result }
+    ensures reads { ReadsFile V.Volume volume.old volume.new (IsErrOf result FileStop.Failed) }
 {
     let Ok(size) = volume.size() else {
         return Err(FileStop::Failed);
@@ -131,7 +126,7 @@ pub fn open_file<V: Volume>(alloc: Global, volume: &mut V) -> Result<Frames, Fil
     if !passes_size(size) {
         return Err(FileStop::Refused(FileWhy::Size));
     }
-    let pages = (size / PAGE) as u32;
+    let pages = (size / PAGE_SIZE as u64) as u32;
     let first = match tested_first(alloc, volume, pages) {
         Ok(first) => first,
         Err(stop) => return Err(stop),

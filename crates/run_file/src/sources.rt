@@ -1,9 +1,11 @@
 // All sources of a run: its schedule, and then its scripts.
 ghost use Rattle.std.specs.List.{list_all};
-ghost use Rattle.std.specs.Prelude.{◌≡◌, ◌-◌, ◌<◌, ◌≤◌, All, IsTrue, length, map, IfOk, OnOk, IfSome};
+ghost use Rattle.std.specs.Prelude.{◌≡◌, ◌-◌, ◌<◌, ◌≤◌, All, IsTrue, length, map, IfOk, IsErrOf, OnOk, IfSome};
 ghost use Rattle.std.specs.Io.KnownBytes.{IsAtEnd};
+ghost use Rattle.pg_base.specs.Faults.{Counts};
 ghost use Rattle.spec_script.specs.Lines.{is_statement, IsStatementLine};
-ghost use Rattle.spec_script.specs.Texts.{IsScript, most_lines};
+ghost use Rattle.spec_script.specs.Texts.{IsScript};
+ghost use Rattle.spec_script.specs.declared.limits.TheConstants.{MOST_LINES};
 ghost use Rattle.run_file.specs.Sources.{AreProper, AreScripts, AreShort, AreTexts, AreTurnsOf, FaultAt, NoneFell, ScriptsFault, SourcesFault};
 
 use crate::stop::{SourcesStop, of_source};
@@ -27,11 +29,11 @@ fn script_at<S: Source>(
     k: u32,
 ) -> Result<Vec<Statement>, SourcesStop>
     ensures script { IfOk result (λ statements. IfSome (S.left source.old) (λ text. IsScript text statements.items)) }
-    ensures short { IfOk result (λ statements. length statements.items ≤ most_lines) }
+    ensures short { IfOk result (λ statements. length statements.items ≤ MOST_LINES) }
     ensures proper { IfOk result (λ statements. IsTrue (list_all is_statement statements.items)) }
     ensures end { OnOk result (IsAtEnd (S.left source.new)) }
-    ensures fault { FaultAt k IsStatementLine (S.left source.old) (S.faults source.old) (S.faults source.new) result }
-    ensures faults { S.faults source.old ≤ S.faults source.new }
+    ensures fault { FaultAt k IsStatementLine (S.left source.old) result }
+    ensures faults { Counts (IsErrOf result SourcesStop.Failed) (S.faults source.old) (S.faults source.new) }
 {
     match script_of(alloc, source) {
         Ok(statements) => Ok(statements),

@@ -8,7 +8,7 @@ use std::alloc::{AllocError, AllocFailed};
 use vol_dev::DeviceFailed;
 
 /// Why a source was not read to its end.
-#[derive(Clone, Copy, Debug, PartialEq, Eq)]
+#[derive(Clone, Copy)]
 pub enum SourceStop {
     /// The source failed in this call, and counted it.
     Failed,
@@ -36,7 +36,7 @@ impl From<AllocError> for SourceStop {
 }
 
 /// Why the text of a source was not read.
-#[derive(Clone, Copy, Debug, PartialEq, Eq)]
+#[derive(Clone, Copy)]
 pub enum TextStop {
     /// The first line that is wrong, counted from 1, and why; line 0 where the text is too long.
     Fault { line: u32, why: ScriptWhy },

@@ -1,9 +1,13 @@
 use Rattle.std.proofs.Common.{refl}
 use Rattle.checkdb_top.specs.Answers.{Stopped}
+use Rattle.vol_dev.proofs.FileReads.{reads_file_then}
 use Rattle.checkdb_top.proofs.check.check.Goals as goal
 
 pub returns-in-Err-clause-answers : goal.returns-in-Err-clause-answers
 returns-in-Err-clause-answers g c = Stopped c.in-Err.ensures.stops refl
 
 pub returns-clause-answers : goal.returns-clause-answers
-returns-clause-answers g c = rw c.in-Ok.ensures.contents at c.report-status.ensures.answers
+returns-clause-answers g c = rw c.in-Ok.ensures.reads.contents at c.report-status.ensures.answers
+
+pub returns-clause-reads : goal.returns-clause-reads
+returns-clause-reads g c = rw c.into_volume.ensures (reads_file_then _ _ _ _ _ _ c.in-Ok.ensures.reads c.report-status.ensures.reads)

@@ -11,7 +11,7 @@ use Rattle.checkdb_top.proofs.top.plain_top.Goals as goal
 
 pub returns-in-Ok-Check-clause-complete : goal.returns-in-Ok-Check-clause-complete
 returns-in-Ok-Check-clause-complete g c = λ _.
-    completes _ _ _ _ _ _ _ c.check-status.ensures.answers c.check-status.ensures.volume_fault c.check-status.ensures.sink_fault
+    completes _ _ _ _ _ _ _ c.check-status.ensures.answers c.check-status.ensures.reads.faults.cause c.check-status.ensures.faults.cause
 
 pub returns-in-Ok-ShowPage-clause-shows : goal.returns-in-Ok-ShowPage-clause-shows
 returns-in-Ok-ShowPage-clause-shows g c = λ p asks.
@@ -24,7 +24,7 @@ returns-in-Ok-ShowPage-clause-complete_page g c = λ p asks.
     let answers = subst (λ (q : PageNo). Answers (page_printing q.0) (g.V.Volume.contents c.args.volume) (g.K.Sink.contents c.args.out.now)
     (g.K.Sink.contents c.show-status.new.out) c.show-status.result.status)
     (same_page c.args.words.now c.in-Ok-ShowPage.p p (rw c.in-Ok-ShowPage.field-0-is at c.in-Ok-ShowPage.ensures) asks) c.show-status.ensures.answers in
-    completes (page_printing p.0) _ _ _ _ _ _ answers c.show-status.ensures.volume_fault c.show-status.ensures.sink_fault
+    completes (page_printing p.0) _ _ _ _ _ _ answers c.show-status.ensures.reads.faults.cause c.show-status.ensures.faults.cause
 
 pub returns-in-Ok-Replay-clause-ends : goal.returns-in-Ok-Replay-clause-ends
 returns-in-Ok-Replay-clause-ends g c = λ _.
@@ -39,7 +39,7 @@ returns-in-Ok-Replay-clause-complete_run g c = λ asks.
     omega (arith, c.requires.some asks, length-map c.args.sources.now.items g.S.Source.left) in
     rw (take_at now (drop (length now) c.args.sources.now.items) c.args.sources.now.len (c.run-status.auto.sources ∙ c.as_mut_slice.ensures.len))
     (completes_run (map g.S.Source.left c.args.sources.now.items) _ _ _ _ _ _ _ _ _ _ _ _ some (rw c.as_mut_slice.ensures.value at c.run-status.ensures.ends)
-    c.run-status.ensures.volume_fault c.run-status.ensures.log_fault c.run-status.ensures.sink_fault
+    c.run-status.ensures.volume_faults.cause c.run-status.ensures.log_faults.cause c.run-status.ensures.sink_faults.cause
     (λ is. failed_rose _ _ _ (rw c.as_mut_slice.ensures.value at (c.run-status.ensures.source_fault is))))
 
 pub returns-in-Ok-Replay-clause-no_terminated : goal.returns-in-Ok-Replay-clause-no_terminated

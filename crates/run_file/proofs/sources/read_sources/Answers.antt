@@ -27,5 +27,5 @@ returns-in-Err-clause-fault g c =
     (sym c.in-Some.ensures.cases.0)
     (subst (λ r. SourcesFault {T = Unit {0}} (map g.S.Source.left (c.in-Some.first.now ∷ c.in-Some.rest.now)) (map g.S.Source.faults (c.in-Some.first.now ∷ c.in-Some.rest.now))
     (map g.S.Source.faults (c.schedule_of.new.source ∷ c.in-Some.rest.now)) (Err r)) (sym c.of_source.ensures)
-    (fault_first g.S.Source.left g.S.Source.faults c.in-Some.first.now c.schedule_of.new.source c.in-Some.rest.now c.in-Some.rest.now (Unit {0})
-    c.in-Err.stop c.in-Err.ensures.fault))
+    (fault_first g.S.Source.left g.S.Source.faults c.in-Some.first.now c.schedule_of.new.source c.in-Some.rest.now c.in-Some.rest.now (Unit {0}) _
+    c.in-Err.stop c.in-Err.ensures.fault c.in-Err.ensures.faults))

@@ -7,7 +7,7 @@ use Rattle.spec_file.specs.FileForm.{geometry_of, size_passes}
 use Rattle.run_file.specs.declared.why.FileWhy.{FileWhy}
 use Rattle.run_file.specs.declared.why.FileWhy.TheVariants as why
 use Rattle.run_file.specs.Opening.{opening_fault, file_fault}
-use Rattle.run_file.specs.OpeningLaws.{after_size}
+use Rattle.run_file.proofs.OpeningLaws.{after_size}
 use Rattle.checkdb_top.specs.Form.{IsRefusedFor, Passes, NamesGeometry}
 
 -- the first test that page 0 fails, or that it passes all, is the file's

@@ -10,12 +10,13 @@ use Rattle.spec_script.specs.declared.stop.ScriptWhy.{ScriptWhy}
 use Rattle.spec_script.specs.Replies.{text_of}
 use Rattle.spec_run.specs.Begun.{Setting}
 use Rattle.spec_run.specs.Entries.{Entry, items_of}
-use Rattle.db_core.specs.Reports.{is_terminated, none_terminated}
+use Rattle.db_core.specs.Reports.{is_terminated}
+use Rattle.db_core.proofs.Reports.{none_terminated}
 use Rattle.run_file.specs.Log.{longest_log}
 use Rattle.run_file.specs.Opening.{IsRunFile}
-use Rattle.run_file.specs.OpeningLaws.{not_refused, one_refusal, run_file}
+use Rattle.run_file.proofs.OpeningLaws.{not_refused, one_refusal, run_file}
 use Rattle.run_file.specs.Sources.{AreKnown, IsFirstOf}
-use Rattle.run_file.specs.SourcesLaws.{none_wrong, one_first}
+use Rattle.run_file.proofs.SourcesLaws.{none_wrong, one_first}
 use Rattle.checkdb_top.specs.declared.status.Device.{Device}
 use Rattle.checkdb_top.specs.declared.status.Device.TheVariants as device
 use Rattle.checkdb_top.specs.declared.status.Status.{Status}

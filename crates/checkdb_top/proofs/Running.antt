@@ -11,7 +11,7 @@ use Rattle.spec_script.specs.declared.reply.Reply.{Reply}
 use Rattle.spec_script.specs.Replies.{session_text, texts_from, text_of}
 use Rattle.checkdb_top.specs.Runs.{replies_to}
 use Rattle.vol_dev.specs.Devices.{WroteFront}
-use Rattle.vol_dev.specs.DeviceLaws.{append_known-then, WroteFront-after}
+use Rattle.vol_dev.proofs.DeviceLaws.{append_known-then, WroteFront-after}
 
 pub any_mapped : {A B : Type 0} (f : A → B) (p : B → Bool) (xs : List A) → list_any (λ x. p (f x)) xs ≡ list_any p (map f xs)
 any_mapped f p [] = refl

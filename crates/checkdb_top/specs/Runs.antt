@@ -4,6 +4,7 @@ use Rattle.std.specs.List.{list_any, list_all}
 use Rattle.std.specs.Io.KnownBytes.{IsAtEnd}
 use Rattle.spec_file.specs.declared.geometry.Geometry.TheVariants.{Small}
 use Rattle.spec_file.specs.Image.{Image}
+use Rattle.spec_log.specs.declared.limits.TheConstants.{SHORT}
 use Rattle.spec_log.specs.declared.item.Record.{Record}
 use Rattle.spec_log.specs.declared.item.Record.TheVariants.{CheckEnd}
 use Rattle.spec_log.specs.Bytes.{log_bytes}
@@ -35,7 +36,7 @@ use Rattle.checkdb_top.specs.declared.status.Status.TheVariants as status
 
 -- a check ended for want of memory
 abbrev pub ends_short : Record → Bool
-ends_short (CheckEnd session index outcome) = outcome == 3
+ends_short (CheckEnd session index outcome) = outcome == SHORT
 ends_short other = false
 
 -- a report that holds an error

@@ -11,7 +11,7 @@ use Rattle.spec_file.specs.Image.{Image}
 use Rattle.spec_file.specs.CatalogRows.{CatalogRow}
 use Rattle.spec_chain.specs.Marks.{IsMarked}
 use Rattle.spec_check.specs.Chains.{IsErrorOfChain}
-use Rattle.ck_error.specs.GatheringLaws.{adds_none, adds_as, adds_both}
+use Rattle.ck_error.proofs.GatheringLaws.{adds_none, adds_as, adds_both}
 use Rattle.ck_facts.specs.declared.map.ExtentMap.{ExtentMap}
 use Rattle.ck_facts.specs.Maps.{has_mark, rows_of_objects}
 use Rattle.db_cat.specs.declared.rows.CatRow.{CatRow}

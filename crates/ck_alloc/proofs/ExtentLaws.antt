@@ -13,7 +13,7 @@ use Rattle.spec_check.specs.Allocation.{IsExtentError}
 use Rattle.spec_check.specs.Maps.{GivesTwoMarkers, HoldsUse, HasNoOwner, IsLost, Claims, AreClaims, claim_count, two_claims, HasTwoClaims}
 use Rattle.ck_alloc.specs.declared.extents.ExtentState.{ExtentState}
 use Rattle.ck_alloc.specs.ExtentRules.{claims_of, has_no_owner, LostSays, ClaimsSay, ExtentSays}
-use Rattle.spec_check.specs.Members.{none_there, none_from, sorted_same}
+use Rattle.spec_check.proofs.Members.{none_there, none_from, sorted_same}
 
 -- the state of an extent of an image
 abbrev pub seen_extent : Geometry → Image → ℕ → Bool → ExtentState

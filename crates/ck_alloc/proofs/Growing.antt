@@ -4,7 +4,7 @@ use Rattle.std.proofs.lemmas.List.{length-map}
 use Rattle.spec_check.specs.declared.report.CheckError.{CheckError}
 use Rattle.spec_check.specs.Pages.{two_uses, GivesTwoUses}
 use Rattle.ck_error.specs.Gathered.{Adds}
-use Rattle.ck_error.specs.GatheringLaws.{adds_push, adds_as}
+use Rattle.ck_error.proofs.GatheringLaws.{adds_push, adds_as}
 use Rattle.ck_facts.specs.declared.map.PageUse.{PageUse}
 use Rattle.ck_facts.specs.Maps.{use_of}
 

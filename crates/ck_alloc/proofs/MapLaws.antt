@@ -8,16 +8,16 @@ use Rattle.spec_file.specs.Roles.{role_of, is_system_extent}
 use Rattle.spec_chain.specs.Marks.{AreMarkers}
 use Rattle.spec_chain.specs.Uses.{pfs_byte}
 use Rattle.spec_check.specs.declared.report.CheckError.{CheckError}
-use Rattle.spec_check.specs.Allocation.{IsExtentError, IsPageError, IsAllocationError}
+use Rattle.spec_check.specs.Allocation.{IsExtentError, IsUseError, IsAllocationError}
 use Rattle.spec_check.specs.Chains.{IsChainError}
 use Rattle.db_cat.specs.declared.rows.CatRow.{CatRow}
 use Rattle.db_cat.specs.Rows.{row_of}
 use Rattle.spec_file.specs.declared.role.Role.{Role}
 use Rattle.ck_error.specs.Gathered.{Adds, Below, Gathers}
-use Rattle.ck_error.specs.GatheringLaws.{gathers_more, gathers_as}
+use Rattle.ck_error.proofs.GatheringLaws.{gathers_more, gathers_as}
 use Rattle.ck_facts.specs.declared.map.AllocMap.{AllocMap}
 use Rattle.ck_facts.specs.MapOf.{IsMapOf, extent_at, ids_of}
-use Rattle.ck_facts.specs.MapLaws.{extent_of}
+use Rattle.ck_facts.proofs.MapLaws.{extent_of}
 use Rattle.ck_facts.specs.Maps.{rows_of_objects}
 use Rattle.ck_alloc.specs.declared.extents.ExtentState.{ExtentState}
 use Rattle.ck_alloc.specs.declared.pages.PageState.{PageState}
@@ -84,7 +84,7 @@ page_rest p = omega arith
 
 -- from the map to the image
 part_there : (image : Image) (m : AllocMap) → IsMapOf image m → m.system.items ≡ [] → (x : CheckError) → Below (m.pages / 8) (PartOfMapSays m) x
-    → IsExtentError m.geometry image x ⊎ IsPageError m.geometry image x
+    → IsExtentError m.geometry image x ⊎ IsUseError m.geometry image x
 part_there image m of sound x (e, lower, says) =
     let uses = (of.whole sound).uses in
     let below : e < extent_count image = subst (λ n. e < n / 8) (sym of.pages) lower in
@@ -124,7 +124,7 @@ extent_part image m of sound x h =
     let (e, below, says) = extent_back m.geometry image (holds_use m.uses.items) (markers_at m) x (shows_extents image m of sound) h in
     (e, subst (λ n. e < n / 8) of.pages below, inl (subst (λ s. ExtentSays s (markers_at m e) x) (sym (extent_same image m of sound e below)) says))
 
-page_part : (image : Image) (m : AllocMap) → IsMapOf image m → m.system.items ≡ [] → (x : CheckError) → IsPageError m.geometry image x
+page_part : (image : Image) (m : AllocMap) → IsMapOf image m → m.system.items ≡ [] → (x : CheckError) → IsUseError m.geometry image x
     → Below (m.pages / 8) (PartOfMapSays m) x
 page_part image m of sound x h =
     let (p, below, says) = page_back m.geometry image (uses_at m) (markers_at m) x (shows_pages image m of sound) h in (

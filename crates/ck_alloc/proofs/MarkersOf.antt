@@ -16,7 +16,7 @@ use Rattle.spec_chain.specs.Marks.{IsMarker, AreMarkers}
 use Rattle.ck_facts.specs.declared.map.ExtentMap.{ExtentMap}
 use Rattle.ck_facts.specs.Maps.{AreObjects, IsExtentOf, has_mark}
 use Rattle.ck_alloc.specs.Held.{marked_ids}
-use Rattle.spec_check.specs.Members.{map_from, map_in, filter_from, filter_in, range_from, range_in, sorted_map, range_sorted}
+use Rattle.spec_check.proofs.Members.{map_from, map_in, filter_from, filter_in, range_from, range_in, sorted_map, range_sorted}
 
 -- ids by place
 id_of_row : (rows : List CatalogRow) (i : ℕ) (d : CatalogRow) → i < length rows → slice_index (map (λ r. r.id) rows) i ≡ (get_or rows i d).id

@@ -12,7 +12,7 @@ use Rattle.spec_file.specs.Roles.{role_of, system_type, is_system_extent}
 use Rattle.spec_chain.specs.Uses.{pfs_byte}
 use Rattle.spec_check.specs.declared.report.CheckError.{CheckError}
 use Rattle.spec_check.specs.System.{IsSystemError}
-use Rattle.ck_error.specs.GatheringLaws.{gathers_as}
+use Rattle.ck_error.proofs.GatheringLaws.{gathers_as}
 use Rattle.ck_alloc.specs.declared.places.SystemKind.{SystemKind}
 use Rattle.ck_alloc.specs.declared.places.SystemKind.TheVariants.{Pfs, Gam, Sgam}
 use Rattle.ck_alloc.specs.declared.system_maps.SystemMaps.{SystemMaps}

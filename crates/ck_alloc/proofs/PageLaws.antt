@@ -8,20 +8,20 @@ use Rattle.spec_file.specs.declared.role.Role.TheVariants as role
 use Rattle.spec_file.specs.declared.pfs.PfsKind.{PfsKind}
 use Rattle.spec_file.specs.declared.pfs.PfsKind.TheVariants as kinds
 use Rattle.spec_file.specs.Image.{Image}
-use Rattle.spec_file.specs.Iam.{slot_count}
+use Rattle.spec_file.specs.Iam.{single_slot_count}
 use Rattle.spec_file.specs.Pfs.{expected}
 use Rattle.spec_file.specs.Roles.{role_of, is_for_objects}
 use Rattle.spec_chain.specs.Marks.{AreMarkers}
 use Rattle.spec_chain.specs.Uses.{Use, use_cmp, IsUse, AreUses, pfs_byte, is_allocated}
 use Rattle.spec_check.specs.declared.report.CheckError.{CheckError}
-use Rattle.spec_check.specs.Allocation.{IsPageError}
-use Rattle.spec_check.specs.Pages.{IsUnowned, GivesTwoUses, kind_of_role, IsKindOfUse, IsTestedAs, HoldsRows, HasWrongFlags, HasWrongFullness}
+use Rattle.spec_check.specs.Allocation.{IsUseError}
+use Rattle.spec_check.specs.Pages.{IsUnowned, GivesTwoUses, kind_of_role, IsKindOfUse, IsTestedAs, MayHoldRows, HasWrongFlags, HasWrongFullness}
 use Rattle.ck_error.specs.Gathered.{Each}
 use Rattle.ck_facts.specs.declared.map.PageUse.{PageUse}
 use Rattle.ck_facts.specs.Maps.{use_of}
 use Rattle.ck_alloc.specs.declared.pages.PageState.{PageState}
 use Rattle.ck_alloc.specs.PageRules.{has_wrong_flags, has_wrong_fullness, holds_rows, TestSays, kind_of_place, kind_of_mark, UseSays, ByteSays, PageSays}
-use Rattle.spec_check.specs.Members.{map_from, map_in, none_there, none_from, sorted_same}
+use Rattle.spec_check.proofs.Members.{map_from, map_in, none_there, none_from, sorted_same}
 
 -- the state of a page of an image
 abbrev pub seen_page : Geometry → Image → ℕ → PageState
@@ -68,17 +68,17 @@ none_told role.Boot h = absurd (cc)
 none_told role.Ordinary h = refl
 
 -- the kind that a use tells
-place_kind : (place : ℕ) → (place < slot_count) ⊎ (place ≡ slot_count) → IsKindOfUse place (kind_of_place place)
+place_kind : (place : ℕ) → (place < single_slot_count) ⊎ (place ≡ single_slot_count) → IsKindOfUse place (kind_of_place place)
 place_kind place h = ⊎_elim
-    (λ slot. inl (slot, ap (λ b. if b then kinds.Single else kinds.Iam) (lt-ltb place slot_count slot)))
-    (λ iam. inr (iam, ap (λ b. if b then kinds.Single else kinds.Iam) (le-ltb place slot_count (omega arith)))) h
+    (λ slot. inl (slot, ap (λ b. if b then kinds.Single else kinds.Iam) (lt-ltb place single_slot_count slot)))
+    (λ iam. inr (iam, ap (λ b. if b then kinds.Single else kinds.Iam) (le-ltb place single_slot_count (omega arith)))) h
 
 kind_place : (place : ℕ) (kind : PfsKind) → IsKindOfUse place kind → kind ≡ kind_of_place place
 kind_place place kind h = ⊎_elim
-    (λ slot. slot.1 ∙ sym (ap (λ b. if b then kinds.Single else kinds.Iam) (lt-ltb place slot_count slot.0)))
-    (λ iam. let at : slot_count ≤ place = omega (arith, iam.0) in iam.1 ∙ sym (ap (λ b. if b then kinds.Single else kinds.Iam) (le-ltb place slot_count at))) h
+    (λ slot. slot.1 ∙ sym (ap (λ b. if b then kinds.Single else kinds.Iam) (lt-ltb place single_slot_count slot.0)))
+    (λ iam. let at : single_slot_count ≤ place = omega (arith, iam.0) in iam.1 ∙ sym (ap (λ b. if b then kinds.Single else kinds.Iam) (le-ltb place single_slot_count at))) h
 
-use_place : (g : Geometry) (image : Image) (p : ℕ) (u : Use) → IsUse g image p u → (u.place < slot_count) ⊎ (u.place ≡ slot_count)
+use_place : (g : Geometry) (image : Image) (p : ℕ) (u : Use) → IsUse g image p u → (u.place < single_slot_count) ⊎ (u.place ≡ single_slot_count)
 use_place g image p u h = ⊎_elim (λ slot. inl slot.0.0) (λ iam. inr iam.0) h.3
 
 -- the kind that a mark tells
@@ -93,7 +93,7 @@ kind_mark a kind h = ⊎_elim (λ t. t.1 ∙ sym (ap (λ b. if b then kinds.Unif
     (λ f. f.1 ∙ sym (ap (λ b. if b then kinds.Uniform else kinds.Unused) f.0)) h
 
 -- the kinds of pages that hold rows
-no_rows : (kind : PfsKind) → holds_rows kind ≡ false → HoldsRows kind → ⊥
+no_rows : (kind : PfsKind) → holds_rows kind ≡ false → MayHoldRows kind → ⊥
 no_rows kinds.System h r = ⊎_elim (λ e. cc) (λ e. cc) r
 no_rows kinds.Reserved h r = ⊎_elim (λ e. cc) (λ e. cc) r
 no_rows kinds.Boot h r = ⊎_elim (λ e. cc) (λ e. cc) r
@@ -102,7 +102,7 @@ no_rows kinds.Single h r = cc
 no_rows kinds.Uniform h r = cc
 no_rows kinds.Unused h r = ⊎_elim (λ e. cc) (λ e. cc) r
 
-rows_none : (kind : PfsKind) → (HoldsRows kind → ⊥) → holds_rows kind ≡ false
+rows_none : (kind : PfsKind) → (MayHoldRows kind → ⊥) → holds_rows kind ≡ false
 rows_none kinds.System h = refl
 rows_none kinds.Reserved h = refl
 rows_none kinds.Boot h = refl
@@ -118,12 +118,12 @@ flags_there byte kind h = eqb-false (byte / 8) (expected kind 0 / 8) (not-true (
 flags_back : (byte : ℕ) (kind : PfsKind) → byte / 8 ≢ expected kind 0 / 8 → IsTrue (has_wrong_flags byte kind)
 flags_back byte kind h = not_from_false (byte / 8 == expected kind 0 / 8) (ne_eqb (byte / 8) (expected kind 0 / 8) h)
 
-fullness_there : (byte : ℕ) (kind : PfsKind) → IsTrue (has_wrong_fullness byte kind) → (HoldsRows kind → ⊥) × (byte % 8 ≢ expected kind 0 % 8)
+fullness_there : (byte : ℕ) (kind : PfsKind) → IsTrue (has_wrong_fullness byte kind) → (MayHoldRows kind → ⊥) × (byte % 8 ≢ expected kind 0 % 8)
 fullness_there byte kind h =
     let parts = and_parts (not (holds_rows kind)) (not (byte % 8 == expected kind 0 % 8)) h in
     (no_rows kind (not-true (holds_rows kind) parts.0), eqb-false (byte % 8) (expected kind 0 % 8) (not-true (byte % 8 == expected kind 0 % 8) parts.1))
 
-fullness_back : (byte : ℕ) (kind : PfsKind) → (HoldsRows kind → ⊥) → byte % 8 ≢ expected kind 0 % 8 → IsTrue (has_wrong_fullness byte kind)
+fullness_back : (byte : ℕ) (kind : PfsKind) → (MayHoldRows kind → ⊥) → byte % 8 ≢ expected kind 0 % 8 → IsTrue (has_wrong_fullness byte kind)
 fullness_back byte kind none h =
     and_from (not (holds_rows kind)) (not (byte % 8 == expected kind 0 % 8)) (not_from_false (holds_rows kind) (rows_none kind none))
     (not_from_false (byte % 8 == expected kind 0 % 8) (ne_eqb (byte % 8) (expected kind 0 % 8) h))
@@ -187,7 +187,7 @@ tests_back g image p o kind uses ids x used marked tested says = ⊎_elim
 
 -- from the state to the image
 pub page_there : (g : Geometry) (image : Image) (p : ℕ) (uses : List PageUse) (ids : List ℕ) (x : CheckError) → p < length image
-    → AreUses g image p (map use_of uses) → AreMarkers g image (p / 8) ids → PageSays (seen_page g image p) uses ids x → IsPageError g image x
+    → AreUses g image p (map use_of uses) → AreMarkers g image (p / 8) ids → PageSays (seen_page g image p) uses ids x → IsUseError g image x
 page_there g image p uses ids x below used marked says = ⊎_elim
     (λ lost.
     let parts = and_parts (is_for_objects (role_of g p) && is_allocated g image p) ((length uses == 0) && (length ids == 0)) lost.0 in
@@ -206,7 +206,7 @@ pub record ShowsPages (g : Geometry) (image : Image) (uses : ℕ → List PageUs
 
 -- from the image to the state
 pub page_back : (g : Geometry) (image : Image) (uses : ℕ → List PageUse) (ids : ℕ → List ℕ) (x : CheckError) → ShowsPages g image uses ids
-    → IsPageError g image x → SomePageSays g image uses ids x
+    → IsUseError g image x → SomePageSays g image uses ids x
 page_back g image uses ids x shows h = ⊎_elim
     (λ lost. let p = lost.0 in (
       p,

@@ -13,7 +13,7 @@ use Rattle.spec_check.specs.declared.report.CheckError.{CheckError}
 use Rattle.spec_check.specs.Errors.{error_cmp}
 use Rattle.spec_check.specs.Chains.{IsChainError}
 use Rattle.ck_error.specs.Gathered.{Gathers, Adds}
-use Rattle.ck_error.specs.GatheringLaws.{gathers_first, gathers_as, lists_in_order}
+use Rattle.ck_error.proofs.GatheringLaws.{gathers_first, gathers_as, lists_in_order}
 use Rattle.ck_facts.specs.declared.map.AllocMap.{AllocMap}
 use Rattle.ck_facts.specs.declared.map.PageUse.{PageUse}
 use Rattle.ck_facts.specs.Maps.{has_mark, page_use_cmp, AreAllUses, AreObjects, AreExtents, rows_of_objects}

@@ -5,7 +5,7 @@ use Rattle.spec_file.specs.declared.geometry.Geometry.{Geometry}
 use Rattle.spec_file.specs.Image.{Image, page}
 use Rattle.spec_check.specs.declared.report.CheckError.{CheckError}
 use Rattle.ck_error.specs.Gathered.{Adds}
-use Rattle.ck_error.specs.GatheringLaws.{adds_both, gathers_first}
+use Rattle.ck_error.proofs.GatheringLaws.{adds_both, gathers_first}
 use Rattle.spec_file.specs.Places.{HasShape}
 use Rattle.ck_alloc.specs.declared.places.SystemKind.TheVariants.{Pfs, Gam, Sgam}
 use Rattle.ck_alloc.specs.declared.system_maps.SystemMaps.{SystemMaps}

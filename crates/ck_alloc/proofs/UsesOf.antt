@@ -15,7 +15,7 @@ use Rattle.ck_facts.specs.declared.map.PageUse.{PageUse}
 use Rattle.ck_facts.specs.Maps.{page_use_cmp, use_of, AreAllUses}
 use Rattle.ck_facts.specs.PageUses.{uses_between}
 use Rattle.ck_alloc.specs.Held.{holds_use}
-use Rattle.spec_check.specs.Members.{cons_here, cons_there, map_from, map_in, filter_from, filter_in, none_there, some_there, sorted_map}
+use Rattle.spec_check.proofs.Members.{cons_here, cons_there, map_from, map_in, filter_from, filter_in, none_there, some_there, sorted_map}
 
 -- of one page, they stand in the order of objects and places
 less_of_page : (a b : ℕ) (o : Ordering) → a ≡ b → ordering_then (nat_cmp a b) o ≡ Less → o ≡ Less

@@ -11,7 +11,7 @@ use Rattle.spec_file.specs.Image.{Image, page}
 use Rattle.spec_file.specs.Places.{interval_size, pfs_span, HasShape}
 use Rattle.spec_check.specs.declared.report.CheckError.{CheckError}
 use Rattle.ck_error.specs.Gathered.{Adds, Below}
-use Rattle.ck_error.specs.GatheringLaws.{adds_as, adds_below_none, adds_below_more}
+use Rattle.ck_error.proofs.GatheringLaws.{adds_as, adds_below_none, adds_below_more}
 use Rattle.ck_alloc.specs.declared.places.SystemKind.{SystemKind}
 use Rattle.ck_alloc.specs.declared.places.SystemKind.TheVariants.{Pfs, Gam, Sgam}
 use Rattle.ck_alloc.specs.SystemPlaces.{place_of, place_count, places_of_image}

@@ -2,7 +2,7 @@
 use Rattle.std.specs.Prelude.{◌≡◌, ◌⊎◌, ℕ, ◌/◌, ◌%◌, ◌==◌, ◌&&◌, Bool, true, false, not, nat_lt, IsTrue, if◌then◌else◌, List, length, map, Option, Some, None}
 use Rattle.spec_file.specs.declared.pfs.PfsKind.{PfsKind}
 use Rattle.spec_file.specs.declared.pfs.PfsKind.TheVariants as kinds
-use Rattle.spec_file.specs.Iam.{slot_count}
+use Rattle.spec_file.specs.Iam.{single_slot_count}
 use Rattle.spec_file.specs.Pfs.{expected, is_allocated_byte}
 use Rattle.spec_file.specs.Roles.{is_for_objects}
 use Rattle.spec_check.specs.declared.report.CheckError.{CheckError}
@@ -40,7 +40,7 @@ TestSays s o kind x =
 
 -- a page in a single-page slot, or in a chain
 abbrev pub kind_of_place : ℕ → PfsKind
-kind_of_place place = if nat_lt place slot_count then kinds.Single else kinds.Iam
+kind_of_place place = if nat_lt place single_slot_count then kinds.Single else kinds.Iam
 
 -- a page of an extent that an object marks
 abbrev pub kind_of_mark : ℕ → PfsKind

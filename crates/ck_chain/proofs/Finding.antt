@@ -12,7 +12,7 @@ use Rattle.spec_chain.specs.ChainLaws.{chain_has_one_length, page_below, below_p
 use Rattle.spec_check.specs.declared.report.CheckError.{CheckError}
 use Rattle.spec_check.specs.Chains.{before, interval_at, error, end_error, IsFirstOf, IsErrorOfChain, RepeatsInterval}
 use Rattle.ck_error.specs.Gathered.{Adds, Below}
-use Rattle.ck_error.specs.GatheringLaws.{adds_as, adds_both, adds_below_none, adds_below_more}
+use Rattle.ck_error.proofs.GatheringLaws.{adds_as, adds_both, adds_below_none, adds_below_more}
 use Rattle.ck_facts.specs.declared.map.PageUse.{PageUse}
 use Rattle.ck_chain.specs.declared.walk.Walk.{Walk}
 use Rattle.ck_chain.specs.declared.walk.Link.{Link}

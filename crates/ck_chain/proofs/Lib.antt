@@ -4,3 +4,4 @@ pub mod Looking
 pub mod Stepping
 pub mod Finding
 pub mod Reading
+pub mod Inside

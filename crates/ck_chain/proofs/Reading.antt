@@ -18,7 +18,7 @@ use Rattle.ck_chain.proofs.Stepping.{step_walk}
 use Rattle.ck_chain.proofs.Finding.{step_found, found_none, finish}
 use Rattle.spec_chain.specs.ChainLaws.{chain_is_short}
 use Rattle.spec_chain.specs.Pointers.{goes_nonzero}
-use Rattle.ck_chain.specs.Inside.{interval_below}
+use Rattle.ck_chain.proofs.Inside.{interval_below}
 
 -- the walk stands before the k-th page of the object's chain, with what the pages before it give
 pub record IsReadingOf (owner : Owner) (k : ℕ) (walk : Walk) (old now : Found) (image : Image) (row : CatalogRow) : Type 0 where

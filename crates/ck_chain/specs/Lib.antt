@@ -1,4 +1,3 @@
-pub mod Inside
 pub mod Pages
 pub mod Marking
 pub mod Walks

@@ -4,3 +4,4 @@ pub mod Filtering
 pub mod OwnerLists
 pub mod OwnerLaws
 pub mod Between
+pub mod MapLaws

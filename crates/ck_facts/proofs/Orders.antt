@@ -4,7 +4,7 @@ use Rattle.std.proofs.lemmas.Bool.{leb-true, le-leb, eqb-true, eq-eqb}
 use Rattle.spec_check.specs.declared.report.CheckError.{CheckError}
 use Rattle.spec_tables.specs.PageRules.{wrong_order}
 use Rattle.ck_error.specs.Gathered.{Adds, Below}
-use Rattle.ck_error.specs.GatheringLaws.{adds_as, adds_none, adds_below_more, adds_if}
+use Rattle.ck_error.proofs.GatheringLaws.{adds_as, adds_none, adds_below_more, adds_if}
 use Rattle.ck_facts.specs.Tested.{slot_key, FallsAt}
 
 -- the first slot has none before it

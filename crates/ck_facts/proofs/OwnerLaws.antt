@@ -29,13 +29,13 @@ use Rattle.ck_facts.specs.declared.map.AllocMap.{AllocMap}
 use Rattle.ck_facts.specs.declared.map.ExtentMap.{ExtentMap}
 use Rattle.ck_facts.specs.declared.map.PageUse.{PageUse}
 use Rattle.ck_facts.specs.MapOf.{IsMapOf, no_extent, extent_at, ids_of}
-use Rattle.ck_facts.specs.MapLaws.{extent_of}
+use Rattle.ck_facts.proofs.MapLaws.{extent_of}
 use Rattle.ck_facts.specs.Maps.{has_mark, AreObjects, AreAllUses, use_of, rows_of_objects}
 use Rattle.ck_facts.specs.Owners.{IsObjectAt, AreOwnersIn}
 use Rattle.ck_facts.specs.OwnedBy.{is_marked, is_single, is_held, is_owned_by, owned_at, owners_of, IsUnowned}
 use Rattle.ck_facts.specs.PageUses.{IsByPage, uses_between}
 use Rattle.ck_facts.specs.declared.owners.OwnedPage.{OwnedPage}
-use Rattle.spec_check.specs.Members.{nothing_there, cons_cases, cons_here, cons_there, filter_from, filter_in, below}
+use Rattle.spec_check.proofs.Members.{nothing_there, cons_cases, cons_here, cons_there, filter_from, filter_in, below}
 use Rattle.ck_facts.proofs.Between.{between_by_page, page_in_extent}
 use Rattle.ck_facts.proofs.OwnerLists.{AreOwnersUpTo}
 

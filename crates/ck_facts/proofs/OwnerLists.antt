@@ -10,7 +10,7 @@ use Rattle.std.proofs.lemmas.List.FromFn.{filter_of_map_range_with_len_more}
 use Rattle.ck_facts.specs.declared.map.AllocMap.{AllocMap}
 use Rattle.ck_facts.specs.declared.map.PageUse.{PageUse}
 use Rattle.ck_facts.specs.declared.owners.OwnedPage.{OwnedPage}
-use Rattle.spec_check.specs.Members.{nothing_there, sorted_none, sorted_push}
+use Rattle.spec_check.proofs.Members.{nothing_there, sorted_none, sorted_push}
 use Rattle.ck_facts.specs.Owners.{owned_cmp}
 use Rattle.ck_facts.specs.OwnedBy.{is_owned_by, owned_at, owners_of}
 

@@ -10,12 +10,12 @@ use Rattle.spec_check.specs.declared.report.CheckError.{CheckError}
 use Rattle.spec_rows.specs.declared.fault.SlotFault.{SlotFault}
 use Rattle.spec_rows.specs.PageTest.{PassesTest, IsFirstFault}
 use Rattle.spec_rows.specs.Slots.{slot_count}
-use Rattle.spec_rows.specs.TestLaws.{no_fault, one_fault}
+use Rattle.spec_rows.proofs.TestLaws.{no_fault, one_fault}
 use Rattle.spec_tables.specs.Heads.{key_at}
 use Rattle.spec_tables.specs.PageRules.{IsErrorOn, HasWrongOrder, fault_error, wrong_order, fullness_in}
 use Rattle.spec_check.specs.Pages.{wrong_byte}
 use Rattle.ck_error.specs.Gathered.{Adds, Gathers}
-use Rattle.ck_error.specs.GatheringLaws.{gathers_first, gathers_as}
+use Rattle.ck_error.proofs.GatheringLaws.{gathers_first, gathers_as}
 use Rattle.ck_facts.specs.declared.facts.Fact.{Fact}
 use Rattle.ck_facts.specs.declared.page.TestedPage.{TestedPage}
 use Rattle.ck_facts.specs.Tested.{page_bytes, slot_key, Falls, IsShownBy}

@@ -4,5 +4,4 @@ pub mod Owners
 pub mod Facts
 pub mod Tested
 pub mod PageUses
-pub mod MapLaws
 pub mod OwnedBy

@@ -30,7 +30,7 @@ Falls t = Below (slot_count (page_bytes t)) (FallsAt t.object.0 t.number.0 (page
 
 -- the same in a clustered table
 abbrev pub IsOutOfOrder : TestedPage → CheckError → Type 0
-IsOutOfOrder t x = (t.kind ≡ Clustered) × Falls t x
+IsOutOfOrder t x = IsTrue (is_clustered t.kind) × Falls t x
 
 -- the bits of the fullness in the page's PFS byte are others
 abbrev pub HasOtherFullness : TestedPage → ℕ → CheckError → Type 0

@@ -19,7 +19,7 @@ use spec_tree::{IndexRow, PageHead};
 use std::alloc::Global;
 
 /// What one page shows for the rules of trees.
-#[derive(Clone, Copy, Debug, PartialEq, Eq, PartialOrd, Ord)]
+#[derive(Clone, Copy, Debug, PartialEq, Eq)]
 pub enum Fact {
     /// The page passed its test.
     Seen(PageHead),

@@ -9,14 +9,14 @@ use Rattle.spec_file.specs.CatalogRows.{CatalogRow}
 use Rattle.spec_file.specs.Header.{header_of, page_type}
 use Rattle.spec_rows.specs.PageTest.{PassesTest}
 use Rattle.spec_rows.specs.Slots.{slot_count}
-use Rattle.spec_rows.specs.SlotLaws.{rows_room}
+use Rattle.spec_rows.proofs.SlotLaws.{rows_room}
 use Rattle.spec_check.specs.declared.report.TableLine.{TableLine}
 use Rattle.spec_tables.specs.Seen.{IsSeen, rows_on}
 use Rattle.spec_file.specs.declared.data.Kind.{Kind}
 use Rattle.ck_facts.specs.declared.map.AllocMap.{AllocMap}
 use Rattle.ck_facts.specs.declared.owners.OwnedPage.{OwnedPage}
 use Rattle.ck_facts.specs.Owners.{IsObjectAt}
-use Rattle.ck_scan.specs.Shown.{IsSeenAt, And}
+use Rattle.ck_scan.specs.Shown.{IsSeenAt, WithPage}
 use Rattle.ck_scan.specs.Counted.{IsCountOf, CountsPage, IsMetOf, AreCounts, owned_by}
 use Rattle.ck_scan.specs.Found.{CountsSeen, IsBehind}
 use Rattle.ck_scan.proofs.Counting.{count_as, count_push, IsCountable, TakesMore}
@@ -51,14 +51,14 @@ few_rows_on p o kind bytes h = at_most (page_type bytes == 1) (slot_count bytes)
 same_or_other : (i j : ℕ) → (i ≡ j) ⊎ (i ≡ j → ⊥)
 same_or_other i j = search (rules, arith)
 
-met_same : (Met : OwnedPage → Type 0) (u : OwnedPage) (i p : ℕ) → i ≡ u.owner → u.page.0 ≡ p → And Met u (owned_by i p)
+met_same : (Met : OwnedPage → Type 0) (u : OwnedPage) (i p : ℕ) → i ≡ u.owner → u.page.0 ≡ p → WithPage Met u (owned_by i p)
 met_same Met u i p owner number = inr (ap (λ k. owned_by u.owner k) number ∙ ap (λ k. owned_by k p) (sym owner))
 
 seen_more : (image : Image) (m : AllocMap) (Met : OwnedPage → Type 0) (u : OwnedPage) (i : ℕ) (row : CatalogRow) (line now : TableLine)
     → length image ≡ m.pages → i ≡ u.owner → IsSeen m.geometry image row u.page.0 → IsBehind Met u
     → IsCountOf (IsMetOf image m Met i row) (λ p. rows_on (page image p)) line
     → Rattle.ck_scan.specs.Counted.IsOneMore line now (rows_on (page image u.page.0))
-    → IsCountOf (IsMetOf image m (And Met u) i row) (λ p. rows_on (page image p)) now
+    → IsCountOf (IsMetOf image m (WithPage Met u) i row) (λ p. rows_on (page image p)) now
 seen_more image m Met u i row line now pages owner seen behind count more =
     let low : u.page.0 < m.pages = seen_low image m row u.page.0 pages seen in
     let fits : IsCountable (IsMetOf image m Met i row) (λ p. rows_on (page image p)) u.page.0 = record {
@@ -66,7 +66,7 @@ seen_more image m Met u i row line now pages owner seen behind count more =
       end = file_end m u.page.0 low;
       here = few_rows_on u.page.0 row.id row.kind (page image u.page.0) seen.passes;
     } in
-    let takes : TakesMore (IsMetOf image m Met i row) (IsMetOf image m (And Met u) i row) u.page.0 = record {
+    let takes : TakesMore (IsMetOf image m Met i row) (IsMetOf image m (WithPage Met u) i row) u.page.0 = record {
       sound = λ p taken. ⊎_elim (λ was. inl (was, taken.1)) (λ e. inr (ap (λ (w : OwnedPage). w.page.0) e)) taken.0;
       kept = λ p taken. (inl taken.0, taken.1);
       here = (met_same Met u i u.page.0 owner refl, seen);
@@ -77,19 +77,19 @@ seen_more image m Met u i row line now pages owner seen behind count more =
 not_more : (image : Image) (m : AllocMap) (Met : OwnedPage → Type 0) (u : OwnedPage) (i : ℕ) (row : CatalogRow) (line : TableLine)
     → (i ≡ u.owner → IsSeen m.geometry image row u.page.0 → ⊥)
     → IsCountOf (IsMetOf image m Met i row) (λ p. rows_on (page image p)) line
-    → IsCountOf (IsMetOf image m (And Met u) i row) (λ p. rows_on (page image p)) line
+    → IsCountOf (IsMetOf image m (WithPage Met u) i row) (λ p. rows_on (page image p)) line
 not_more image m Met u i row line never count = count_as _ _ _ line (λ p taken. (inl taken.0, taken.1))
     (λ p taken. ⊎_elim (λ was. (was, taken.1)) (λ e. absurd (never (sym (ap (λ (w : OwnedPage). w.owner) e))
     (subst (IsSeen m.geometry image row) (sym (ap (λ (w : OwnedPage). w.page.0) e)) taken.1))) taken.0) count
 
 counts_seen : (image : Image) (m : AllocMap) (Met : OwnedPage → Type 0) (u : OwnedPage) (old new : List TableLine)
     → length image ≡ m.pages → IsBehind Met u → AreCounts image m Met old → IsSeenAt image m u
-    → CountsPage old new u.owner (rows_on (page image u.page.0)) → AreCounts image m (And Met u) new
+    → CountsPage old new u.owner (rows_on (page image u.page.0)) → AreCounts image m (WithPage Met u) new
 counts_seen image m Met u old new pages behind h seen c = record {
   ids = ap (map (λ (line : TableLine). line.object)) c.is ∙ set_same (λ (line : TableLine). line.object) old u.owner c.before c.after c.at c.more.object ∙ h.ids;
   each = λ i row line at here. ⊎_elim
       (λ same. let is : line ≡ c.after = same_Some line c.after (sym here ∙ (ap (slice_get new) same ∙ (ap (λ l. slice_get l u.owner) c.is ∙ set_here old u.owner c.before c.after c.at))) in
-      subst (IsCountOf (IsMetOf image m (And Met u) i row) (λ p. rows_on (page image p))) (sym is)
+      subst (IsCountOf (IsMetOf image m (WithPage Met u) i row) (λ p. rows_on (page image p))) (sym is)
       (seen_more image m Met u i row c.before c.after pages same
       (subst (λ r. IsSeen m.geometry image r u.page.0) (same_object m i u.owner row seen.row same at seen.object) seen.seen)
       behind (h.each i row c.before at (ap (slice_get old) same ∙ c.at)) c.more))
@@ -99,7 +99,7 @@ counts_seen image m Met u old new pages behind h seen c = record {
 }
 
 pub counts_more : (image : Image) (m : AllocMap) (Met : OwnedPage → Type 0) (u : OwnedPage) (old new : List TableLine)
-    → length image ≡ m.pages → IsBehind Met u → AreCounts image m Met old → CountsSeen image m u old new → AreCounts image m (And Met u) new
+    → length image ≡ m.pages → IsBehind Met u → AreCounts image m Met old → CountsSeen image m u old new → AreCounts image m (WithPage Met u) new
 counts_more image m Met u old new pages behind h c = ⊎_elim (λ seen. counts_seen image m Met u old new pages behind h seen.0 seen.1)
     (λ stays. record {
       ids = ap (map (λ (line : TableLine). line.object)) stays.1 ∙ h.ids;

@@ -10,7 +10,7 @@ use Rattle.std.proofs.lemmas.List.Sums.{sum_by_push, sum_by-cons}
 use Rattle.std.proofs.lemmas.List.Elements.{Contains-push, Contains-push_cases, Contains-append_left}
 use Rattle.spec_check.specs.declared.report.TableLine.{TableLine}
 use Rattle.ck_scan.specs.Counted.{IsCountOf, IsOneMore}
-use Rattle.spec_check.specs.Members.{nothing_there, cons_here, cons_there, below, rest_sorted}
+use Rattle.spec_check.proofs.Members.{nothing_there, cons_here, cons_there, below, rest_sorted}
 
 less_of : (a b : ℕ) → a < b → nat_cmp a b ≡ Less
 less_of a b h = by_ranked (a < b) (a ≡ b) (b < a) (nat_cmp a b) (ranked a b (nat_cmp a b) refl)

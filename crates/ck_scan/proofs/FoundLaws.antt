@@ -8,24 +8,24 @@ use Rattle.std.proofs.lemmas.List.Elements.{Contains-get_or, Contains-append_lef
 use Rattle.spec_file.specs.Image.{Image}
 use Rattle.spec_check.specs.declared.report.CheckError.{CheckError}
 use Rattle.ck_error.specs.Gathered.{Gathers, Adds, Below}
-use Rattle.ck_error.specs.GatheringLaws.{gathers_as, gathers_more}
+use Rattle.ck_error.proofs.GatheringLaws.{gathers_as, gathers_more}
 use Rattle.ck_facts.specs.declared.facts.Fact.{Fact}
 use Rattle.ck_facts.specs.declared.map.AllocMap.{AllocMap}
 use Rattle.ck_facts.specs.declared.owners.OwnedPage.{OwnedPage}
 use Rattle.ck_facts.specs.Owners.{IsOwnerIn, AreOwnersIn, owned_cmp}
 use Rattle.ck_scan.specs.declared.findings.Findings.{Findings}
-use Rattle.ck_scan.specs.Shown.{IsErrorAt, IsFactAt, Among, And}
+use Rattle.ck_scan.specs.Shown.{IsErrorAt, IsFactAt, Among, WithPage}
 use Rattle.ck_scan.specs.Found.{AreFound, AddsPage, IsBehind}
-use Rattle.spec_check.specs.Members.{nothing_there, cons_cases, below, rest_sorted}
+use Rattle.spec_check.proofs.Members.{nothing_there, cons_cases, below, rest_sorted}
 use Rattle.ck_scan.proofs.Counting.{less_from}
 use Rattle.ck_scan.proofs.CountLaws.{counts_more, counts_as}
 
 among_more : {Z : Type 0} (Met : OwnedPage → Type 0) (u : OwnedPage) (Shows : OwnedPage → Z → Type 0) (x : Z)
-    → Among Met Shows x ⊎ Shows u x → Among (And Met u) Shows x
+    → Among Met Shows x ⊎ Shows u x → Among (WithPage Met u) Shows x
 among_more {Z} Met u Shows x h = ⊎_elim (λ was. (was.0, inl was.1, was.2)) (λ now. (u, inr refl, now)) h
 
 among_less : {Z : Type 0} (Met : OwnedPage → Type 0) (u : OwnedPage) (Shows : OwnedPage → Z → Type 0) (x : Z)
-    → Among (And Met u) Shows x → Among Met Shows x ⊎ Shows u x
+    → Among (WithPage Met u) Shows x → Among Met Shows x ⊎ Shows u x
 among_less {Z} Met u Shows x h = ⊎_elim (λ was. inl (h.0, was, h.2)) (λ e. inr (subst (λ v. Shows v x) (sym e) h.2)) h.1
 
 among_as : {Z : Type 0} (Met Other : OwnedPage → Type 0) (Shows : OwnedPage → Z → Type 0) (xs : List Z) → ((v : OwnedPage) → Met v → Other v)
@@ -34,13 +34,13 @@ among_as {Z} Met Other Shows xs there back h = gathers_as xs (Among Met Shows) (
     (λ x s. (s.0, there s.0 s.1, s.2)) (λ x s. (s.0, back s.0 s.1, s.2)) h
 
 errors_more : (image : Image) (m : AllocMap) (Met : OwnedPage → Type 0) (u : OwnedPage) (old new : List CheckError)
-    → Gathers old (Among Met (IsErrorAt image m)) → Adds old new (IsErrorAt image m u) → Gathers new (Among (And Met u) (IsErrorAt image m))
+    → Gathers old (Among Met (IsErrorAt image m)) → Adds old new (IsErrorAt image m u) → Gathers new (Among (WithPage Met u) (IsErrorAt image m))
 errors_more image m Met u old new h a = gathers_as new (λ x. Among Met (IsErrorAt image m) x ⊎ IsErrorAt image m u x)
-    (Among (And Met u) (IsErrorAt image m)) (among_more Met u (IsErrorAt image m)) (among_less Met u (IsErrorAt image m))
+    (Among (WithPage Met u) (IsErrorAt image m)) (among_more Met u (IsErrorAt image m)) (among_less Met u (IsErrorAt image m))
     (gathers_more old new (Among Met (IsErrorAt image m)) (IsErrorAt image m u) h a)
 
 facts_more : (image : Image) (m : AllocMap) (Met : OwnedPage → Type 0) (u : OwnedPage) (held more : List Fact)
-    → Gathers held (Among Met (IsFactAt image m)) → Gathers more (IsFactAt image m u) → Gathers (held ++ more) (Among (And Met u) (IsFactAt image m))
+    → Gathers held (Among Met (IsFactAt image m)) → Gathers more (IsFactAt image m u) → Gathers (held ++ more) (Among (WithPage Met u) (IsFactAt image m))
 facts_more image m Met u held more h a = record {
   sound = λ x c. among_more Met u (IsFactAt image m) x (⊎_elim (λ was. inl (h.sound x was)) (λ now. inr (a.sound x now)) (Contains-append_cases held more x c));
   complete = λ x s. ⊎_elim (λ was. Contains-append_left held more x (h.complete x was)) (λ now. Contains-append_right held more x (a.complete x now))
@@ -48,7 +48,7 @@ facts_more image m Met u held more h a = record {
 }
 
 pub found_more : (image : Image) (m : AllocMap) (Met : OwnedPage → Type 0) (u : OwnedPage) (old new : Findings) → length image ≡ m.pages
-    → IsBehind Met u → AreFound image m Met old → AddsPage image m u old new → AreFound image m (And Met u) new
+    → IsBehind Met u → AreFound image m Met old → AddsPage image m u old new → AreFound image m (WithPage Met u) new
 found_more image m Met u old new pages behind h a = record {
   errors = errors_more image m Met u old.errors.items new.errors.items h.errors a.errors;
   facts = h.facts ++ a.more;
@@ -104,10 +104,10 @@ reached_behind image m e owned k d are low v met same = ⊎_elim
       earlier p q a b first second less = omega arith
 
 pub reached_next : (image : Image) (m : AllocMap) (e : ℕ) (owned : List OwnedPage) (k : ℕ) (d : OwnedPage) (found : Findings) → k < length owned
-    → AreFound image m (And (IsReached image m e owned k) (get_or owned k d)) found → AreFound image m (IsReached image m e owned (k + 1)) found
+    → AreFound image m (WithPage (IsReached image m e owned k) (get_or owned k d)) found → AreFound image m (IsReached image m e owned (k + 1)) found
 reached_next image m e owned k d found low h =
     let more : take (k + 1) owned ≡ take k owned ++ get_or owned k d ∷ [] = take_more owned k d low in
-    found_as image m (And (IsReached image m e owned k) (get_or owned k d)) (IsReached image m e owned (k + 1)) found
+    found_as image m (WithPage (IsReached image m e owned k) (get_or owned k d)) (IsReached image m e owned (k + 1)) found
     (λ v met. ⊎_elim (λ was. ⊎_elim (λ before. inl before)
     (λ first. inr (subst (λ l. Contains l v) (sym more) (Contains-append_left (take k owned) (get_or owned k d ∷ []) v first))) was)
     (λ same. inr (subst (λ l. Contains l v) (sym more) (subst (Contains (take k owned ++ get_or owned k d ∷ [])) same (Contains-push (take k owned) (get_or owned k d))))) met)

@@ -28,7 +28,7 @@ use Rattle.ck_scan.specs.Shown.{IsErrorAt, Among}
 use Rattle.ck_scan.specs.Counted.{owned_by}
 use Rattle.ck_scan.specs.Found.{AreFound}
 use Rattle.ck_scan.specs.Lines.{IsReportOfRules}
-use Rattle.spec_check.specs.Members.{nothing_there, cons_here}
+use Rattle.spec_check.proofs.Members.{nothing_there, cons_here}
 use Rattle.ck_scan.proofs.OwnerLaws.{Owned, owned_there, object_of_place, row_place, same_object}
 use Rattle.ck_scan.proofs.KnownLaws.{AreAllFacts, trees_from, trees_in}
 

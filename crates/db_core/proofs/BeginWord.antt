@@ -7,7 +7,7 @@ use Rattle.spec_log.specs.declared.item.Record.{Record}
 use Rattle.db_core.specs.declared.session.Doing.{Doing}
 use Rattle.db_core.specs.declared.session.Doing.TheVariants.{Idle, Ending, Undoing}
 use Rattle.db_core.specs.declared.session.Session.{Session}
-use Rattle.db_core.specs.declared.starts.Place.{Place}
+use Rattle.db_core.specs.declared.starts.StatementNo.{StatementNo}
 use Rattle.db_core.specs.declared.starts.Word.{Word}
 use Rattle.db_core.specs.declared.starts.Word.TheVariants.{Begin, Commit, Rollback}
 use Rattle.db_core.specs.declared.state.State.{State}
@@ -71,7 +71,7 @@ goes_room old new idle more room kept_room script_is left_is used replies_are pe
       less = omega (arith, script, replies, started, started_old, more, left, pending, pending_old);
     }
 
-refusal_room : (place : Place) (number : ℕ) (old new : Session) (x : Record) → old.doing ≡ Idle → length old.replies.items < length old.script.items → HasOwnRoom old → KeepsRoom old new →
+refusal_room : (place : StatementNo) (number : ℕ) (old new : Session) (x : Record) → old.doing ≡ Idle → length old.replies.items < length old.script.items → HasOwnRoom old → KeepsRoom old new →
     IsRefusal place number old new x → StartRoom old new × (is_snap x ≡ false)
 refusal_room place number old new x idle more room kept_room r =
     let left = ap length r.left in
@@ -79,19 +79,19 @@ refusal_room place number old new x idle more room kept_room r =
     let f = room.announced in let g = room.used in
     (ends_room old new _ idle more room kept_room r.kept.script (omega (arith, left)) (omega (arith, left, used, f)) (omega (arith, used, g)) r.replies r.doing, ap is_snap r.item)
 
-opening_room : (place : Place) (tran : ℕ) (old new : Session) (x : Record) → old.doing ≡ Idle → length old.replies.items < length old.script.items → HasOwnRoom old → KeepsRoom old new →
+opening_room : (place : StatementNo) (tran : ℕ) (old new : Session) (x : Record) → old.doing ≡ Idle → length old.replies.items < length old.script.items → HasOwnRoom old → KeepsRoom old new →
     IsOpening place tran old new x → StartRoom old new × (is_snap x ≡ false)
 opening_room place tran old new x idle more room kept_room r =
     let left = ap length r.left in
     let used = r.used in
     (ends_room old new _ idle more room kept_room r.script (omega (arith, left)) (omega (arith, left)) (omega (arith, used)) r.replies r.doing, ap is_snap r.item)
 
-going_room : (place : Place) (d : Doing) (old new : Session) (x : Record) → pending_of d ≡ 0 → started_of d ≡ 1 → old.doing ≡ Idle → length old.replies.items < length old.script.items → HasOwnRoom old → KeepsRoom old new →
+going_room : (place : StatementNo) (d : Doing) (old new : Session) (x : Record) → pending_of d ≡ 0 → started_of d ≡ 1 → old.doing ≡ Idle → length old.replies.items < length old.script.items → HasOwnRoom old → KeepsRoom old new →
     IsGoing place d old new x → StartRoom old new × (is_snap x ≡ false)
 going_room place d old new x pending started idle more room kept_room r =
     (goes_room old new idle more room kept_room r.kept.script r.left r.kept.used r.replies (ap pending_of r.doing ∙ pending) (ap started_of r.doing ∙ started), ap is_snap r.item)
 
-pub word_room : (word : Word) (last : ℕ) (place : Place) (old new : Session) (x : Record) → IsNextWord word old → HasOwnRoom old → KeepsRoom old new → StartsBy word last place old new x →
+pub word_room : (word : Word) (last : ℕ) (place : StatementNo) (old new : Session) (x : Record) → IsNextWord word old → HasOwnRoom old → KeepsRoom old new → StartsBy word last place old new x →
     StartRoom old new × (is_snap x ≡ false)
 word_room word last place old new x next room kept_room st = by_word word (slice_get_within old.script.items (length old.replies.items) (statement_of word) next.next) st
   where
@@ -103,7 +103,7 @@ word_room word last place old new x next room kept_room st = by_word word (slice
     by_word Rollback more (inl r) = refusal_room place 3903 old new x next.idle more room kept_room r.1
     by_word Rollback more (inr r) = going_room place Undoing old new x refl refl next.idle more room kept_room r.1
 
-pub word_good : (st : State) (k : ℕ) (place : Place) (x y : Session) (word : Word) (item : Record) → IsGood st → slice_get st.sessions.items k ≡ Some x → IsNextWord word x →
+pub word_good : (st : State) (k : ℕ) (place : StatementNo) (x y : Session) (word : Word) (item : Record) → IsGood st → slice_get st.sessions.items k ≡ Some x → IsNextWord word x →
     place.session ≡ k + 1 → place.index ≡ length x.replies.items + 1 → StartsBy word st.last place x y item → IsStep (run_is st) (log_of st) (k + 1) y st.frames st.frames item st.all st.size
 word_good st k place x y word item good here next ps pi st_by =
     let run = run_is st in

@@ -18,7 +18,7 @@ use Rattle.law_run.specs.Laws.{IsStart}
 use Rattle.db_core.specs.declared.session.Check.{Check}
 use Rattle.db_core.specs.declared.session.Doing.TheVariants.{Idle, Checking}
 use Rattle.db_core.specs.declared.session.Session.{Session}
-use Rattle.db_core.specs.declared.starts.Place.{Place}
+use Rattle.db_core.specs.declared.starts.StatementNo.{StatementNo}
 use Rattle.db_core.specs.declared.state.State.{State}
 use Rattle.db_core.specs.Back.{MayGoBack, GoesBack, steps_left}
 use Rattle.db_core.specs.Checks.{BacksIn, Checked, EndsBy}
@@ -217,7 +217,7 @@ check_short run log s old next check start legal hs mine doing script replies tr
     (may, ends_short run log s x old next st.belongs refl (told_so run log s old mine) script replies tran doing_next (end_opens run log s (length old.replies.items + 1) 3 old next mine tran left held used))
 
 -- the item that ends a check, and the session behind it
-pub end_good : (st : State) (k : ℕ) (place : Place) (x y : Session) (item : Record) → IsGood st → slice_get st.sessions.items k ≡ Some x →
+pub end_good : (st : State) (k : ℕ) (place : StatementNo) (x y : Session) (item : Record) → IsGood st → slice_get st.sessions.items k ≡ Some x →
     ((check : Check) → x.doing ≡ Checking check → check.undone ≡ true) → place.session ≡ k + 1 → place.index ≡ length x.replies.items + 1 → EndsBy place x y item →
     IsStep (run_is st) (log_of st) (k + 1) y st.frames st.frames item st.all st.size × HasOwnRoom y × (owed_by y + 1 ≤ owed_by x)
     × ((before after : List Record) → turns_left after y y.doing < turns_left before x x.doing) × (is_snap item ≡ false)

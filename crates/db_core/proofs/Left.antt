@@ -14,7 +14,7 @@ use Rattle.db_core.specs.declared.session.Check.{Check}
 use Rattle.db_core.specs.declared.session.Doing.{Doing}
 use Rattle.db_core.specs.declared.session.Doing.TheVariants.{Idle, Changing, Ending, Undoing, Checking}
 use Rattle.db_core.specs.declared.session.Session.{Session}
-use Rattle.db_core.specs.declared.starts.Place.{Place}
+use Rattle.db_core.specs.declared.starts.StatementNo.{StatementNo}
 use Rattle.db_core.specs.declared.state.State.{State}
 use Rattle.db_core.specs.Back.{theirs_among, last_step}
 use Rattle.db_core.specs.Bounds.{unfinished_items, most_turns}
@@ -82,7 +82,7 @@ count_reverse p (x ∷ xs) =
     omega (arith, push, rest, front)
 
 -- a check that begins has the items of the unfinished transactions before it, the turn that finds none left, and its end
-pub fresh_few : (st : State) (place : Place) (check : Check) (x y : Session) (item : Record) → IsGood st → IsFresh (length st.items.items + 1) st.frames st.sessions.items check → Begins place check x y item →
+pub fresh_few : (st : State) (place : StatementNo) (check : Check) (x y : Session) (item : Record) → IsGood st → IsFresh (length st.items.items + 1) st.frames st.sessions.items check → Begins place check x y item →
     turns_left (st.items.items ++ item ∷ []) y y.doing ≤ most_turns (run_is st) (log_of st)
 fresh_few st place check x y item good fresh b =
     let items = st.items.items in

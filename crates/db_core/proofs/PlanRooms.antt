@@ -10,7 +10,7 @@ use Rattle.spec_plan.specs.declared.plan.Planned.{Planned}
 use Rattle.spec_plan.specs.Planned.{planned_size}
 use Rattle.db_core.specs.declared.session.Doing.TheVariants.{Idle}
 use Rattle.db_core.specs.declared.session.Session.{Session}
-use Rattle.db_core.specs.declared.starts.Place.{Place}
+use Rattle.db_core.specs.declared.starts.StatementNo.{StatementNo}
 use Rattle.db_core.specs.Rooms.{pending_of, started_of, owed_by, HasOwnRoom}
 use Rattle.db_core.specs.States.{GoesOnWith, KeepsRoom}
 use Rattle.db_core.specs.Store.{is_snap}
@@ -50,7 +50,7 @@ pub no_bytes : (changes : List Planned) → length changes ≡ 0 → planned_siz
 no_bytes [] e = refl
 no_bytes (c ∷ cs) e = absurd (omega (arith, e))
 
-pub ended_room : (place : Place) (number : ℕ) (reply : Reply) (old new : Session) (x : Record) → old.doing ≡ Idle → length old.replies.items < length old.script.items → HasOwnRoom old → KeepsRoom old new →
+pub ended_room : (place : StatementNo) (number : ℕ) (reply : Reply) (old new : Session) (x : Record) → old.doing ≡ Idle → length old.replies.items < length old.script.items → HasOwnRoom old → KeepsRoom old new →
     IsEnded place number reply old new x → PlanRoom old new 0
 ended_room place number reply old new x idle more room kept_room r =
     let script = ap length r.kept.script in
@@ -133,7 +133,7 @@ used_low x room = elim (cases_Bool (eqb x.tran 0)) [
   | inr e ↦ let u = ap (λ c. if c then 0 else x.used) e in let g = room.used in omega (arith, u, g)
 ]
 
-pub writes_room : (last : ℕ) (place : Place) (takes : List Resource) (changes : List Planned) (old new : Session) (x : Record) → old.doing ≡ Idle → length old.replies.items < length old.script.items →
+pub writes_room : (last : ℕ) (place : StatementNo) (takes : List Resource) (changes : List Planned) (old new : Session) (x : Record) → old.doing ≡ Idle → length old.replies.items < length old.script.items →
     HasOwnRoom old → KeepsRoom old new → HasRoomFor old (length changes) (length takes) → used_now old + length changes ≤ 8192 → Writes last place takes changes old new x → PlanRoom old new (length changes)
 writes_room last place takes changes old new x idle more room kept_room free low (inl w) =
     let r = w.1 in
@@ -156,10 +156,10 @@ pub record Announces (x : Record) (n bytes : ℕ) : Type 0 where
   pub changes_are : announced_by x ≡ n
   pub bytes_are : bytes_by x ≡ bytes + 17 * n
 
-pub ended_announces : (place : Place) (number : ℕ) (reply : Reply) (old new : Session) (x : Record) → IsEnded place number reply old new x → Announces x 0 0
+pub ended_announces : (place : StatementNo) (number : ℕ) (reply : Reply) (old new : Session) (x : Record) → IsEnded place number reply old new x → Announces x 0 0
 ended_announces place number reply old new x r = record { silent = ap is_snap r.item; changes_are = ap announced_by r.item; bytes_are = ap bytes_by r.item }
 
-pub writes_announces : (last : ℕ) (place : Place) (takes : List Resource) (changes : List Planned) (old new : Session) (x : Record) → Writes last place takes changes old new x →
+pub writes_announces : (last : ℕ) (place : StatementNo) (takes : List Resource) (changes : List Planned) (old new : Session) (x : Record) → Writes last place takes changes old new x →
     Announces x (length changes) (planned_size changes)
 writes_announces last place takes changes old new x (inl w) = record { silent = ap is_snap w.1.item; changes_are = ap announced_by w.1.item; bytes_are = ap bytes_by w.1.item }
 writes_announces last place takes changes old new x (inr w) = record { silent = ap is_snap w.1.item; changes_are = ap announced_by w.1.item; bytes_are = ap bytes_by w.1.item }

@@ -21,13 +21,13 @@ use Rattle.spec_run.specs.Shapes.{Writing as WritingShape, plain_start, tran_to_
 use Rattle.spec_run.specs.Begun.{Setting, Answers, Begun, with_memory, refused, by_outcome}
 use Rattle.spec_run.specs.Progress.{is_short, work_of, MayCome}
 use Rattle.spec_run.specs.Sessions.{open_after}
-use Rattle.law_undo.specs.Holders.{unfinished_from}
-use Rattle.law_undo.specs.Views.{sound_rules}
-use Rattle.law_run.specs.Fresh.{not_started_above, not_ended_above}
+use Rattle.law_undo.proofs.Holders.{unfinished_from}
+use Rattle.law_undo.proofs.Views.{sound_rules}
+use Rattle.law_run.proofs.Fresh.{not_started_above, not_ended_above}
 use Rattle.law_run.specs.Doing.{change_items}
-use Rattle.law_run.specs.Legal.{legal_right, doing_opens}
+use Rattle.law_run.proofs.Legal.{legal_right, doing_opens}
 use Rattle.db_core.specs.declared.session.Session.{Session}
-use Rattle.db_core.specs.declared.starts.Place.{Place}
+use Rattle.db_core.specs.declared.starts.StatementNo.{StatementNo}
 use Rattle.db_core.specs.States.{whole_log, IsAt, IsOpen, IsSession, GoesOnWith}
 use Rattle.db_core.specs.Plans.{used_now, exceeds, IsWriting, Writes, announced_by, bytes_by}
 use Rattle.db_core.specs.Words.{IsEnded}
@@ -43,7 +43,7 @@ pub record HasBegun (run : Setting) (log : List Record) (s : ℕ) (new : Session
   pub still : pages ≡ apply (whole_log run log) x pages
 
 -- a statement that ends with its Start
-pub ended_step : (run : Setting) (log : List Record) (s number : ℕ) (place : Place) (reply : Reply) (old new : Session) (st : Statement) (b : Begun) (pages : Image) (x : Record) → IsBegun run log s old st b →
+pub ended_step : (run : Setting) (log : List Record) (s number : ℕ) (place : StatementNo) (reply : Reply) (old new : Session) (st : Statement) (b : Begun) (pages : Image) (x : Record) → IsBegun run log s old st b →
     place.session ≡ s → place.index ≡ length old.replies.items + 1 → eqb number 701 ≡ false →
     b.items ≡ plain_start s (length old.replies.items + 1) old.tran number ∷ [] → b.telling ≡ Answers reply → IsEnded place number reply old new x → HasBegun run log s new pages x
 ended_step run log s number place reply old new st b pages x h ps pi whole items telling r =
@@ -58,7 +58,7 @@ ended_step run log s number place reply old new st b pages x h ps pi whole items
     })
 
 -- want of memory at its Start
-pub short_step : (run : Setting) (log : List Record) (s : ℕ) (place : Place) (old new : Session) (st : Statement) (b : Begun) (pages : Image) (x : Record) → IsBegun run log s old st b →
+pub short_step : (run : Setting) (log : List Record) (s : ℕ) (place : StatementNo) (old new : Session) (st : Statement) (b : Begun) (pages : Image) (x : Record) → IsBegun run log s old st b →
     place.session ≡ s → place.index ≡ length old.replies.items + 1 → b.want ≡ Some (plain_start s (length old.replies.items + 1) old.tran 701) →
     IsEnded place 701 (Refused (plain_refusal 701)) old new x → HasBegun run log s new pages x
 short_step run log s place old new st b pages x h ps pi want r =
@@ -112,7 +112,7 @@ fresh_unfinished g s i u number changes size takes above =
 abbrev pub writing_of : ℕ → ℕ → ℕ → ℕ → List Resource → List Planned → Bool → Begun
 writing_of s i t u takes changes own = with_memory s i t (WritingShape u takes changes own) (Rows 1 [])
 
-own_step : (run : Setting) (log : List Record) (s last : ℕ) (place : Place) (takes : List Resource) (changes : List Planned) (old new : Session) (st : Statement) (b : Begun) (pages : Image) (x : Record) →
+own_step : (run : Setting) (log : List Record) (s last : ℕ) (place : StatementNo) (takes : List Resource) (changes : List Planned) (old new : Session) (st : Statement) (b : Begun) (pages : Image) (x : Record) →
     IsBegun run log s old st b → place.session ≡ s → place.index ≡ length old.replies.items + 1 → last ≡ greatest_of (whole_log run log) →
     b ≡ writing_of s (length old.replies.items + 1) old.tran (greatest_of (whole_log run log) + 1) takes changes true →
     IsWriting place (last + 1) takes changes [] [] 0 true old new x → HasBegun run log s new pages x
@@ -137,7 +137,7 @@ own_step run log s last place takes changes old new st b pages x h ps pi last_is
       still = refl;
     })
 
-open_step : (run : Setting) (log : List Record) (s : ℕ) (place : Place) (takes : List Resource) (changes : List Planned) (old new : Session) (st : Statement) (b : Begun) (pages : Image) (x : Record) →
+open_step : (run : Setting) (log : List Record) (s : ℕ) (place : StatementNo) (takes : List Resource) (changes : List Planned) (old new : Session) (st : Statement) (b : Begun) (pages : Image) (x : Record) →
     IsBegun run log s old st b → place.session ≡ s → place.index ≡ length old.replies.items + 1 → (old.tran ≡ 0 → ⊥) →
     b ≡ writing_of s (length old.replies.items + 1) old.tran old.tran takes changes false →
     IsWriting place old.tran takes changes old.left.items old.held.items old.used false old new x → HasBegun run log s new pages x
@@ -171,7 +171,7 @@ writer_own g t e = let b = eq-eqb t 0 e in (ap (λ c. if c then greatest_of g + 
 writer_open : (g : List Record) (t : ℕ) → (t ≡ 0 → ⊥) → (tran_to_write g t ≡ t) × (eqb t 0 ≡ false)
 writer_open g t n = let b = ne_eqb t 0 n in (ap (λ c. if c then greatest_of g + 1 else t) b, b)
 
-pub writing_step : (run : Setting) (log : List Record) (s last : ℕ) (place : Place) (takes : List Resource) (changes : List Planned) (old new : Session) (st : Statement) (b : Begun) (pages : Image) (x : Record) →
+pub writing_step : (run : Setting) (log : List Record) (s last : ℕ) (place : StatementNo) (takes : List Resource) (changes : List Planned) (old new : Session) (st : Statement) (b : Begun) (pages : Image) (x : Record) →
     IsBegun run log s old st b → place.session ≡ s → place.index ≡ length old.replies.items + 1 → last ≡ greatest_of (whole_log run log) →
     b ≡ writing_of s (length old.replies.items + 1) old.tran (tran_to_write (whole_log run log) old.tran) takes changes (eqb old.tran 0) →
     Writes last place takes changes old new x → HasBegun run log s new pages x

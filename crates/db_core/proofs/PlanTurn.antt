@@ -15,7 +15,7 @@ use Rattle.spec_run.specs.Begun.{Begun, begun, refused}
 use Rattle.db_heap.specs.declared.plan.Plan.{Plan}
 use Rattle.db_heap.specs.declared.plan.Plan.TheVariants as plan
 use Rattle.db_core.specs.declared.session.Session.{Session}
-use Rattle.db_core.specs.declared.starts.Place.{Place}
+use Rattle.db_core.specs.declared.starts.StatementNo.{StatementNo}
 use Rattle.db_core.specs.declared.state.State.{State}
 use Rattle.db_core.specs.Rooms.{owed_by}
 use Rattle.db_core.specs.States.{whole_log, KeepsRoom}
@@ -65,7 +65,7 @@ begun_now st k x result good here h = record {
 pub more_left : (st : State) (k : ℕ) (x : Session) (result : Result Plan NoMemory) → IsPlanned st k x result → length x.replies.items < length x.script.items
 more_left st k x result h = slice_get_within x.script.items (length x.replies.items) h.statement h.next
 
-ended : (st : State) (k number : ℕ) (place : Place) (reply : Reply) (x y : Session) (result : Result Plan NoMemory) (item : Record) → IsGood st → slice_get st.sessions.items k ≡ Some x →
+ended : (st : State) (k number : ℕ) (place : StatementNo) (reply : Reply) (x y : Session) (result : Result Plan NoMemory) (item : Record) → IsGood st → slice_get st.sessions.items k ≡ Some x →
     IsPlanned st k x result → KeepsRoom x y → HasBegun (run_is st) (log_of st) (k + 1) y st.frames item → IsEnded place number reply x y item → Starts st k x y 0 item
 ended st k number place reply x y result item good here h kept_room begun r =
     let says = ended_announces place number reply x y item r in
@@ -83,7 +83,7 @@ ended st k number place reply x y result item good here h kept_room begun r =
       size_low = omega (arith, bytes, size);
     }
 
-pub starts : (st : State) (k : ℕ) (place : Place) (x y : Session) (result : Result Plan NoMemory) (item : Record) → IsGood st → slice_get st.sessions.items k ≡ Some x → IsReady st k x result →
+pub starts : (st : State) (k : ℕ) (place : StatementNo) (x y : Session) (result : Result Plan NoMemory) (item : Record) → IsGood st → slice_get st.sessions.items k ≡ Some x → IsReady st k x result →
     place.session ≡ k + 1 → place.index ≡ length x.replies.items + 1 → KeepsRoom x y → BeginsAs st.last place result x y item → Starts st k x y (changes_by result) item
 starts st k place x y (Ok (plan.Refused refusal)) item good here ready ps pi kept_room r =
     let h = ready.planned in

@@ -18,12 +18,12 @@ use Rattle.spec_run.specs.Begun.{Setting, Reports, by_damage}
 use Rattle.spec_run.specs.Progress.{Progress, progress_of, work_of, moved_to, MayCome}
 use Rattle.spec_run.specs.Turns.{IsLegal, AreTold, EndsAtOnce as AtOnce}
 use Rattle.law_run.specs.Laws.{IsStart}
-use Rattle.law_run.specs.Legal.{with_begun, legal_right}
-use Rattle.law_run.specs.Moved.{moved_whole}
+use Rattle.law_run.proofs.Legal.{with_begun, legal_right}
+use Rattle.law_run.proofs.Moved.{moved_whole}
 use Rattle.db_core.specs.declared.session.Check.{Check}
 use Rattle.db_core.specs.declared.session.Doing.TheVariants.{Idle, Checking}
 use Rattle.db_core.specs.declared.session.Session.{Session}
-use Rattle.db_core.specs.declared.starts.Place.{Place}
+use Rattle.db_core.specs.declared.starts.StatementNo.{StatementNo}
 use Rattle.db_core.specs.declared.state.State.{State}
 use Rattle.db_core.specs.Bounds.{most_turns}
 use Rattle.db_core.specs.Checks.{Begins, Checked, EndsAtOnce, IsFresh, Snapped}
@@ -81,7 +81,7 @@ snap_opens run log s i old next mine tran left held used =
     (open_snap (whole_log run log) old.tran s i old.left.items old.held.items old.used p))))
 
 -- the Snap of a check that goes on, and the session behind it
-pub snap_good : (st : State) (k workers : ℕ) (place : Place) (check : Check) (x y : Session) (item : Record) → IsGood st → slice_get st.sessions.items k ≡ Some x → x.doing ≡ Idle →
+pub snap_good : (st : State) (k workers : ℕ) (place : StatementNo) (check : Check) (x y : Session) (item : Record) → IsGood st → slice_get st.sessions.items k ≡ Some x → x.doing ≡ Idle →
     slice_get x.script.items (length x.replies.items) ≡ Some (statement.Check workers) → IsFresh (length st.items.items + 1) st.frames st.sessions.items check →
     place.session ≡ k + 1 → place.index ≡ length x.replies.items + 1 → Begins place check x y item →
     IsStep (run_is st) (log_of st) (k + 1) y st.frames st.frames item st.all st.size × HasOwnRoom y × (owed_by y + 1 ≤ owed_by x) × (item ≡ Snap (k + 1) (length x.replies.items + 1))
@@ -169,7 +169,7 @@ short_session run log s i x y start legal above inside mine work may script repl
     )
 
 -- a check that finds no memory: its Snap and its end
-pub short_good : (st one mid two : State) (k before workers : ℕ) (place : Place) (x y : Session) (snap last : Record) → IsGood st → slice_get st.sessions.items k ≡ Some x → x.doing ≡ Idle →
+pub short_good : (st one mid two : State) (k before workers : ℕ) (place : StatementNo) (x y : Session) (snap last : Record) → IsGood st → slice_get st.sessions.items k ≡ Some x → x.doing ≡ Idle →
     slice_get x.script.items (length x.replies.items) ≡ Some (statement.Check workers) → place.session ≡ k + 1 → place.index ≡ length x.replies.items + 1 →
     snap ≡ Snap place.session place.index → before ≡ owed_by x → IsSettled k before snap x st one → EndsAtOnce place x y last → IsMid k y one.frames one mid →
     mid.items ≡ one.items → mid.all ≡ one.all → mid.size ≡ one.size → IsSettled k before last y mid two → Checked k st two
@@ -321,7 +321,7 @@ short_start st one k before workers x snap good here idle next owed set =
       replies = two.1;
     }
 
-pub short_own : (st : State) (k workers : ℕ) (place : Place) (x y : Session) (last : Record) → IsGood st → slice_get st.sessions.items k ≡ Some x → x.doing ≡ Idle →
+pub short_own : (st : State) (k workers : ℕ) (place : StatementNo) (x y : Session) (last : Record) → IsGood st → slice_get st.sessions.items k ≡ Some x → x.doing ≡ Idle →
     slice_get x.script.items (length x.replies.items) ≡ Some (statement.Check workers) → EndsAtOnce place x y last → HasOwnRoom y
 short_own st k workers place x y last good here idle next e =
     let room = good.each_room k x here in
@@ -341,5 +341,5 @@ low_owed st good =
     omega (arith, sum, few, owed)
 
 -- a session that has begun a check is in the middle of it
-pub is_busy : (place : Place) (check : Check) (x y : Session) (item : Record) → Begins place check x y item → y.doing ≡ Idle → ⊥
+pub is_busy : (place : StatementNo) (check : Check) (x y : Session) (item : Record) → Begins place check x y item → y.doing ≡ Idle → ⊥
 is_busy place check x y item b e = let f : Checking check ≡ Idle = sym b.doing ∙ e in cc

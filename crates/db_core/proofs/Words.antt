@@ -5,9 +5,9 @@ use Rattle.std.proofs.lemmas.Bool.{eq-eqb, ne_eqb, lt-ltb, or_left}
 use Rattle.spec_file.specs.Image.{Image}
 use Rattle.spec_log.specs.declared.item.Record.{Record}
 use Rattle.spec_log.specs.Log.{has_started, is_unfinished, greatest_of, left_of}
-use Rattle.law_undo.specs.Holders.{unfinished_from}
-use Rattle.law_run.specs.Fresh.{not_ended_above}
-use Rattle.law_undo.specs.Views.{sound_rules}
+use Rattle.law_undo.proofs.Holders.{unfinished_from}
+use Rattle.law_run.proofs.Fresh.{not_ended_above}
+use Rattle.law_undo.proofs.Views.{sound_rules}
 use Rattle.spec_script.specs.declared.reply.Reply.TheVariants.{Done, Refused}
 use Rattle.spec_script.specs.declared.statement.Statement.{Statement}
 use Rattle.spec_script.specs.Refusals.{plain_refusal}
@@ -17,10 +17,10 @@ use Rattle.spec_run.specs.Progress.{Progress, progress_of}
 use Rattle.spec_run.specs.Turns.{IsLegal}
 use Rattle.law_run.specs.Laws.{IsStart}
 use Rattle.law_run.specs.Doing.{change_items, abort_items}
-use Rattle.law_run.specs.Legal.{legal_right, doing_opens}
+use Rattle.law_run.proofs.Legal.{legal_right, doing_opens}
 use Rattle.db_core.specs.declared.session.Doing.TheVariants.{Ending, Undoing}
 use Rattle.db_core.specs.declared.session.Session.{Session}
-use Rattle.db_core.specs.declared.starts.Place.{Place}
+use Rattle.db_core.specs.declared.starts.StatementNo.{StatementNo}
 use Rattle.db_core.specs.declared.starts.Word.{Word}
 use Rattle.db_core.specs.declared.starts.Word.TheVariants.{Begin, Commit, Rollback}
 use Rattle.db_core.specs.States.{whole_log, IsAt, IsOpen, IsSession, Keeps}
@@ -32,7 +32,7 @@ use Rattle.db_core.proofs.Records.{IsBegun, begun_comes, begun_ends, begun_goes}
 use Rattle.db_core.proofs.Stepped.{IsStepped, some_commit}
 
 -- a Start without changes of the session's open transaction
-pub kept_opens : (run : Setting) (log : List Record) (s number : ℕ) (place : Place) (old new : Session) → IsStart run → IsLegal run log → IsSession run log s old → Keeps old new → new.left.items ≡ old.left.items →
+pub kept_opens : (run : Setting) (log : List Record) (s number : ℕ) (place : StatementNo) (old new : Session) → IsStart run → IsLegal run log → IsSession run log s old → Keeps old new → new.left.items ≡ old.left.items →
     (new.tran ≡ 0) ⊎ IsOpen (plain_start place.session place.index old.tran number ∷ whole_log run log) new.tran new.left.items new.held.items new.used
 kept_opens run log s number place old new start legal mine kept left =
     let g = whole_log run log in
@@ -54,7 +54,7 @@ kept_opens run log s number place old new start legal mine kept left =
     ]
 
 -- a refusal
-refusal_step : (run : Setting) (log : List Record) (s number : ℕ) (place : Place) (old new : Session) (st : Statement) (b : Begun) (pages : Image) (x : Record) → IsBegun run log s old st b →
+refusal_step : (run : Setting) (log : List Record) (s number : ℕ) (place : StatementNo) (old new : Session) (st : Statement) (b : Begun) (pages : Image) (x : Record) → IsBegun run log s old st b →
     place.session ≡ s → place.index ≡ length old.replies.items + 1 → eqb number 701 ≡ false →
     b ≡ surely s (length old.replies.items + 1) (Refusing old.tran number) (Refused (plain_refusal number)) → IsRefusal place number old new x → IsStepped run log s new pages pages x
 refusal_step run log s number place old new st b pages x h ps pi whole is_b r =
@@ -72,7 +72,7 @@ refusal_step run log s number place old new st b pages x h ps pi whole is_b r =
     })
 
 -- COMMIT and ROLLBACK of an open transaction
-going_step : (run : Setting) (log : List Record) (s : ℕ) (place : Place) (old new : Session) (st : Statement) (b : Begun) (rest : List Record) (pages : Image) (x : Record) (d : _) → IsBegun run log s old st b →
+going_step : (run : Setting) (log : List Record) (s : ℕ) (place : StatementNo) (old new : Session) (st : Statement) (b : Begun) (rest : List Record) (pages : Image) (x : Record) (d : _) → IsBegun run log s old st b →
     place.session ≡ s → place.index ≡ length old.replies.items + 1 → b.items ≡ plain_start s (length old.replies.items + 1) old.tran 0 ∷ rest → (rest ≡ [] → ⊥) → IsGoing place d old new x →
     ((p : Progress) → p.due ≡ rest → p.telling ≡ b.telling → IsAt run (plain_start s (length old.replies.items + 1) old.tran 0 ∷ log) s (length old.replies.items + 1) old.tran p d) →
     IsStepped run log s new pages pages x
@@ -92,7 +92,7 @@ going_step run log s place old new st b rest pages x d h ps pi items some r at =
     })
 
 -- the new transaction of BEGIN
-opening_step : (run : Setting) (log : List Record) (s last : ℕ) (place : Place) (old new : Session) (st : Statement) (b : Begun) (pages : Image) (x : Record) → IsBegun run log s old st b →
+opening_step : (run : Setting) (log : List Record) (s last : ℕ) (place : StatementNo) (old new : Session) (st : Statement) (b : Begun) (pages : Image) (x : Record) → IsBegun run log s old st b →
     place.session ≡ s → place.index ≡ length old.replies.items + 1 → last ≡ greatest_of (whole_log run log) →
     b ≡ surely s (length old.replies.items + 1) (Opening (greatest_of (whole_log run log) + 1)) Done → IsOpening place (last + 1) old new x → IsStepped run log s new pages pages x
 opening_step run log s last place old new st b pages x h ps pi last_is is_b r =
@@ -135,7 +135,7 @@ choose_no : (t : ℕ) (x y : Begun) → (t ≡ 0 → ⊥) → (if eqb t 0 then x
 choose_no t x y n = ap (λ c. if c then x else y) (ne_eqb t 0 n)
 
 -- whatever the statement is
-pub word_step : (run : Setting) (log : List Record) (s last : ℕ) (place : Place) (old new : Session) (word : Word) (pages : Image) (x : Record) →
+pub word_step : (run : Setting) (log : List Record) (s last : ℕ) (place : StatementNo) (old new : Session) (word : Word) (pages : Image) (x : Record) →
     IsBegun run log s old (statement_of word) (begun run log s (length old.replies.items + 1) old.tran (statement_of word)) →
     place.session ≡ s → place.index ≡ length old.replies.items + 1 → last ≡ greatest_of (whole_log run log) → StartsBy word last place old new x → IsStepped run log s new pages pages x
 word_step run log s last place old new Begin pages x h ps pi last_is (inl r) =

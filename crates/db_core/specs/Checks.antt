@@ -13,7 +13,7 @@ use Rattle.db_core.specs.declared.session.Check.{Check}
 use Rattle.db_core.specs.declared.session.Doing.{Doing}
 use Rattle.db_core.specs.declared.session.Doing.TheVariants.{Idle, Checking}
 use Rattle.db_core.specs.declared.session.Session.{Session}
-use Rattle.db_core.specs.declared.starts.Place.{Place}
+use Rattle.db_core.specs.declared.starts.StatementNo.{StatementNo}
 use Rattle.db_core.specs.declared.state.State.{State}
 use Rattle.db_core.specs.Back.{GoesBack}
 use Rattle.db_core.specs.States.{Keeps, KeepsRoom}
@@ -38,13 +38,13 @@ pub record BacksIn (items : List Record) (old new : Session) : Type 0 where
   pub room : KeepsRoom old new
 
 -- the check ends with the report of its pages, or for want of memory
-abbrev pub EndsWith : Place → Check → Session → Session → Record → Type 0
+abbrev pub EndsWith : StatementNo → Check → Session → Session → Record → Type 0
 EndsWith place check old new x =
     ((report : CheckReport) × IsCheckOf Small check.pages report
     × (new.replies.items ≡ old.replies.items ++ Report (record { 0 = check.point }) report ∷ []) × (x ≡ CheckEnd place.session place.index 0))
     ⊎ ((new.replies.items ≡ old.replies.items ++ Refused out_of_memory ∷ []) × (x ≡ CheckEnd place.session place.index 3))
 
-pub record EndsBy (place : Place) (old new : Session) (x : Record) : Type 0 where
+pub record EndsBy (place : StatementNo) (old new : Session) (x : Record) : Type 0 where
   pub check : Check
   pub was : old.doing ≡ Checking check
   pub ends : EndsWith place check old new x
@@ -62,7 +62,7 @@ pub record IsFresh (point : ℕ) (pages : Image) (sessions : List Session) (chec
   pub undone : check.undone ≡ false
 
 -- a session that begins this check
-pub record Begins (place : Place) (check : Check) (old new : Session) (x : Record) : Type 0 where
+pub record Begins (place : StatementNo) (check : Check) (old new : Session) (x : Record) : Type 0 where
   pub item : x ≡ Snap place.session place.index
   pub kept : Keeps old new
   pub left : new.left.items ≡ old.left.items
@@ -71,7 +71,7 @@ pub record Begins (place : Place) (check : Check) (old new : Session) (x : Recor
   pub room : KeepsRoom old new
 
 -- a session whose check ends where it begins
-pub record EndsAtOnce (place : Place) (old new : Session) (x : Record) : Type 0 where
+pub record EndsAtOnce (place : StatementNo) (old new : Session) (x : Record) : Type 0 where
   pub item : x ≡ CheckEnd place.session place.index 3
   pub kept : Keeps old new
   pub left : new.left.items ≡ old.left.items

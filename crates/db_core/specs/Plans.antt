@@ -1,6 +1,8 @@
 -- INSERT and COUNT begin, as they were planned.
 use Rattle.std.specs.Prelude.{◌≡◌, ◌≢◌, ℕ, ◌+◌, ◌*◌, ◌≤◌, ◌==◌, ◌&&◌, ◌||◌, not, nat_lt, Bool, true, false, if◌then◌else◌, List, [], ◌++◌, length, slice_get, slice_set, vec_len, vec_capacity, Some, Ok, Err, ◌⊎◌}
 use Rattle.std.specs.declared.result.Result.{Result}
+use Rattle.spec_log.specs.declared.limits.TheConstants.{MOST_CHANGES, MOST_ITEMS, MOST_BYTES}
+use Rattle.spec_script.specs.declared.limits.TheConstants.{NO_MEMORY, LOG_FULL}
 use Rattle.spec_file.specs.declared.data.NoMemory.{NoMemory}
 use Rattle.spec_file.specs.declared.data.Resource.{Resource}
 use Rattle.spec_log.specs.declared.item.Record.{Record}
@@ -18,7 +20,7 @@ use Rattle.db_heap.specs.declared.plan.Plan.TheVariants as plan
 use Rattle.db_heap.specs.Plans.{outcome_of}
 use Rattle.db_core.specs.declared.session.Doing.TheVariants.{Idle}
 use Rattle.db_core.specs.declared.session.Session.{Session}
-use Rattle.db_core.specs.declared.starts.Place.{Place}
+use Rattle.db_core.specs.declared.starts.StatementNo.{StatementNo}
 use Rattle.db_core.specs.declared.state.State.{State}
 use Rattle.db_core.specs.States.{whole_log, GoesOnWith, KeepsRoom, IsSame}
 use Rattle.db_core.specs.Store.{run_is, log_of}
@@ -26,7 +28,7 @@ use Rattle.db_core.specs.Words.{IsEnded}
 
 -- a plan's refusal isn't that of want of memory; it takes and changes little, and its cells have their form
 abbrev pub IsProper : Plan → Type 0
-IsProper (plan.Refused refusal) = (refusal.number == 701) ≡ false
+IsProper (plan.Refused refusal) = (refusal.number == NO_MEMORY) ≡ false
 IsProper (plan.Counted count) = Unit {0}
 IsProper (plan.Written takes changes) = (length takes ≤ 3) × (length changes.items ≤ 4) × HaveCells changes.items
 
@@ -50,14 +52,14 @@ used_now x = if x.tran == 0 then 0 else x.used
 -- n changes of so many bytes pass a limit, beside these sums of the log
 abbrev pub exceeds : ℕ → ℕ → ℕ → ℕ → ℕ → Bool
 exceeds used all size n bytes =
-    not (n == 0) && (nat_lt 8192 (used + n) || nat_lt 1048576 (2 * (all + n)) || nat_lt 268435456 (size + (bytes + 17 * n)))
+    not (n == 0) && (nat_lt MOST_CHANGES (used + n) || nat_lt MOST_ITEMS (2 * (all + n)) || nat_lt MOST_BYTES (size + (bytes + 17 * n)))
 
 -- the plan, or the refusal of one that passes a limit
 abbrev pub limited : ℕ → ℕ → ℕ → Plan → Plan
 limited used all size (plan.Refused refusal) = plan.Refused refusal
 limited used all size (plan.Counted count) = plan.Counted count
 limited used all size (plan.Written takes changes) =
-    if exceeds used all size (length changes.items) (planned_size changes.items) then plan.Refused (plain_refusal 9002) else plan.Written takes changes
+    if exceeds used all size (length changes.items) (planned_size changes.items) then plan.Refused (plain_refusal LOG_FULL) else plan.Written takes changes
 
 -- how many changes a plan has, and how many resources it takes
 abbrev pub changes_in : Plan → ℕ
@@ -97,7 +99,7 @@ pub record IsReady (st : State) (at : ℕ) (x : Session) (result : Result Plan N
   pub free : IsFreeIfPlanned st x result
 
 -- it writes, in transaction `tran`, of which this was left and held and announced before
-pub record IsWriting (place : Place) (tran : ℕ) (takes : List Resource) (changes : List Planned) (left : List ℕ) (held : List Resource) (used : ℕ) (own : Bool)
+pub record IsWriting (place : StatementNo) (tran : ℕ) (takes : List Resource) (changes : List Planned) (left : List ℕ) (held : List Resource) (used : ℕ) (own : Bool)
     (old new : Session) (x : Record) : Type 0 where
   pub item : x ≡ Start place.session place.index (record { 0 = tran }) 0 (length changes) (planned_size changes) takes
   pub script : new.script.items ≡ old.script.items
@@ -108,20 +110,20 @@ pub record IsWriting (place : Place) (tran : ℕ) (takes : List Resource) (chang
   pub goes : GoesOnWith changes own (Some 1) old new
 
 -- in the open transaction, or in one of its own, the next after the greatest
-abbrev pub Writes : ℕ → Place → List Resource → List Planned → Session → Session → Record → Type 0
+abbrev pub Writes : ℕ → StatementNo → List Resource → List Planned → Session → Session → Record → Type 0
 Writes last place takes changes old new x =
     ((old.tran ≡ 0) × IsWriting place (last + 1) takes changes [] [] 0 true old new x)
     ⊎ ((old.tran ≢ 0) × IsWriting place old.tran takes changes old.left.items old.held.items old.used false old new x)
 
 -- the record of a planned statement, and the session behind it
-abbrev pub BeginsBy : ℕ → Place → Plan → Session → Session → Record → Type 0
+abbrev pub BeginsBy : ℕ → StatementNo → Plan → Session → Session → Record → Type 0
 BeginsBy last place (plan.Refused refusal) old new x = IsEnded place refusal.number (Refused refusal) old new x
 BeginsBy last place (plan.Counted count) old new x = IsEnded place 0 (Rows count []) old new x
 BeginsBy last place (plan.Written takes changes) old new x = Writes last place takes changes.items old new x
 
-abbrev pub BeginsAs : ℕ → Place → Result Plan NoMemory → Session → Session → Record → Type 0
+abbrev pub BeginsAs : ℕ → StatementNo → Result Plan NoMemory → Session → Session → Record → Type 0
 BeginsAs last place (Ok p) old new x = BeginsBy last place p old new x
-BeginsAs last place (Err e) old new x = IsEnded place 701 (Refused (plain_refusal 701)) old new x
+BeginsAs last place (Err e) old new x = IsEnded place NO_MEMORY (Refused (plain_refusal NO_MEMORY)) old new x
 
 -- how many changes an item announces, and their bytes with an Undo for each
 abbrev pub announced_by : Record → ℕ

@@ -1,5 +1,6 @@
 -- The records of statements that need no plan.
 use Rattle.std.specs.Prelude.{◌≡◌, ◌≢◌, ℕ, ◌+◌, [], ◌∷◌, ◌++◌, length, slice_get, None, Some, ◌⊎◌}
+use Rattle.spec_script.specs.declared.limits.TheConstants.{IS_OPEN, NOTHING_TO_COMMIT, NOTHING_TO_UNDO}
 use Rattle.spec_log.specs.declared.item.Record.{Record}
 use Rattle.spec_script.specs.declared.reply.Reply.{Reply}
 use Rattle.spec_script.specs.declared.reply.Reply.TheVariants.{Done, Refused}
@@ -12,7 +13,7 @@ use Rattle.db_core.specs.declared.session.Doing.TheVariants.{Idle, Ending, Undoi
 use Rattle.db_core.specs.declared.session.Session.{Session}
 use Rattle.db_core.specs.declared.starts.Word.{Word}
 use Rattle.db_core.specs.declared.starts.Word.TheVariants.{Begin, Commit, Rollback}
-use Rattle.db_core.specs.declared.starts.Place.{Place}
+use Rattle.db_core.specs.declared.starts.StatementNo.{StatementNo}
 use Rattle.db_core.specs.States.{Keeps}
 
 -- a statement that needs no plan
@@ -22,7 +23,7 @@ statement_of Commit = statement.Commit
 statement_of Rollback = statement.Rollback
 
 -- the statement ends with its Start, and its transaction stands as before
-pub record IsEnded (place : Place) (number : ℕ) (reply : Reply) (old new : Session) (x : Record) : Type 0 where
+pub record IsEnded (place : StatementNo) (number : ℕ) (reply : Reply) (old new : Session) (x : Record) : Type 0 where
   pub item : x ≡ plain_start place.session place.index old.tran number
   pub kept : Keeps old new
   pub left : new.left.items ≡ old.left.items
@@ -30,11 +31,11 @@ pub record IsEnded (place : Place) (number : ℕ) (reply : Reply) (old new : Ses
   pub doing : new.doing ≡ Idle
 
 -- the statement is refused, by nothing that has a name
-abbrev pub IsRefusal : Place → ℕ → Session → Session → Record → Type 0
+abbrev pub IsRefusal : StatementNo → ℕ → Session → Session → Record → Type 0
 IsRefusal place number old new x = IsEnded place number (Refused (plain_refusal number)) old new x
 
 -- it opens a transaction
-pub record IsOpening (place : Place) (tran : ℕ) (old new : Session) (x : Record) : Type 0 where
+pub record IsOpening (place : StatementNo) (tran : ℕ) (old new : Session) (x : Record) : Type 0 where
   pub item : x ≡ plain_start place.session place.index tran 0
   pub script : new.script.items ≡ old.script.items
   pub tran_is : new.tran ≡ tran
@@ -45,7 +46,7 @@ pub record IsOpening (place : Place) (tran : ℕ) (old new : Session) (x : Recor
   pub doing : new.doing ≡ Idle
 
 -- it goes on with the session's transaction
-pub record IsGoing (place : Place) (doing_next : Doing) (old new : Session) (x : Record) : Type 0 where
+pub record IsGoing (place : StatementNo) (doing_next : Doing) (old new : Session) (x : Record) : Type 0 where
   pub item : x ≡ plain_start place.session place.index old.tran 0
   pub kept : Keeps old new
   pub left : new.left.items ≡ old.left.items
@@ -53,11 +54,11 @@ pub record IsGoing (place : Place) (doing_next : Doing) (old new : Session) (x :
   pub doing : new.doing ≡ doing_next
 
 -- the record of such a statement
-abbrev pub StartsBy : Word → ℕ → Place → Session → Session → Record → Type 0
+abbrev pub StartsBy : Word → ℕ → StatementNo → Session → Session → Record → Type 0
 StartsBy Begin last place old new x =
-    ((old.tran ≡ 0) × IsOpening place (last + 1) old new x) ⊎ ((old.tran ≢ 0) × IsRefusal place 60001 old new x)
-StartsBy Commit last place old new x = ((old.tran ≡ 0) × IsRefusal place 3902 old new x) ⊎ ((old.tran ≢ 0) × IsGoing place (Ending None) old new x)
-StartsBy Rollback last place old new x = ((old.tran ≡ 0) × IsRefusal place 3903 old new x) ⊎ ((old.tran ≢ 0) × IsGoing place Undoing old new x)
+    ((old.tran ≡ 0) × IsOpening place (last + 1) old new x) ⊎ ((old.tran ≢ 0) × IsRefusal place IS_OPEN old new x)
+StartsBy Commit last place old new x = ((old.tran ≡ 0) × IsRefusal place NOTHING_TO_COMMIT old new x) ⊎ ((old.tran ≢ 0) × IsGoing place (Ending None) old new x)
+StartsBy Rollback last place old new x = ((old.tran ≡ 0) × IsRefusal place NOTHING_TO_UNDO old new x) ⊎ ((old.tran ≢ 0) × IsGoing place Undoing old new x)
 
 -- an idle session's next statement
 pub record IsNextWord (word : Word) (x : Session) : Type 0 where

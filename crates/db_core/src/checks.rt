@@ -13,7 +13,7 @@ ghost use Rattle.pg_base.specs.declared.reader.ReadStop.TheVariants as stops;
 
 use crate::back::go_back;
 use crate::session::{Check, Doing, Session};
-use crate::starts::Place;
+use crate::starts::StatementNo;
 use crate::state::{State, owed_by, settle};
 use crate::steps::end;
 use crate::turns::place_of;
@@ -23,8 +23,8 @@ use ck_scan::scan_one;
 use pg_base::{Geometry, ReadStop};
 use spec_check::CheckReport;
 use spec_file::{Lsn, NoMemory};
-use spec_log::Record;
-use spec_script::{Refusal, Reply};
+use spec_log::{REPORTED, Record, SHORT};
+use spec_script::{NO_MEMORY, Refusal, Reply};
 use std::alloc::Global;
 use vol_pool::{Frames, FramesReader};
 
@@ -93,7 +93,7 @@ fn back_in(session: &mut Session, items: &[Record])
 fn end_in(
     alloc: Global,
     session: &mut Session,
-    place: Place,
+    place: StatementNo,
     found: Result<CheckReport, NoMemory>,
 ) -> Record
     requires room { vec_len session.old.replies < vec_capacity session.old.replies }
@@ -101,7 +101,7 @@ fn end_in(
     requires report { IfOk found (λ report. (check : Check) → session.old.doing ≡ Checking check → IsCheckOf Small check.pages report) }
     ensures { EndsBy place session.old session.new result }
 {
-    let Place {
+    let StatementNo {
         session: number,
         index,
     } = place;
@@ -112,7 +112,7 @@ fn end_in(
             Record::CheckEnd {
                 session: number,
                 index,
-                outcome: 0,
+                outcome: REPORTED,
             }
         }
         Err(NoMemory) => short_end(alloc, session, place),
@@ -120,15 +120,15 @@ fn end_in(
 }
 
 /// The end of a check for want of memory.
-fn short_end(alloc: Global, session: &mut Session, place: Place) -> Record
+fn short_end(alloc: Global, session: &mut Session, place: StatementNo) -> Record
     requires { vec_len session.old.replies < vec_capacity session.old.replies }
     ensures { EndsAtOnce place session.old session.new result }
 {
-    end(session, Reply::Refused(Refusal::plain(alloc, 701)));
+    end(session, Reply::Refused(Refusal::plain(alloc, NO_MEMORY)));
     Record::CheckEnd {
         session: place.session,
         index: place.index,
-        outcome: 3,
+        outcome: SHORT,
     }
 }
 
@@ -154,7 +154,7 @@ fn fresh_check(
 }
 
 /// The Snap of a session's check.
-fn begin_in(session: &mut Session, place: Place, check: Check) -> Record
+fn begin_in(session: &mut Session, place: StatementNo, check: Check) -> Record
     ensures { Begins place check session.old session.new result }
 {
     session.doing = Doing::Checking(check);

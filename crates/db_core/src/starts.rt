@@ -10,12 +10,12 @@ use crate::session::{Doing, Session};
 use crate::steps::end;
 use spec_file::Tran;
 use spec_log::{Record, Values};
-use spec_script::{Refusal, Reply, Statement};
+use spec_script::{IS_OPEN, NOTHING_TO_COMMIT, NOTHING_TO_UNDO, Refusal, Reply, Statement};
 use std::alloc::Global;
 
 /// Which statement of which session, both from 1.
 #[derive(Clone, Copy)]
-pub struct Place {
+pub struct StatementNo {
     pub session: u16,
     pub index: u32,
 }
@@ -29,7 +29,7 @@ pub enum Word {
 }
 
 /// The Start of a statement without changes.
-pub fn plain_start(alloc: Global, place: Place, tran: u64, number: u16) -> Record
+pub fn plain_start(alloc: Global, place: StatementNo, tran: u64, number: u16) -> Record
     ensures { result ≡ start_of place.session place.index tran number }
 {
     Record::Start {
@@ -44,7 +44,7 @@ pub fn plain_start(alloc: Global, place: Place, tran: u64, number: u16) -> Recor
 }
 
 /// The statement is refused, with what refuses it, and its transaction stands as before.
-pub fn refuse_by(alloc: Global, session: &mut Session, place: Place, refusal: Refusal) -> Record
+pub fn refuse_by(alloc: Global, session: &mut Session, place: StatementNo, refusal: Refusal) -> Record
     requires { vec_len session.old.replies < vec_capacity session.old.replies }
     ensures ended { IsEnded place refusal.number (Refused refusal) session.old session.new result }
     ensures kept_room { KeepsRoom session.old session.new }
@@ -56,7 +56,7 @@ pub fn refuse_by(alloc: Global, session: &mut Session, place: Place, refusal: Re
 }
 
 /// The same by a refusal that names nothing.
-pub fn refuse(alloc: Global, session: &mut Session, place: Place, number: u16) -> Record
+pub fn refuse(alloc: Global, session: &mut Session, place: StatementNo, number: u16) -> Record
     requires { vec_len session.old.replies < vec_capacity session.old.replies }
     ensures ended { IsRefusal place number session.old session.new result }
     ensures kept_room { KeepsRoom session.old session.new }
@@ -65,7 +65,7 @@ pub fn refuse(alloc: Global, session: &mut Session, place: Place, number: u16) -
 }
 
 /// BEGIN: the session has this transaction open from here on.
-pub fn open(alloc: Global, session: &mut Session, place: Place, tran: u64) -> Record
+pub fn open(alloc: Global, session: &mut Session, place: StatementNo, tran: u64) -> Record
     requires { vec_len session.old.replies < vec_capacity session.old.replies }
     ensures item { result ≡ start_of place.session place.index tran 0 }
     ensures script { session.new.script.items ≡ session.old.script.items }
@@ -86,7 +86,7 @@ pub fn open(alloc: Global, session: &mut Session, place: Place, tran: u64) -> Re
 }
 
 /// COMMIT: the Commit of the session's transaction comes next.
-pub fn start_commit(alloc: Global, session: &mut Session, place: Place) -> Record
+pub fn start_commit(alloc: Global, session: &mut Session, place: StatementNo) -> Record
     ensures item { result ≡ start_of place.session place.index session.old.tran 0 }
     ensures kept { Keeps session.old session.new }
     ensures kept_room { KeepsRoom session.old session.new }
@@ -99,7 +99,7 @@ pub fn start_commit(alloc: Global, session: &mut Session, place: Place) -> Recor
 }
 
 /// ROLLBACK: the changes of the session's transaction are undone next.
-pub fn start_undo(alloc: Global, session: &mut Session, place: Place) -> Record
+pub fn start_undo(alloc: Global, session: &mut Session, place: StatementNo) -> Record
     ensures item { result ≡ start_of place.session place.index session.old.tran 0 }
     ensures kept { Keeps session.old session.new }
     ensures kept_room { KeepsRoom session.old session.new }
@@ -112,7 +112,7 @@ pub fn start_undo(alloc: Global, session: &mut Session, place: Place) -> Record
 }
 
 /// The record of a statement that needs no plan; `last` is the greatest transaction so far.
-pub fn start(alloc: Global, session: &mut Session, place: Place, last: u64, word: Word) -> Record
+pub fn start(alloc: Global, session: &mut Session, place: StatementNo, last: u64, word: Word) -> Record
     requires room { vec_len session.old.replies < vec_capacity session.old.replies }
     requires low { last + 1 < 2 ^ 64 }
     ensures starts { StartsBy word last place session.old session.new result }
@@ -122,7 +122,7 @@ pub fn start(alloc: Global, session: &mut Session, place: Place, last: u64, word
     match word {
         Word::Begin => {
             if open_now {
-                return refuse(alloc, session, place, 60001);
+                return refuse(alloc, session, place, IS_OPEN);
             }
             open(alloc, session, place, last + 1)
         }
@@ -130,13 +130,13 @@ pub fn start(alloc: Global, session: &mut Session, place: Place, last: u64, word
             if open_now {
                 return start_commit(alloc, session, place);
             }
-            refuse(alloc, session, place, 3902)
+            refuse(alloc, session, place, NOTHING_TO_COMMIT)
         }
         Word::Rollback => {
             if open_now {
                 return start_undo(alloc, session, place);
             }
-            refuse(alloc, session, place, 3903)
+            refuse(alloc, session, place, NOTHING_TO_UNDO)
         }
     }
 }

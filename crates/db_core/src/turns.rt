@@ -6,7 +6,7 @@ ghost use Rattle.db_core.specs.Store.{IsGood, IsNearer, Went};
 ghost use Rattle.db_core.specs.Words.{IsNextWord};
 
 use crate::session::Session;
-use crate::starts::{Place, Word, start};
+use crate::starts::{StatementNo, Word, start};
 use crate::state::{State, owed_by, settle};
 use crate::steps::step;
 
@@ -31,13 +31,13 @@ pub fn go_on(state: &mut State, at: usize)
 }
 
 /// Which statement of session `at` comes next.
-pub fn place_of(at: usize, session: &Session) -> Place
+pub fn place_of(at: usize, session: &Session) -> StatementNo
     requires few { at < 16 }
     requires own { HasOwnRoom session.now }
     ensures session { result.session ≡ at + 1 }
     ensures index { result.index ≡ length session.now.replies.items + 1 }
 {
-    Place {
+    StatementNo {
         session: at as u16 + 1,
         index: session.replies.len() as u32 + 1,
     }

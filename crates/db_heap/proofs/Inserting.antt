@@ -13,7 +13,7 @@ use Rattle.spec_plan.specs.Sight.{Sight, Outcome, Writes}
 use Rattle.spec_plan.specs.Statements.{fullness_at, not_own, byte_takes, byte_changes, page_written, row_put, inserted}
 use Rattle.spec_plan.specs.Changes.{page_changes}
 use Rattle.spec_plan.specs.declared.plan.Planned.{Planned}
-use Rattle.law_rows.specs.Passes.{test_from}
+use Rattle.law_rows.proofs.Passes.{test_from}
 use Rattle.db_heap.specs.Heaps.{heap_page_read}
 use Rattle.db_heap.specs.Inserts.{room_read}
 

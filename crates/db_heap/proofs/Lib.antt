@@ -2,3 +2,4 @@ pub mod Lists
 pub mod Seen
 pub mod ChainSteps
 pub mod Inserting
+pub mod ReadsLaws

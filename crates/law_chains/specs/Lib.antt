@@ -1,4 +1,1 @@
 pub mod Laws
-pub mod Ranges
-pub mod Reads
-pub mod Allocated

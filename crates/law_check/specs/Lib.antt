@@ -1,4 +1,1 @@
 pub mod Laws
-pub mod ReportLaw
-pub mod RowReading
-pub mod SlotReading

@@ -2,6 +2,7 @@
 use Rattle.std.specs.Prelude.{◌≡◌, ◌≢◌, ℕ, ◌<◌, ◌≤◌, List, length}
 use Rattle.spec_file.specs.declared.data.Resource.{Resource}
 use Rattle.spec_log.specs.Cells.{HasWholePages}
+use Rattle.spec_script.specs.declared.limits.TheConstants.{NO_MEMORY, READ_FAULT}
 use Rattle.spec_plan.specs.declared.plan.Planned.{Planned}
 use Rattle.spec_plan.specs.Sight.{Sight, Outcome, Refuses, Counts, Writes}
 use Rattle.spec_plan.specs.Statements.{count_outcome, insert_outcome}
@@ -31,9 +32,9 @@ IsShort (Writes takes changes) = (length takes ≤ 3) × (length changes ≤ 4)
 abbrev pub InsertIsShort : Type 0
 InsertIsShort = (sight : Sight) (name : List ℕ) (key : ℕ) (payload : List ℕ) → IsShort (insert_outcome sight name key payload)
 
--- a refusal's number is neither 0, which stands for an accepted statement, nor 701, for want of memory, nor 823, for a fault
+-- a refusal's number is neither 0, which stands for an accepted statement, nor that of want of memory or of a fault
 abbrev pub IsNumbered : Outcome → Type 0
-IsNumbered (Refuses refusal) = (0 < refusal.number) × (refusal.number ≢ 701) × (refusal.number ≢ 823)
+IsNumbered (Refuses refusal) = (0 < refusal.number) × (refusal.number ≢ NO_MEMORY) × (refusal.number ≢ READ_FAULT)
 IsNumbered (Counts count) = Unit {0}
 IsNumbered (Writes takes changes) = Unit {0}
 

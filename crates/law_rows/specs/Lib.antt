@@ -1,8 +1,1 @@
-pub mod Catalog
-pub mod Inserted
 pub mod Laws
-pub mod Packed
-pub mod Parts
-pub mod Passes
-pub mod Placed
-pub mod Ranges

@@ -1,9 +1,2 @@
 pub mod Answered
 pub mod Laws
-pub mod Shaped
-pub mod Begins
-pub mod Owed
-pub mod Parts
-pub mod Items
-pub mod Ends
-pub mod Marking

@@ -1,2 +1,6 @@
+pub mod FaultLaws
 pub mod FirstBytes
 pub mod Written
+pub mod HeaderLaws
+pub mod NumberLaws
+pub mod ReadingLaws

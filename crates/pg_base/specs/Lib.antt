@@ -1,6 +1,5 @@
 pub mod Faults
-pub mod HeaderLaws
-pub mod NumberLaws
 pub mod Numbers
+pub mod Stops
 pub mod Reading
 pub mod Zeros

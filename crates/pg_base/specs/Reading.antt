@@ -1,27 +1,15 @@
--- What a call that reads pages of an image says where it stops.
-use Rattle.std.specs.Prelude.{◌≡◌, ℕ, Bool, IsTrue, Option, Some, Result, Ok, Err, ⊤}
-use Rattle.pg_base.specs.Faults.{Rose}
+-- What a call that only reads leaves of a reader.
+use Rattle.std.specs.Prelude.{◌≡◌, ◌≤◌, IsTrue, Option}
+use Rattle.pg_base.specs.declared.reader.SnapReader.{Ghosts}
 use Rattle.pg_base.specs.declared.reader.ReadStop.{ReadStop}
-use Rattle.pg_base.specs.declared.reader.ReadStop.TheVariants.{Fault, Ended, NoMemory}
+use Rattle.pg_base.specs.Stops.{StopsFor}
 
--- a fault raised the count, and its page is that of the last failed read; an end comes only where the
--- reader's end has come; want of memory is free
-abbrev pub StopHasCause : {T : Type 0} → ℕ → ℕ → Option ℕ → Bool → Result T ReadStop → Type 0
-StopHasCause before now failed ended (Err (Fault q)) = Rose before now × (failed ≡ Some q.0)
-StopHasCause before now failed ended (Err Ended) = IsTrue ended
-StopHasCause before now failed ended (Err NoMemory) = ⊤
-StopHasCause before now failed ended (Ok value) = ⊤
-
--- a fault names no other page
-abbrev pub NamesOnly : {T : Type 0} → ℕ → Result T ReadStop → Type 0
-NamesOnly p (Err (Fault q)) = q.0 ≡ p
-NamesOnly p (Err Ended) = ⊤
-NamesOnly p (Err NoMemory) = ⊤
-NamesOnly p (Ok value) = ⊤
-
--- any answer but a fault leaves the last failed read as it was
-abbrev pub KeepsFailed : {T : Type 0} → Option ℕ → Option ℕ → Result T ReadStop → Type 0
-KeepsFailed before now (Err (Fault q)) = ⊤
-KeepsFailed before now (Err Ended) = now ≡ before
-KeepsFailed before now (Err NoMemory) = now ≡ before
-KeepsFailed before now (Ok value) = now ≡ before
+-- what a call leaves of a reader that it only reads, with the cause of its stop: the number of pages, the image and
+-- the bound stay, an end that has come stays, and the count of faults doesn't fall
+pub record OnlyReads {X : Type 0} (r : Ghosts X) (old new : X) (end : Option ReadStop) : Type 0 where
+  pub pages : r.pages new ≡ r.pages old
+  pub image : r.image new ≡ r.image old
+  pub bound : r.bound new ≡ r.bound old
+  pub ended : IsTrue (r.ended old) → IsTrue (r.ended new)
+  pub faults : r.faults old ≤ r.faults new
+  pub stop : StopsFor (r.faults old) (r.faults new) (r.failed old) (r.failed new) (r.ended new) end

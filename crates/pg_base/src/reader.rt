@@ -1,10 +1,9 @@
-ghost use Rattle.std.specs.Prelude.{◌≡◌, ◌<◌, ◌≤◌, IsTrue, Bool, List, ℕ, Option, IfSome, IfOk, OnOk, length};
+ghost use Rattle.std.specs.Prelude.{◌≡◌, ◌<◌, ◌≤◌, IsTrue, Bool, List, ℕ, Option, IfSome, OnOk, length};
 ghost use Rattle.std.specs.Option.{ForSome};
 ghost use Rattle.spec_file.specs.Image.{page};
-ghost use Rattle.pg_base.specs.Reading.{StopHasCause, NamesOnly, KeepsFailed};
+ghost use Rattle.pg_base.specs.Stops.{StopsFor, NamesOnly, stop_of};
 
 use crate::{NoMemory, Page, PageNo};
-use std::alloc::Global;
 
 /// Why a page of an image was not read.
 #[derive(Clone, Copy, Debug, PartialEq, Eq)]
@@ -46,13 +45,12 @@ pub trait SnapReader {
     /// Numbers that name what the reader is made over.
     ghost bound: { Self → List ℕ };
 
-    /// Fills `into` with page `p` of the image.
+    /// Fills `into` with page `p` of the image. Only a fault counts, and names this page.
     fn page(&mut self, p: PageNo, into: &mut Page) -> Result<(), ReadStop>
         requires { p.0 < pages self.old }
         ensures page { OnOk result (IfSome (image self.old) (λ image. into.new.bytes ≡ page image p.0)) }
-        ensures cause { StopHasCause (faults self.old) (faults self.new) (failed self.new) (ended self.new) result }
-        ensures named { NamesOnly p.0 result }
-        ensures failed { KeepsFailed (failed self.old) (failed self.new) result }
+        ensures stop { StopsFor (faults self.old) (faults self.new) (failed self.old) (failed self.new) (ended self.new) (stop_of result) }
+        ensures named { NamesOnly p.0 (stop_of result) }
         ensures ended { IsTrue (ended self.old) → IsTrue (ended self.new) }
         ensures faults { faults self.old ≤ faults self.new }
         ensures pages { pages self.new ≡ pages self.old }
@@ -61,24 +59,4 @@ pub trait SnapReader {
 
     /// A told image has as many pages as the reader says.
     ghost whole: { (r : Self) → ForSome (image r) (λ image. length image ≡ pages r) };
-}
-
-/// Page `p` of a reader's image, in memory of its own.
-pub fn read_page<R: SnapReader>(
-    alloc: Global,
-    reader: &mut R,
-    p: PageNo,
-) -> Result<Box<Page>, ReadStop>
-    requires { p.0 < R.pages reader.old }
-    ensures page { IfOk result (λ found. IfSome (R.image reader.old) (λ image. found.value.bytes ≡ page image p.0)) }
-    ensures cause { StopHasCause (R.faults reader.old) (R.faults reader.new) (R.failed reader.new) (R.ended reader.new) result }
-    ensures ended { IsTrue (R.ended reader.old) → IsTrue (R.ended reader.new) }
-    ensures faults { R.faults reader.old ≤ R.faults reader.new }
-    ensures pages { R.pages reader.new ≡ R.pages reader.old }
-    ensures image { R.image reader.new ≡ R.image reader.old }
-    ensures bound { R.bound reader.new ≡ R.bound reader.old }
-{
-    let mut page = Page::zeroed(alloc)?;
-    reader.page(p, &mut page)?;
-    Ok(page)
 }

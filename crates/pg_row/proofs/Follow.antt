@@ -1,6 +1,6 @@
 -- Parts that are put one behind another.
 use Rattle.std.proofs.Common.{◌≡◌, ℕ, ◌+◌, ◌≤◌, List, ◌++◌, length, take, drop, ap, sym, ◌∙◌}
-use Rattle.pg_base.specs.NumberLaws.{same_back}
+use Rattle.pg_base.proofs.NumberLaws.{same_back}
 use Rattle.pg_row.specs.Meaning.{PutsBytes}
 
 pub follows : (at n : ℕ) (part front xs ys : List ℕ) → PutsBytes at part xs ys → take at xs ≡ front → at + length part ≡ n

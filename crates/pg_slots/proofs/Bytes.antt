@@ -5,7 +5,7 @@ use Rattle.std.proofs.lemmas.Bool.{cases_order}
 use Rattle.spec_rows.specs.Slots.{slot_at}
 use Rattle.spec_rows.specs.Changes.{Stays}
 use Rattle.pg_base.specs.Numbers.{PutsNumber}
-use Rattle.pg_base.specs.NumberLaws.{same_number_behind, same_front, same_back, number_stays}
+use Rattle.pg_base.proofs.NumberLaws.{same_number_behind, same_front, same_back, number_stays}
 use Rattle.pg_slots.specs.Puts.{PutsSlot}
 
 -- a part before a place is told by the bytes before it

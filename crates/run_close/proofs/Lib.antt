@@ -1,2 +1,3 @@
 pub mod Encoded
 pub mod Texts
+pub mod Closing

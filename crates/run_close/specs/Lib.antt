@@ -1,2 +1,1 @@
 pub mod Close
-pub mod Closing

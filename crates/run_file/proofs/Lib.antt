@@ -5,3 +5,5 @@ pub mod ScriptsRead
 pub mod Refusals
 pub mod Turns
 pub mod Statements
+pub mod OpeningLaws
+pub mod SourcesLaws

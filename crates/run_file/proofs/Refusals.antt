@@ -4,7 +4,7 @@ use Rattle.std.specs.Option.{ForSome}
 use Rattle.std.specs.Prelude.{not, if◌then◌else◌}
 use Rattle.std.proofs.lemmas.Option.{none-some}
 use Rattle.spec_file.specs.Image.{Image, page, page_at, pages_of}
-use Rattle.spec_file.specs.ImageLaws.{length-pages_of, page-pages_of}
+use Rattle.spec_file.proofs.ImageLaws.{length-pages_of, page-pages_of}
 use Rattle.spec_file.specs.FileForm.{size_passes, header_passes, version_passes, geometry_of, count_passes}
 use Rattle.spec_file.specs.declared.geometry.Geometry.TheVariants.{Small}
 use Rattle.spec_log.specs.Cells.{HasWholePages}
@@ -15,7 +15,7 @@ use Rattle.run_file.specs.declared.why.FileWhy.{FileWhy}
 use Rattle.run_file.specs.declared.why.FileWhy.TheVariants as why
 use Rattle.run_file.specs.Form.{IsSmallFirst, IsSmallFile}
 use Rattle.run_file.specs.Opening.{count_fault, opening_fault, file_fault, IsRefusedForRun, IsLater, IsLeftOutBy, FileFault, AreAllPages, HasPages}
-use Rattle.run_file.specs.OpeningLaws.{after_size, passes_first}
+use Rattle.run_file.proofs.OpeningLaws.{after_size, passes_first}
 
 -- page 0 of a told file decides
 page_decides : (bytes first : List ℕ) (pages : ℕ) (fault : Option FileWhy) → HasPages pages bytes → 16 ≤ pages → first ≡ page_at bytes 0

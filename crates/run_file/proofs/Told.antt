@@ -5,7 +5,7 @@ use Rattle.std.proofs.lemmas.Option.{same_Some, none-some}
 use Rattle.spec_script.specs.declared.stop.ScriptWhy.{ScriptWhy}
 use Rattle.spec_script.specs.declared.stop.ScriptWhy.TheVariants as why
 use Rattle.spec_script.specs.Texts.{IsText, IsWrongAt, longest_text}
-use Rattle.vol_dev.specs.DeviceLaws.{prepend_known-whole}
+use Rattle.vol_dev.proofs.DeviceLaws.{prepend_known-whole}
 
 -- a text that was read to its end, and what its lines say
 pub told_text : {X : Type 0} (IsLine : List ℕ → X → Type 0) (old new : Option (List ℕ)) (bytes : List ℕ) (values : List X)

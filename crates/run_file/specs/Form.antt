@@ -3,7 +3,7 @@ use Rattle.std.specs.Prelude.{◌≡◌, ◌≢◌, ℕ, ◌*◌, ◌<◌, ◌�
 use Rattle.spec_file.specs.declared.geometry.Geometry.TheVariants.{Small}
 use Rattle.spec_file.specs.Image.{Image, page}
 use Rattle.spec_file.specs.FileForm.{size_passes, header_passes, version_passes, geometry_of, count_passes}
-use Rattle.spec_file.specs.Iam.{slot_count, iam_slot}
+use Rattle.spec_file.specs.Iam.{single_slot_count, iam_slot}
 use Rattle.spec_log.specs.Cells.{HasWholePages}
 use Rattle.spec_file.specs.Roles.{is_ordinary}
 use Rattle.spec_file.specs.Places.{is_inside}
@@ -35,4 +35,4 @@ abbrev pub IsGoodSlot : ℕ → List ℕ → ℕ → Type 0
 IsGoodSlot pages bytes i = iam_slot bytes i ≢ 0 → IsForObjects pages (iam_slot bytes i) × ((j : ℕ) → j < i → iam_slot bytes i ≢ iam_slot bytes j)
 
 abbrev pub AreGoodSlots : ℕ → List ℕ → Type 0
-AreGoodSlots pages bytes = (i : ℕ) → i < slot_count → IsGoodSlot pages bytes i
+AreGoodSlots pages bytes = (i : ℕ) → i < single_slot_count → IsGoodSlot pages bytes i

@@ -2,6 +2,7 @@
 -- own).
 use Rattle.std.specs.Prelude.{◌≡◌, ℕ, zero, suc, ◌<◌, ◌==◌, ◌&&◌, Bool, not, if◌then◌else◌, Option, Some, None, unwrap_or, List, length, Contains}
 use Rattle.spec_file.specs.declared.geometry.Geometry.{Geometry}
+use Rattle.spec_file.specs.declared.page_type.TheConstants.{IAM_TYPE}
 use Rattle.spec_file.specs.Image.{Image, page, number_at}
 use Rattle.spec_file.specs.Header.{says}
 use Rattle.spec_file.specs.Places.{is_inside}
@@ -55,7 +56,7 @@ fault_of_number g pages n q =
 -- object, or its interval isn't one of the file
 abbrev pub fault_of_bytes : Geometry → ℕ → ℕ → ℕ → List ℕ → Option ChainEnd
 fault_of_bytes g pages id q bytes =
-    if not (says 10 q bytes) then Some end.NotIam
+    if not (says IAM_TYPE q bytes) then Some end.NotIam
     else (if not (object_of bytes == id) then Some end.OtherObject
     else (if not (has_interval g pages (iam_interval bytes)) then Some end.WrongInterval else None))
 

@@ -9,14 +9,14 @@ use Rattle.spec_file.specs.Image.{Image, page}
 use Rattle.spec_file.specs.Places.{pfs_place, is_inside}
 use Rattle.spec_file.specs.Pfs.{is_allocated_byte}
 use Rattle.spec_file.specs.CatalogRows.{CatalogRow}
-use Rattle.spec_file.specs.Iam.{slot_count, iam_slot}
+use Rattle.spec_file.specs.Iam.{single_slot_count, iam_slot}
 use Rattle.spec_chain.specs.Chains.{IsObject, pointer, IsChainPage, IsInChain}
 use Rattle.spec_chain.specs.Marks.{IsMarked}
 
 -- slot i of an object: only the slots of its chain's first page count
 abbrev pub IsSlot : Geometry → Image → CatalogRow → ℕ → ℕ → Type 0
 IsSlot g image row i q =
-    (i < slot_count) × IsChainPage g image row zero × (iam_slot (page image (pointer image row zero)) i ≡ q)
+    (i < single_slot_count) × IsChainPage g image row zero × (iam_slot (page image (pointer image row zero)) i ≡ q)
 
 -- the slot holds a page of the file
 abbrev pub HoldsPage : Geometry → Image → CatalogRow → ℕ → ℕ → Type 0
@@ -33,7 +33,7 @@ use_cmp = then_cmp (on (λ u. u.object) nat_cmp) (on (λ u. u.place) nat_cmp)
 
 -- a use of page p by this object
 abbrev pub IsUseBy : Geometry → Image → ℕ → CatalogRow → ℕ → Type 0
-IsUseBy g image p row place = HoldsPage g image row place p ⊎ ((place ≡ slot_count) × IsInChain g image row p)
+IsUseBy g image p row place = HoldsPage g image row place p ⊎ ((place ≡ single_slot_count) × IsInChain g image row p)
 
 abbrev pub IsUse : Geometry → Image → ℕ → Use → Type 0
 IsUse g image p u =

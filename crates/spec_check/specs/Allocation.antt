@@ -10,8 +10,8 @@ use Rattle.spec_check.specs.Chains.{IsChainError}
 abbrev pub IsExtentError : Geometry → Image → CheckError → Type 0
 IsExtentError g image x = HasBothMaps g image x ⊎ (HasTwoMarkers g image x ⊎ (IsLost g image x ⊎ HasTwoClaims g image x))
 
-abbrev pub IsPageError : Geometry → Image → CheckError → Type 0
-IsPageError g image x = IsLostPage g image x ⊎ (HasTwoUses g image x ⊎ (HasWrongFlags g image x ⊎ HasWrongFullness g image x))
+abbrev pub IsUseError : Geometry → Image → CheckError → Type 0
+IsUseError g image x = IsLostPage g image x ⊎ (HasTwoUses g image x ⊎ (HasWrongFlags g image x ⊎ HasWrongFullness g image x))
 
 abbrev pub IsAllocationError : Geometry → Image → CheckError → Type 0
-IsAllocationError g image x = IsChainError g image x ⊎ (IsExtentError g image x ⊎ IsPageError g image x)
+IsAllocationError g image x = IsChainError g image x ⊎ (IsExtentError g image x ⊎ IsUseError g image x)

@@ -40,8 +40,8 @@ before image row zero = 0
 before image row (suc k) = pointer image row k
 
 -- 8969: the k-th page doesn't name the page before it
-abbrev pub HasWrongPrev : Image → CatalogRow → ℕ → CheckError → Type 0
-HasWrongPrev image row k x =
+abbrev pub HasWrongChainPrev : Image → CatalogRow → ℕ → CheckError → Type 0
+HasWrongChainPrev image row k x =
     (prev_of (page image (pointer image row k)) ≢ before image row k)
     × (x ≡ error 8969 row.id (pointer image row k) (prev_of (page image (pointer image row k))) 0 1)
 
@@ -76,7 +76,7 @@ MarksOutside g image row k x =
 -- an error of the k-th page
 abbrev pub IsErrorAt : Geometry → Image → CatalogRow → ℕ → CheckError → Type 0
 IsErrorAt g image row k x =
-    HasWrongPrev image row k x ⊎ (HasWrongSequence image row k x ⊎ (RepeatsInterval image row k x ⊎ MarksOutside g image row k x))
+    HasWrongChainPrev image row k x ⊎ (HasWrongSequence image row k x ⊎ (RepeatsInterval image row k x ⊎ MarksOutside g image row k x))
 
 -- an error of a page of the chain
 abbrev pub IsChainPageError : Geometry → Image → CatalogRow → CheckError → Type 0

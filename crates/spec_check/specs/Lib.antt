@@ -5,4 +5,3 @@ pub mod Pages
 pub mod Chains
 pub mod Allocation
 pub mod Text
-pub mod Members

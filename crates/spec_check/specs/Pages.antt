@@ -8,7 +8,7 @@ use Rattle.spec_file.specs.declared.pfs.PfsKind.TheVariants as kinds
 use Rattle.spec_file.specs.Image.{Image}
 use Rattle.spec_file.specs.Roles.{role_of, is_ordinary}
 use Rattle.spec_file.specs.Pfs.{expected}
-use Rattle.spec_file.specs.Iam.{slot_count}
+use Rattle.spec_file.specs.Iam.{single_slot_count}
 use Rattle.spec_chain.specs.Marks.{IsMarker, HasMarker}
 use Rattle.spec_chain.specs.Uses.{Use, IsUse, AreUses, HasUse, pfs_byte, is_allocated}
 use Rattle.spec_check.specs.declared.report.CheckError.{CheckError}
@@ -54,7 +54,7 @@ kind_of_role role.Ordinary = None
 
 -- a page in a single-page slot, or in a chain
 abbrev pub IsKindOfUse : ℕ → PfsKind → Type 0
-IsKindOfUse place kind = ((place < slot_count) × (kind ≡ kinds.Single)) ⊎ ((place ≡ slot_count) × (kind ≡ kinds.Iam))
+IsKindOfUse place kind = ((place < single_slot_count) × (kind ≡ kinds.Single)) ⊎ ((place ≡ single_slot_count) × (kind ≡ kinds.Iam))
 
 -- a page of an extent that an object marks
 abbrev pub IsKindOfMark : Geometry → Image → ℕ → PfsKind → Type 0
@@ -95,11 +95,11 @@ HasWrongFlags g image x =
     × (pfs_byte g image p / 8 ≢ expected kind 0 / 8) × (x ≡ wrong_byte 8948 o p (pfs_byte g image p))
 
 -- the fullness of a page that may hold rows is told by the page itself
-abbrev pub HoldsRows : PfsKind → Type 0
-HoldsRows kind = (kind ≡ kinds.Single) ⊎ (kind ≡ kinds.Uniform)
+abbrev pub MayHoldRows : PfsKind → Type 0
+MayHoldRows kind = (kind ≡ kinds.Single) ⊎ (kind ≡ kinds.Uniform)
 
 -- bits 0 to 2 are wrong, where they don't depend on the page's rows
 abbrev pub HasWrongFullness : Geometry → Image → CheckError → Type 0
 HasWrongFullness g image x =
-    (p : ℕ) × (p < length image) × (o : ℕ) × (kind : PfsKind) × IsTestedAs g image p o kind × (HoldsRows kind → ⊥)
+    (p : ℕ) × (p < length image) × (o : ℕ) × (kind : PfsKind) × IsTestedAs g image p o kind × (MayHoldRows kind → ⊥)
     × (pfs_byte g image p % 8 ≢ expected kind 0 % 8) × (x ≡ wrong_byte 8914 o p (pfs_byte g image p))

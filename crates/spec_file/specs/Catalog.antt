@@ -1,10 +1,11 @@
 -- The catalog: 128 entries of 40 bytes from offset 96 of page 9 (this project's own).
 use Rattle.std.specs.Prelude.{◌≡◌, ◌≢◌, ℕ, ◌+◌, ◌*◌, ◌<◌, ◌==◌, ◌&&◌, ◌||◌, Bool, false, IsTrue, not, nat_le, List, [], ◌∷◌, length, slice_index, slice_range}
 use Rattle.std.specs.List.{list_all}
+use Rattle.spec_file.specs.declared.sizes.TheConstants.{ENTRY_COUNT}
 use Rattle.spec_file.specs.Image.{number_at}
 
 abbrev pub entry_count : ℕ
-entry_count = 128
+entry_count = ENTRY_COUNT
 
 -- the bytes of entry i
 unfoldable pub entry_at : List ℕ → ℕ → List ℕ

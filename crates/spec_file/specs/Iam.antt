@@ -3,6 +3,7 @@ use Rattle.std.specs.Prelude.{ℕ, ◌+◌, ◌*◌, ◌/◌, ◌%◌, ◌==◌,
 use Rattle.std.specs.List.{range_with_len}
 use Rattle.std.specs.Int.{bit_at}
 use Rattle.spec_file.specs.declared.geometry.Geometry.{Geometry}
+use Rattle.spec_file.specs.declared.page_type.TheConstants.{IAM_TYPE}
 use Rattle.spec_file.specs.Image.{number_at}
 use Rattle.spec_file.specs.Header.{says}
 use Rattle.spec_file.specs.Places.{interval_start}
@@ -15,15 +16,15 @@ iam_interval bytes = number_at 4 96 bytes
 abbrev pub iam_sequence : List ℕ → ℕ
 iam_sequence bytes = number_at 4 100 bytes
 
-abbrev pub slot_count : ℕ
-slot_count = 8
+abbrev pub single_slot_count : ℕ
+single_slot_count = 8
 
 -- the page in single-page slot i; 0 stands for none
 abbrev pub iam_slot : List ℕ → ℕ → ℕ
 iam_slot bytes i = number_at 4 (104 + 4 * i) bytes
 
 abbrev pub iam_slots : List ℕ → List ℕ
-iam_slots bytes = map (iam_slot bytes) (range_with_len 0 slot_count)
+iam_slots bytes = map (iam_slot bytes) (range_with_len 0 single_slot_count)
 
 -- the page marks extent n of its interval
 abbrev pub iam_mark : List ℕ → ℕ → Bool
@@ -35,4 +36,4 @@ has_interval g pages m = nat_lt (interval_start g m) pages
 
 -- page p is an IAM page of an interval that the file has
 abbrev pub is_iam_page : Geometry → ℕ → ℕ → List ℕ → Bool
-is_iam_page g pages p bytes = says 10 p bytes && has_interval g pages (iam_interval bytes)
+is_iam_page g pages p bytes = says IAM_TYPE p bytes && has_interval g pages (iam_interval bytes)

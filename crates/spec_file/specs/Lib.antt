@@ -1,12 +1,11 @@
 pub mod Image
-pub mod ImageLaws
 pub mod Header
 pub mod Places
 pub mod PlacesLaws
 pub mod Roles
 pub mod Catalog
-pub mod NameLaws
 pub mod FileForm
 pub mod CatalogRows
 pub mod Iam
 pub mod Pfs
+pub mod Kinds

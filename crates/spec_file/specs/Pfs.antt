@@ -2,12 +2,13 @@
 -- project's own).
 use Rattle.std.specs.Prelude.{ℕ, ◌+◌, ◌-◌, ◌*◌, ◌==◌, Bool, nat_le, if◌then◌else◌}
 use Rattle.std.specs.Int.{bit_at}
+use Rattle.spec_file.specs.declared.sizes.TheConstants.{ROOM}
 use Rattle.spec_file.specs.declared.pfs.PfsKind.{PfsKind}
 use Rattle.spec_file.specs.declared.pfs.PfsKind.TheVariants.{System, Reserved, Boot, Iam, Single, Uniform, Unused}
 
 -- how many bytes of a page rows and their slots can use
 abbrev pub room : ℕ
-room = 8096
+room = ROOM
 
 -- bits 0 to 2, the fullness: 0 empty, 1 up to half full, 2 up to 80 percent, 3 up to 95 percent, 4 above
 abbrev pub fullness_of : ℕ → ℕ

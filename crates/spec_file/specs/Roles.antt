@@ -1,9 +1,10 @@
--- What each page is for, by its number alone (Pages and Extents Architecture Guide).
+-- The role of a page follows from its number (Pages and Extents Architecture Guide).
 use Rattle.std.specs.Prelude.{ℕ, ◌*◌, ◌/◌, ◌==◌, ◌||◌, Bool, true, false, if◌then◌else◌, Option, Some, None}
 use Rattle.std.specs.List.{list_any, range_with_len}
 use Rattle.spec_file.specs.declared.geometry.Geometry.{Geometry}
 use Rattle.spec_file.specs.declared.role.Role.{Role}
 use Rattle.spec_file.specs.declared.role.Role.TheVariants as role
+use Rattle.spec_file.specs.declared.page_type.TheConstants.{GAM_TYPE, SGAM_TYPE, PFS_TYPE, BOOT_TYPE}
 use Rattle.spec_file.specs.Places.{interval_of_page, gam_page, sgam_page, pfs_page}
 
 -- a PFS page is the one that speaks of itself
@@ -17,11 +18,11 @@ is_gam_page g p = p == gam_page g (interval_of_page g p)
 abbrev pub is_sgam_page : Geometry → ℕ → Bool
 is_sgam_page g p = p == sgam_page g (interval_of_page g p)
 
--- the system places are the PFS, GAM and SGAM pages
+-- a page of one of the three kinds of maps
 abbrev pub is_system_place : Geometry → ℕ → Bool
 is_system_place g p = is_pfs_page g p || is_gam_page g p || is_sgam_page g p
 
--- a system extent holds page 0 or a system place
+-- page 0 or such a page is among the eight of the extent
 abbrev pub is_system_extent : Geometry → ℕ → Bool
 is_system_extent g e = list_any (λ p. (p == 0) || is_system_place g p) (range_with_len (8 * e) 8)
 
@@ -33,10 +34,10 @@ role_of g p =
 
 -- the type that a system place and the boot page must have
 abbrev pub system_type : Role → Option ℕ
-system_type role.Pfs = Some 11
-system_type role.Gam = Some 8
-system_type role.Sgam = Some 9
-system_type role.Boot = Some 13
+system_type role.Pfs = Some PFS_TYPE
+system_type role.Gam = Some GAM_TYPE
+system_type role.Sgam = Some SGAM_TYPE
+system_type role.Boot = Some BOOT_TYPE
 system_type role.FileHeader = None
 system_type role.Reserved = None
 system_type role.Ordinary = None

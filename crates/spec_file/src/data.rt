@@ -1,4 +1,6 @@
 // Numbers with a meaning of their own, and what a transaction may hold.
+ghost use Rattle.std.specs.Prelude.{◌≡◌};
+
 use std::alloc::{AllocError, AllocFailed};
 
 /// The number of a page of the file, from 0 (Pages and Extents Architecture Guide).
@@ -15,11 +17,11 @@ pub struct ObjId(pub u32);
 pub struct ExtentNo(pub u32);
 
 /// The place of an item in the log, from 1 (this project's own).
-#[derive(Clone, Copy, Debug, PartialEq, Eq, PartialOrd, Ord)]
+#[derive(Clone, Copy, Debug, PartialEq, Eq)]
 pub struct Lsn(pub u64);
 
 /// The number of a transaction, from 1; 0 stands for none (this project's own).
-#[derive(Clone, Copy, Debug, PartialEq, Eq, PartialOrd, Ord)]
+#[derive(Clone, Copy, Debug, PartialEq, Eq)]
 pub struct Tran(pub u64);
 
 /// How an object keeps its rows: in no order, or in a tree by their keys.
@@ -27,6 +29,17 @@ pub struct Tran(pub u64);
 pub enum Kind {
     Heap,
     Clustered,
+}
+
+impl Kind {
+    ghost use Rattle.spec_file.specs.Kinds.{is_clustered};
+
+    /// Whether the rows stand in a tree.
+    pub fn is_clustered(self) -> bool
+        ensures { result ≡ is_clustered self }
+    {
+        matches!(self, Kind::Clustered)
+    }
 }
 
 /// What a transaction may hold: the catalog, an object as a whole, an extent, the PFS byte of a page,

@@ -5,11 +5,20 @@
 mod data;
 mod geometry;
 mod header;
+mod page_type;
 mod pfs;
 mod role;
+mod sizes;
 
 pub use data::{ExtentNo, Kind, Lsn, NoMemory, ObjId, PageNo, Resource, Tran};
 pub use geometry::Geometry;
 pub use header::Header;
+pub use page_type::{
+    BOOT_TYPE, DATA_TYPE, FILE_HEADER_TYPE, GAM_TYPE, IAM_TYPE, INDEX_TYPE, PFS_TYPE, SGAM_TYPE,
+};
 pub use pfs::PfsKind;
 pub use role::Role;
+pub use sizes::{
+    ENTRY_COUNT, EXTENT_SIZE, LARGEST_FILE, MAPS_START, PAGE_SIZE, PAYLOAD_LIMIT, ROOM, ROW_LIMIT,
+    SMALLEST_FILE,
+};

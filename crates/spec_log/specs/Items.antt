@@ -2,6 +2,8 @@
 use Rattle.std.specs.Prelude.{ℕ, ◌+◌, ◌==◌, ◌&&◌, Bool, true, nat_lt, nat_le, List, length, slice_index}
 use Rattle.spec_file.specs.declared.data.Resource.{Resource}
 use Rattle.spec_file.specs.declared.data.Resource.TheVariants.{Catalog, Table, Extent, Byte, Page}
+use Rattle.spec_file.specs.Image.{page_size}
+use Rattle.spec_log.specs.declared.limits.TheConstants.{MOST_CHANGES, MOST_SIZE, BIT_COUNT, SHORT}
 use Rattle.spec_log.specs.declared.item.Cell.{Cell}
 use Rattle.spec_log.specs.declared.item.Cell.TheVariants.{Bytes, Bit}
 use Rattle.spec_log.specs.declared.item.Record.{Record}
@@ -39,18 +41,18 @@ tran_of (CheckEnd session index outcome) = 0
 -- the cell of a change: 1 to 8,192 bytes inside the page, or one bit that turns
 abbrev pub has_cell_form : Cell → List ℕ → List ℕ → Bool
 has_cell_form (Bytes page off) before after =
-    nat_lt 0 (length after) && nat_le (off + length after) 8192 && (length before == length after)
+    nat_lt 0 (length after) && nat_le (off + length after) page_size && (length before == length after)
 has_cell_form (Bit page n) before after =
-    nat_lt n 63904 && (length before == 1) && (length after == 1) && (slice_index before 0 + slice_index after 0 == 1)
+    nat_lt n BIT_COUNT && (length before == 1) && (length after == 1) && (slice_index before 0 + slice_index after 0 == 1)
 
 -- the item has the form of the log's grammar
 abbrev pub has_form : Record → Bool
 has_form (Start session index tran number changes size takes) =
-    nat_lt 0 session && nat_lt 0 index && nat_le changes 8192 && nat_le size 134381568 && nat_lt (length takes) 4294967296
+    nat_lt 0 session && nat_lt 0 index && nat_le changes MOST_CHANGES && nat_le size MOST_SIZE && nat_lt (length takes) 4294967296
 has_form (Change tran cell before after) = has_cell_form cell before after
 has_form (Undo tran change) = true
 has_form (Commit tran) = true
 has_form (Abort tran) = true
 has_form (Snap session index) = nat_lt 0 session && nat_lt 0 index
 has_form (Failed session index page) = nat_lt 0 session && nat_lt 0 index
-has_form (CheckEnd session index outcome) = nat_lt 0 session && nat_lt 0 index && nat_le outcome 3
+has_form (CheckEnd session index outcome) = nat_lt 0 session && nat_lt 0 index && nat_le outcome SHORT

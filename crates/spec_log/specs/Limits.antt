@@ -1,6 +1,7 @@
 -- The sums of a log that are limited, and when a statement's changes pass a limit. Only Starts count in
 -- them, so that Snap and CheckEnd count nowhere (the limits are this project's own).
 use Rattle.std.specs.Prelude.{ℕ, ◌+◌, ◌*◌, ◌==◌, ◌&&◌, ◌||◌, not, nat_lt, Bool, if◌then◌else◌, List, [], ◌∷◌}
+use Rattle.spec_log.specs.declared.limits.TheConstants.{MOST_CHANGES, MOST_ITEMS, MOST_BYTES}
 use Rattle.spec_log.specs.declared.item.Record.{Record}
 use Rattle.spec_log.specs.declared.item.Record.TheVariants.{Start}
 
@@ -25,5 +26,5 @@ all_bytes (other ∷ older) = all_bytes older
 -- a statement of transaction t with n changes of so many bytes passes a limit
 abbrev pub passes_limit : List Record → ℕ → ℕ → ℕ → Bool
 passes_limit log t n bytes =
-    not (n == 0) && (nat_lt 8192 (changes_of t log + n) || nat_lt 1048576 (2 * (all_changes log + n))
-    || nat_lt 268435456 (all_bytes log + (bytes + 17 * n)))
+    not (n == 0) && (nat_lt MOST_CHANGES (changes_of t log + n) || nat_lt MOST_ITEMS (2 * (all_changes log + n))
+    || nat_lt MOST_BYTES (all_bytes log + (bytes + 17 * n)))

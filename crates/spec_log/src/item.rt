@@ -63,7 +63,7 @@ pub enum Record {
         index: u32,
         page: PageNo,
     },
-    /// The check ends: 0 with a report, 1 by a fault, 2 at a damaged page, 3 for want of memory.
+    /// The check ends, as `REPORTED`, `FAULTED`, `DAMAGED` or `SHORT`.
     CheckEnd {
         session: u16,
         index: u32,

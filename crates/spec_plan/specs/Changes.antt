@@ -2,6 +2,7 @@
 -- is this project's own).
 use Rattle.std.specs.Prelude.{ℕ, ◌+◌, ◌-◌, ◌*◌, ◌==◌, not, List, [], ◌∷◌, ◌++◌, filter, slice_index, slice_range}
 use Rattle.std.specs.List.{range_with_len}
+use Rattle.spec_file.specs.Image.{page_size, maps_start}
 use Rattle.spec_log.specs.declared.item.Cell.TheVariants.{Bytes}
 use Rattle.spec_plan.specs.declared.plan.Planned.{Planned}
 
@@ -29,4 +30,5 @@ change_between p old new lo hi = change_over p old new (differing old new lo hi)
 -- the changes of an ordinary page that has so many slots, before or after: rows, slots, header
 abbrev pub page_changes : ℕ → List ℕ → List ℕ → ℕ → List Planned
 page_changes p old new slots =
-    change_between p old new 96 (8192 - 2 * slots) ++ (change_between p old new (8192 - 2 * slots) 8192 ++ change_between p old new 0 96)
+    change_between p old new maps_start (page_size - 2 * slots)
+    ++ (change_between p old new (page_size - 2 * slots) page_size ++ change_between p old new 0 maps_start)

@@ -4,6 +4,7 @@ use Rattle.std.specs.Prelude.{ℕ, zero, suc, ◌/◌, ◌%◌, ◌==◌, ◌&&�
 use Rattle.std.specs.List.{list_any, list_all, range_with_len}
 use Rattle.spec_file.specs.declared.data.Resource.TheVariants as resource
 use Rattle.spec_file.specs.declared.geometry.Geometry.{Geometry}
+use Rattle.spec_file.specs.declared.page_type.TheConstants.{BOOT_TYPE, PFS_TYPE}
 use Rattle.spec_file.specs.Image.{Image, page}
 use Rattle.spec_file.specs.Header.{says}
 use Rattle.spec_file.specs.Places.{interval_size, interval_of_page, pfs_page, is_inside}
@@ -32,7 +33,7 @@ passes_catalog boot = list_all (is_good_entry boot) (range_with_len 0 entry_coun
 
 -- page 9 says what it is, and its catalog passes
 abbrev pub is_catalog : List ℕ → Bool
-is_catalog boot = says 13 9 boot && passes_catalog boot
+is_catalog boot = says BOOT_TYPE 9 boot && passes_catalog boot
 
 -- the object of this name
 abbrev pub named_among : List CatalogRow → List ℕ → Option CatalogRow
@@ -103,7 +104,7 @@ abbrev pub bytes_read : Sight → List ℕ → Outcome → Outcome
 bytes_read sight [] next = next
 bytes_read sight (p ∷ ps) next =
     unless_held sight (resource.Byte (record { 0 = p }))
-    (where_good (says 11 (pfs_page sight.geometry p) (page sight.view (pfs_page sight.geometry p))) (pfs_page sight.geometry p) (bytes_read sight ps next))
+    (where_good (says PFS_TYPE (pfs_page sight.geometry p) (page sight.view (pfs_page sight.geometry p))) (pfs_page sight.geometry p) (bytes_read sight ps next))
 
 -- what every statement on a heap reads before the object's pages: page 9, the chain, the PFS bytes
 abbrev pub heap_read : Sight → List ℕ → (CatalogRow → List ℕ → Outcome) → Outcome

@@ -3,11 +3,11 @@ use Rattle.std.specs.Prelude.{◌≡◌, ◌≢◌, ℕ, ◌*◌, ◌<◌, ◌�
 use Rattle.spec_file.specs.declared.data.Kind.TheVariants.{Heap}
 use Rattle.spec_file.specs.declared.geometry.Geometry.{Geometry}
 use Rattle.spec_file.specs.declared.geometry.Geometry.TheVariants.{Small}
-use Rattle.spec_file.specs.Image.{Image, page}
+use Rattle.spec_file.specs.Image.{Image, page, page_size}
 use Rattle.spec_file.specs.Places.{interval_size, is_inside}
 use Rattle.spec_file.specs.FileForm.{size_passes, header_passes, version_passes, geometry_of, count_passes}
 use Rattle.spec_file.specs.CatalogRows.{CatalogRow, rows_of}
-use Rattle.spec_file.specs.Iam.{slot_count, iam_interval, iam_slot, iam_mark}
+use Rattle.spec_file.specs.Iam.{single_slot_count, iam_interval, iam_slot, iam_mark}
 use Rattle.spec_log.specs.Cells.{HasWholePages}
 use Rattle.spec_check.specs.System.{IsSystemSound}
 use Rattle.spec_file.specs.Roles.{is_ordinary}
@@ -22,9 +22,9 @@ pub record IsReplayTable (g : Geometry) (image : Image) (row : CatalogRow) : Typ
   pub interval : iam_interval (page image row.first_iam) ≡ 0
   pub alone : next_of (page image row.first_iam) ≡ 0
   pub unmarked : (n : ℕ) → n < interval_size g → iam_mark (page image row.first_iam) n ≡ false
-  pub slots : (i : ℕ) → i < slot_count → iam_slot (page image row.first_iam) i ≢ 0 →
+  pub slots : (i : ℕ) → i < single_slot_count → iam_slot (page image row.first_iam) i ≢ 0 →
       IsTrue (is_inside (length image) (iam_slot (page image row.first_iam) i)) × IsTrue (is_ordinary g (iam_slot (page image row.first_iam) i))
-  pub distinct : (i j : ℕ) → j < i → i < slot_count → iam_slot (page image row.first_iam) i ≢ 0 →
+  pub distinct : (i j : ℕ) → j < i → i < single_slot_count → iam_slot (page image row.first_iam) i ≢ 0 →
       iam_slot (page image row.first_iam) i ≢ iam_slot (page image row.first_iam) j
 
 -- the catalog has no table, or one
@@ -36,7 +36,7 @@ AreReplayTables g image (row ∷ (other ∷ rows)) = ⊥
 -- a small file of at most 88 pages whose system pages are right, with at most one table
 pub record IsReplayForm (g : Geometry) (image : Image) : Type 0 where
   pub whole : HasWholePages image
-  pub size : IsTrue (size_passes (8192 * length image))
+  pub size : IsTrue (size_passes (page_size * length image))
   pub header : IsTrue (header_passes (page image 0))
   pub version : IsTrue (version_passes (page image 0))
   pub small : g ≡ Small

@@ -2,6 +2,7 @@
 -- a page or a PFS byte, the file has there what the view has.
 use Rattle.std.specs.Prelude.{◌≡◌, ℕ, ◌<◌, IsTrue, length, None}
 use Rattle.spec_file.specs.declared.data.Resource.TheVariants as resource
+use Rattle.spec_file.specs.declared.page_type.TheConstants.{PFS_TYPE}
 use Rattle.spec_file.specs.Header.{says}
 use Rattle.spec_file.specs.Image.{Image, page}
 use Rattle.spec_file.specs.Places.{pfs_page}
@@ -20,4 +21,4 @@ pub record IsShown (sight : Sight) (file : Image) : Type 0 where
       pfs_byte sight.geometry file p ≡ pfs_byte sight.geometry sight.view p
   -- no statement changes the header of a PFS page
   pub header : (p : ℕ) → p < length file →
-      says 11 (pfs_page sight.geometry p) (page file (pfs_page sight.geometry p)) ≡ says 11 (pfs_page sight.geometry p) (page sight.view (pfs_page sight.geometry p))
+      says PFS_TYPE (pfs_page sight.geometry p) (page file (pfs_page sight.geometry p)) ≡ says PFS_TYPE (pfs_page sight.geometry p) (page sight.view (pfs_page sight.geometry p))

@@ -1,11 +1,5 @@
 pub mod Rows
-pub mod RowLaws
 pub mod Slots
 pub mod PageTest
 pub mod Changes
-pub mod SlotLaws
 pub mod OrderLaws
-pub mod ApartLaws
-pub mod TestLaws
-pub mod PartLaws
-pub mod WholeRows

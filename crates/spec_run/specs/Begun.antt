@@ -3,6 +3,7 @@
 use Rattle.std.specs.Prelude.{◌≡◌, ℕ, ◌+◌, ◌==◌, if◌then◌else◌, List, [], ◌∷◌, ◌++◌, length, Option, Some, None}
 use Rattle.spec_file.specs.declared.geometry.Geometry.{Geometry}
 use Rattle.spec_file.specs.Image.{Image}
+use Rattle.spec_log.specs.declared.limits.TheConstants.{REPORTED, DAMAGED}
 use Rattle.spec_log.specs.declared.item.Record.{Record}
 use Rattle.spec_log.specs.declared.item.Record.TheVariants.{Snap, CheckEnd}
 use Rattle.spec_log.specs.Log.{greatest_of, left_of, holds, holder_of}
@@ -10,6 +11,7 @@ use Rattle.spec_log.specs.Limits.{passes_limit}
 use Rattle.spec_log.specs.Images.{view_of, committed_image, damaged_page}
 use Rattle.spec_check.specs.declared.report.CheckReport.{CheckReport}
 use Rattle.spec_tables.specs.Written.{IsCheckOf}
+use Rattle.spec_script.specs.declared.limits.TheConstants.{NO_MEMORY, IS_OPEN, NOTHING_TO_COMMIT, NOTHING_TO_UNDO}
 use Rattle.spec_script.specs.declared.reply.Reply.{Reply}
 use Rattle.spec_script.specs.declared.reply.Reply.TheVariants.{Done, Rows, Report, Terminated, Refused}
 use Rattle.spec_script.specs.declared.reply.Cause.TheVariants.{Damaged}
@@ -60,7 +62,7 @@ abbrev pub surely : ℕ → ℕ → Shape → Reply → Begun
 surely s i shape reply = record { items = items_by s i shape; telling = Answers reply; want = None }
 
 abbrev pub with_memory : ℕ → ℕ → ℕ → Shape → Reply → Begun
-with_memory s i t shape reply = record { items = items_by s i shape; telling = Answers reply; want = Some (plain_start s i t 701) }
+with_memory s i t shape reply = record { items = items_by s i shape; telling = Answers reply; want = Some (plain_start s i t NO_MEMORY) }
 
 abbrev pub refused : ℕ → ℕ → ℕ → Refusal → Begun
 refused s i t refusal = with_memory s i t (Refusing t refusal.number) (Refused refusal)
@@ -76,12 +78,12 @@ by_outcome log s i t (Writes takes changes) =
 -- the check ends at the damaged page of the log as it was found, or with the report of what is committed
 abbrev pub by_damage : Setting → List Record → ℕ → ℕ → Option ℕ → Begun
 by_damage run log s i None = record {
-  items = Snap s i ∷ CheckEnd s i 0 ∷ [];
+  items = Snap s i ∷ CheckEnd s i REPORTED ∷ [];
   telling = Reports (length (log ++ run.opened) + 1) (committed_image run.opened log run.image);
   want = None;
 }
 by_damage run log s i (Some p) = record {
-  items = Snap s i ∷ CheckEnd s i 2 ∷ [];
+  items = Snap s i ∷ CheckEnd s i DAMAGED ∷ [];
   telling = Answers (Terminated (Damaged (record { 0 = p })));
   want = None;
 }
@@ -89,11 +91,11 @@ by_damage run log s i (Some p) = record {
 abbrev pub begun : Setting → List Record → ℕ → ℕ → ℕ → Statement → Begun
 begun run log s i t statement.Begin =
     if t == 0 then surely s i (Opening (greatest_of (log ++ run.opened) + 1)) Done
-    else surely s i (Refusing t 60001) (Refused is_open)
+    else surely s i (Refusing t IS_OPEN) (Refused is_open)
 begun run log s i t statement.Commit =
-    if t == 0 then surely s i (Refusing t 3902) (Refused nothing_to_commit) else surely s i (Committing t) Done
+    if t == 0 then surely s i (Refusing t NOTHING_TO_COMMIT) (Refused nothing_to_commit) else surely s i (Committing t) Done
 begun run log s i t statement.Rollback =
-    if t == 0 then surely s i (Refusing t 3903) (Refused nothing_to_undo)
+    if t == 0 then surely s i (Refusing t NOTHING_TO_UNDO) (Refused nothing_to_undo)
     else surely s i (RollingBack t (left_of t (log ++ run.opened))) Done
 begun run log s i t (statement.Insert table key payload) =
     by_outcome (log ++ run.opened) s i t (insert_outcome (sight_of run log t) table key payload)

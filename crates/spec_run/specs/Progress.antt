@@ -1,6 +1,8 @@
 -- Where a session stands after the items of a run, and which items may come next (this project's own).
 use Rattle.std.specs.Prelude.{◌≡◌, ℕ, ◌+◌, ◌-◌, ◌==◌, Bool, false, if◌then◌else◌, List, [], ◌∷◌, length, slice_get, Option, Some, None, ◌⊎◌}
+use Rattle.spec_log.specs.declared.limits.TheConstants.{SHORT}
 use Rattle.spec_log.specs.declared.item.Record.{Record}
+use Rattle.spec_script.specs.declared.limits.TheConstants.{NO_MEMORY}
 use Rattle.spec_log.specs.declared.item.Record.TheVariants.{Start, Snap, CheckEnd}
 use Rattle.spec_log.specs.Log.{rest_of}
 use Rattle.spec_script.specs.declared.reply.Reply.TheVariants.{Done, Refused}
@@ -40,8 +42,8 @@ at_work run log s p (x ∷ due) = p
 
 -- the item ends its statement for want of memory
 abbrev pub is_short : Record → Bool
-is_short (Start session index tran number changes size takes) = number == 701
-is_short (CheckEnd session index outcome) = outcome == 3
+is_short (Start session index tran number changes size takes) = number == NO_MEMORY
+is_short (CheckEnd session index outcome) = outcome == SHORT
 is_short other = false
 
 -- behind a Snap, the check may end for want of memory

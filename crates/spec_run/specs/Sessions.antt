@@ -10,19 +10,19 @@ use Rattle.spec_run.specs.Entries.{Entry, items_of, AreMarked}
 use Rattle.spec_run.specs.Shapes.{Shape, items_by, FitsRecord}
 
 -- the session whose Start has the transaction, 0 where there is none
-abbrev pub owner_of : List Record → ℕ → ℕ
-owner_of [] t = 0
-owner_of (Start session index tran number changes size takes ∷ older) t = if tran.0 == t then session else owner_of older t
-owner_of (other ∷ older) t = owner_of older t
+abbrev pub starter_of : List Record → ℕ → ℕ
+starter_of [] t = 0
+starter_of (Start session index tran number changes size takes ∷ older) t = if tran.0 == t then session else starter_of older t
+starter_of (other ∷ older) t = starter_of older t
 
 -- the session that an item belongs to: a Change, an Undo, a Commit and an Abort belong to the session whose
 -- Start has their transaction
 abbrev pub session_of : List Record → Record → ℕ
 session_of older (Start session index tran number changes size takes) = session
-session_of older (Change tran cell before after) = owner_of older tran.0
-session_of older (Undo tran change) = owner_of older tran.0
-session_of older (Commit tran) = owner_of older tran.0
-session_of older (Abort tran) = owner_of older tran.0
+session_of older (Change tran cell before after) = starter_of older tran.0
+session_of older (Undo tran change) = starter_of older tran.0
+session_of older (Commit tran) = starter_of older tran.0
+session_of older (Abort tran) = starter_of older tran.0
 session_of older (Snap session index) = session
 session_of older (Failed session index page) = session
 session_of older (CheckEnd session index outcome) = session

@@ -2,7 +2,9 @@
 -- Snap of a check.
 use Rattle.std.specs.Prelude.{◌≡◌, ◌≢◌, ℕ, ◌+◌, ◌<◌, ◌≤◌, ◌==◌, Bool, if◌then◌else◌, List, [], ◌∷◌, ◌++◌, length, map}
 use Rattle.spec_file.specs.declared.data.Resource.{Resource}
+use Rattle.spec_log.specs.declared.limits.TheConstants.{SHORT}
 use Rattle.spec_log.specs.declared.item.Record.{Record}
+use Rattle.spec_script.specs.declared.limits.TheConstants.{READ_FAULT}
 use Rattle.spec_log.specs.declared.item.Record.TheVariants.{Start, Change, Undo, Commit, Abort, Snap, Failed, CheckEnd}
 use Rattle.spec_log.specs.Log.{greatest_of, left_of}
 use Rattle.spec_plan.specs.declared.plan.Planned.{Planned}
@@ -10,9 +12,9 @@ use Rattle.spec_plan.specs.Planned.{planned_size}
 
 -- what becomes of a statement
 pub data Shape : Type 0 where
-  -- refused, with a number that isn't 0, nor 823
+  -- refused, with a number that isn't 0, nor that of a fault
   Refused : (tran number : ℕ) → Shape
-  -- refused with 823, by a fault of the device at a page
+  -- refused by a fault of the device at a page
   Faulted : (tran page : ℕ) → Shape
   -- BEGIN: a new transaction
   Opening : (tran : ℕ) → Shape
@@ -40,7 +42,7 @@ undo_items t left = map (λ (p : ℕ × Record). Undo (record { 0 = t }) (record
 -- the items of statement i of session s
 abbrev pub items_by : ℕ → ℕ → Shape → List Record
 items_by s i (Refused t number) = plain_start s i t number ∷ []
-items_by s i (Faulted t page) = Failed s i (record { 0 = page }) ∷ plain_start s i t 823 ∷ []
+items_by s i (Faulted t page) = Failed s i (record { 0 = page }) ∷ plain_start s i t READ_FAULT ∷ []
 items_by s i (Opening t) = plain_start s i t 0 ∷ []
 items_by s i (Reading t) = plain_start s i t 0 ∷ []
 items_by s i (Writing t takes changes own) =
@@ -56,11 +58,11 @@ tran_to_write log open_tran = if open_tran == 0 then greatest_of log + 1 else op
 
 -- what becomes of a statement fits the log before its record, and the session's open transaction
 abbrev pub FitsRecord : List Record → ℕ → Shape → Type 0
-FitsRecord log open_tran (Refused t number) = (t ≡ open_tran) × (0 < number) × (number ≢ 823)
+FitsRecord log open_tran (Refused t number) = (t ≡ open_tran) × (0 < number) × (number ≢ READ_FAULT)
 FitsRecord log open_tran (Faulted t page) = t ≡ open_tran
 FitsRecord log open_tran (Opening t) = (open_tran ≡ 0) × (t ≡ greatest_of log + 1)
 FitsRecord log open_tran (Reading t) = t ≡ open_tran
 FitsRecord log open_tran (Writing t takes changes own) = (t ≡ tran_to_write log open_tran) × (own ≡ (open_tran == 0))
 FitsRecord log open_tran (Committing t) = (t ≡ open_tran) × (0 < t)
 FitsRecord log open_tran (RollingBack t left) = (t ≡ open_tran) × (0 < t) × (left ≡ left_of t log)
-FitsRecord log open_tran (Checking failed outcome) = outcome ≤ 3
+FitsRecord log open_tran (Checking failed outcome) = outcome ≤ SHORT

@@ -3,4 +3,3 @@ pub mod Texts
 pub mod Refusals
 pub mod Replies
 pub mod PageText
-pub mod Vectors

@@ -3,6 +3,7 @@ use Rattle.std.specs.Prelude.{ℕ, ◌+◌, ◌/◌, ◌%◌, ◌==◌, ◌&&◌
 use Rattle.spec_file.specs.declared.data.Resource.{Resource}
 use Rattle.spec_file.specs.declared.data.Resource.TheVariants.{Catalog, Table, Extent, Byte, Page}
 use Rattle.spec_check.specs.Text.{report_text}
+use Rattle.spec_script.specs.declared.limits.TheConstants.{NO_TABLE, SAME_NAME, SAME_KEY, HELD, READ_FAULT, BAD_PAGE}
 use Rattle.spec_script.specs.declared.reply.Reply.{Reply}
 use Rattle.spec_script.specs.declared.reply.Reply.TheVariants.{Done, Rows, Report, Terminated, Refused}
 use Rattle.spec_script.specs.declared.reply.Cause.{Cause}
@@ -42,14 +43,14 @@ holder_text (Some r) by = codes " " ++ resource_text r ++ codes " TRAN " ++ deci
 
 -- these refusals name an object
 abbrev pub is_named : ℕ → Bool
-is_named number = (number == 208) || (number == 2714)
+is_named number = (number == NO_TABLE) || (number == SAME_NAME)
 
 -- the key, the resource or the page of a refusal
 abbrev pub place_text : Refusal → List ℕ
 place_text refusal =
-    if refusal.number == 2627 then codes " " ++ decimal refusal.key
-    else (if refusal.number == 1222 then holder_text refusal.resource refusal.by.0
-    else (if (refusal.number == 823) || (refusal.number == 824) then codes " PAGE " ++ decimal refusal.page.0 else []))
+    if refusal.number == SAME_KEY then codes " " ++ decimal refusal.key
+    else (if refusal.number == HELD then holder_text refusal.resource refusal.by.0
+    else (if (refusal.number == READ_FAULT) || (refusal.number == BAD_PAGE) then codes " PAGE " ++ decimal refusal.page.0 else []))
 
 -- what a refusal says behind its number
 abbrev pub detail_text : Refusal → List ℕ

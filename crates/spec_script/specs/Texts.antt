@@ -3,6 +3,7 @@
 use Rattle.std.specs.Prelude.{◌≡◌, ℕ, ◌+◌, ◌<◌, ◌≤◌, ◌==◌, ◌||◌, Bool, IsTrue, not, List, [], ◌∷◌, ◌++◌, length, filter, codes, nat_eq}
 use Rattle.std.specs.List.{starts_with}
 use Rattle.std.specs.Str.Lines.{lines}
+use Rattle.spec_script.specs.declared.limits.TheConstants.{LONGEST_TEXT, MOST_LINES}
 use Rattle.spec_script.specs.declared.statement.Statement.{Statement}
 use Rattle.spec_script.specs.declared.stop.ScriptWhy.{ScriptWhy}
 use Rattle.spec_script.specs.declared.stop.ScriptWhy.TheVariants as why
@@ -10,10 +11,10 @@ use Rattle.spec_script.specs.Lines.{IsStatementLine, IsTurnsLine}
 
 -- the most bytes of a text, and the most lines of it that aren't skipped
 abbrev pub longest_text : ℕ
-longest_text = 16777216
+longest_text = LONGEST_TEXT
 
 abbrev pub most_lines : ℕ
-most_lines = 65536
+most_lines = MOST_LINES
 
 abbrev pub is_skipped : List ℕ → Bool
 is_skipped line = (length line == 0) || starts_with nat_eq line (codes "--")

@@ -4,11 +4,17 @@
 //! project's own.
 #![tactic(auto)]
 
+mod limits;
 mod name;
 mod reply;
 mod statement;
 mod stop;
 
+pub use limits::{
+    BAD_PAGE, HELD, IS_OPEN, LOG_FULL, LONGEST_TEXT, MOST_LINES, MOST_TURNS, MOST_WORKERS, NO_MEMORY,
+    NO_ROOM, NO_TABLE, NOTHING_TO_COMMIT, NOTHING_TO_UNDO, READ_FAULT, SAME_KEY, SAME_NAME,
+    USUAL_WORKERS,
+};
 pub use name::Name;
 pub use reply::{Cause, Refusal, Reply};
 pub use statement::Statement;

@@ -3,8 +3,8 @@
 pub enum ScriptWhy {
     /// A line is none of the language.
     Statement,
-    /// A line of the language stands behind 65,536 others.
+    /// A line of the language stands behind `MOST_LINES` others.
     Many,
-    /// The text has more than 16,777,216 bytes.
+    /// The text has more than `LONGEST_TEXT` bytes.
     Size,
 }

@@ -1,8 +1,8 @@
 -- What is known of the pages of an image: what the rules of trees speak of.
-use Rattle.std.specs.Prelude.{◌≡◌, ℕ, ◌<◌}
+use Rattle.std.specs.Prelude.{◌≡◌, ℕ, ◌<◌, IsTrue}
 use Rattle.spec_file.specs.declared.geometry.Geometry.{Geometry}
-use Rattle.spec_file.specs.declared.data.Kind.TheVariants.{Clustered}
 use Rattle.spec_file.specs.Image.{Image, page}
+use Rattle.spec_file.specs.Kinds.{is_clustered}
 use Rattle.spec_file.specs.CatalogRows.{CatalogRow}
 use Rattle.spec_chain.specs.Chains.{IsObject}
 use Rattle.spec_tree.specs.declared.known.Root.{Root}
@@ -21,7 +21,7 @@ root_of row = record { object = record { 0 = row.id }; page = record { 0 = row.r
 pub record IsRootIn (image : Image) (root : Root) : Type 0 where
   pub row : CatalogRow
   pub object : IsObject image row
-  pub clustered : row.kind ≡ Clustered
+  pub clustered : IsTrue (is_clustered row.kind)
   pub is : root ≡ root_of row
 
 -- the page is seen of an object of the catalog

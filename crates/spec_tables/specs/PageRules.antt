@@ -1,11 +1,11 @@
 -- The rules that one page shows by itself, and those of its object's PFS byte that rest on its rows.
-use Rattle.std.specs.Prelude.{◌≡◌, ◌≢◌, ◌⊎◌, ℕ, ◌+◌, ◌%◌, ◌≤◌, true, false, List, Some}
+use Rattle.std.specs.Prelude.{◌≡◌, ◌≢◌, ◌⊎◌, ℕ, ◌+◌, ◌%◌, ◌≤◌, true, false, IsTrue, if◌then◌else◌, List, Some}
 use Rattle.spec_file.specs.declared.geometry.Geometry.{Geometry}
 use Rattle.spec_file.specs.declared.data.Kind.{Kind}
-use Rattle.spec_file.specs.declared.data.Kind.TheVariants.{Heap, Clustered}
 use Rattle.spec_file.specs.Image.{Image, page}
 use Rattle.spec_file.specs.Header.{header_of}
 use Rattle.spec_file.specs.Pfs.{fullness_of}
+use Rattle.spec_file.specs.Kinds.{is_clustered}
 use Rattle.spec_file.specs.CatalogRows.{CatalogRow}
 use Rattle.spec_file.specs.Roles.{is_ordinary}
 use Rattle.spec_chain.specs.Chains.{IsObject}
@@ -40,17 +40,16 @@ pub record HasWrongOrder (row : CatalogRow) (p : ℕ) (bytes : List ℕ) (x : Ch
   pub before : ℕ
   pub low : ℕ
   pub key : ℕ
-  pub clustered : row.kind ≡ Clustered
+  pub clustered : IsTrue (is_clustered row.kind)
   pub passes : PassesTest p row.id row.kind bytes
   pub first : key_at bytes before ≡ Some low
   pub second : key_at bytes (before + 1) ≡ Some key
   pub falls : key ≤ low
   pub is : x ≡ wrong_order row.id p (before + 1) key
 
--- bits 0 to 2 of the PFS byte of a page that passes its test: the fullness of a heap's page, else 0
+-- bits 0 to 2 of the PFS byte of a page that passes its test: the fullness, but 0 in a clustered table
 abbrev pub fullness_in : Kind → List ℕ → ℕ
-fullness_in Heap bytes = fullness_of (header_of bytes).free_count
-fullness_in Clustered bytes = 0
+fullness_in kind bytes = if is_clustered kind then 0 else fullness_of (header_of bytes).free_count
 
 -- 8914: these bits of the page's PFS byte are others
 pub record HasWrongFullness (row : CatalogRow) (p pfs : ℕ) (bytes : List ℕ) (x : CheckError) : Type 0 where

@@ -4,6 +4,7 @@ use Rattle.std.specs.Prelude.{ℕ, ◌==◌, IsTrue, List, Contains, if◌then�
 use Rattle.std.specs.List.Sorted.{IsStrictlySortedBy}
 use Rattle.std.specs.Ordering.{nat_cmp}
 use Rattle.spec_file.specs.declared.geometry.Geometry.{Geometry}
+use Rattle.spec_file.specs.declared.page_type.TheConstants.{DATA_TYPE}
 use Rattle.spec_file.specs.Image.{Image, page}
 use Rattle.spec_file.specs.Header.{page_type}
 use Rattle.spec_file.specs.CatalogRows.{CatalogRow}
@@ -26,4 +27,4 @@ pub record AreSeen (g : Geometry) (image : Image) (row : CatalogRow) (pages : Li
 
 -- how many data rows a page has: they stand on pages of type 1
 abbrev pub rows_on : List ℕ → ℕ
-rows_on bytes = if page_type bytes == 1 then slot_count bytes else 0
+rows_on bytes = if page_type bytes == DATA_TYPE then slot_count bytes else 0

@@ -3,4 +3,3 @@ pub mod Parents
 pub mod ParentRules
 pub mod NeighbourRules
 pub mod Trees
-pub mod AgreeLaws

@@ -3,7 +3,7 @@ use Rattle.std.specs.Prelude.{◌≡◌, ◌≢◌, ℕ, ◌+◌, ◌<◌, ◌�
 use Rattle.spec_check.specs.declared.report.CheckError.{CheckError}
 use Rattle.spec_tree.specs.declared.known.PageHead.{PageHead}
 use Rattle.spec_tree.specs.declared.known.IndexRow.{IndexRow}
-use Rattle.spec_tree.specs.declared.known.Place.{Place}
+use Rattle.spec_tree.specs.declared.known.RowPlace.{RowPlace}
 use Rattle.spec_tree.specs.Known.{Known, IsTable, IsPage, IsRow, IsUnseenOf}
 use Rattle.spec_tree.specs.Parents.{ArePlaces, with_catalog, first_page, High, Before}
 
@@ -39,7 +39,7 @@ pub record HasTwoParents (K : Known) (k : ℕ) (x : CheckError) : Type 0 where
   pub object : ℕ
   pub root : ℕ
   pub head : PageHead
-  pub places : List Place
+  pub places : List RowPlace
   pub table : IsTable K object root
   pub page : IsPage K object k head
   pub are : ArePlaces K object k places

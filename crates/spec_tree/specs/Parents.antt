@@ -5,33 +5,33 @@ use Rattle.std.specs.Ordering.{nat_cmp, on, then_cmp}
 use Rattle.std.specs.declared.cmp.Ordering.{Ordering}
 use Rattle.spec_tree.specs.declared.known.PageHead.{PageHead}
 use Rattle.spec_tree.specs.declared.known.IndexRow.{IndexRow}
-use Rattle.spec_tree.specs.declared.known.Place.{Place}
+use Rattle.spec_tree.specs.declared.known.RowPlace.{RowPlace}
 use Rattle.spec_tree.specs.Known.{Known, IsRow, HasNoRow, IsIndexPage}
 
 -- places are ordered by page and slot
-abbrev pub place_cmp : Place → Place → Ordering
+abbrev pub place_cmp : RowPlace → RowPlace → Ordering
 place_cmp = then_cmp (on (λ x. x.page.0) nat_cmp) (on (λ x. x.slot) nat_cmp)
 
 -- where an index row stands
-abbrev pub place_of : IndexRow → Place
+abbrev pub place_of : IndexRow → RowPlace
 place_of c = record { page = c.parent; slot = c.slot }
 
 -- the places of the index rows of object o that name page p, in their order
-pub record ArePlaces (K : Known) (o p : ℕ) (places : List Place) : Type 0 where
+pub record ArePlaces (K : Known) (o p : ℕ) (places : List RowPlace) : Type 0 where
   pub sorted : IsStrictlySortedBy place_cmp places
-  pub sound : (q : Place) → Contains places q → (c : IndexRow) × IsRow K o p c × (place_of c ≡ q)
+  pub sound : (q : RowPlace) → Contains places q → (c : IndexRow) × IsRow K o p c × (place_of c ≡ q)
   pub complete : (c : IndexRow) → IsRow K o p c → Contains places (place_of c)
 
 -- the place of the catalog, which comes first
-abbrev pub catalog_place : Place
+abbrev pub catalog_place : RowPlace
 catalog_place = record { page = record { 0 = 0 }; slot = 0 }
 
 -- the parents of page p in a tree with root r: for the root the catalog comes first
-abbrev pub with_catalog : ℕ → ℕ → List Place → List Place
+abbrev pub with_catalog : ℕ → ℕ → List RowPlace → List RowPlace
 with_catalog r p places = if r == p then catalog_place ∷ places else places
 
 -- the page of the first place
-abbrev pub first_page : List Place → ℕ
+abbrev pub first_page : List RowPlace → ℕ
 first_page [] = 0
 first_page (x ∷ xs) = x.page.0
 

@@ -2,14 +2,14 @@
 use spec_file::{ObjId, PageNo};
 
 /// A clustered table of the catalog, and the root of its tree.
-#[derive(Clone, Copy, Debug, PartialEq, Eq, PartialOrd, Ord)]
+#[derive(Clone, Copy, Debug, PartialEq, Eq)]
 pub struct Root {
     pub object: ObjId,
     pub page: PageNo,
 }
 
 /// What a page of an object says of itself, with its first and last keys; none where it has no row.
-#[derive(Clone, Copy, Debug, PartialEq, Eq, PartialOrd, Ord)]
+#[derive(Clone, Copy, Debug, PartialEq, Eq)]
 pub struct PageHead {
     pub object: ObjId,
     pub page: PageNo,
@@ -25,7 +25,7 @@ pub struct PageHead {
 }
 
 /// A page of an object, and the page that it names as next.
-#[derive(Clone, Copy, Debug, PartialEq, Eq, PartialOrd, Ord)]
+#[derive(Clone, Copy, Debug, PartialEq, Eq)]
 pub struct Link {
     pub object: ObjId,
     pub page: PageNo,
@@ -34,13 +34,13 @@ pub struct Link {
 
 /// The place of a row: its page and its slot.
 #[derive(Clone, Copy, Debug, PartialEq, Eq, PartialOrd, Ord)]
-pub struct Place {
+pub struct RowPlace {
     pub page: PageNo,
     pub slot: u16,
 }
 
 /// A row of an index page, with what its page and the rows beside it say.
-#[derive(Clone, Copy, Debug, PartialEq, Eq, PartialOrd, Ord)]
+#[derive(Clone, Copy, Debug, PartialEq, Eq)]
 pub struct IndexRow {
     pub object: ObjId,
     /// The page of the row, and its slot there.

@@ -10,7 +10,7 @@ use Rattle.std.proofs.lemmas.Fmt.{digits_decimal, digits_value-decimal, decimal-
 use Rattle.spec_file.specs.Catalog.{is_name, is_name_byte}
 use Rattle.spec_script.specs.Lines.{is_payload}
 use Rattle.sql_script.specs.Reading.{◌>>=◌, is_space, are_digits, is_numeral, number_of, number_within, name_of, payload_of, after, before}
-use Rattle.spec_file.specs.NameLaws.{name_bytes}
+use Rattle.spec_file.proofs.NameLaws.{name_bytes}
 use Rattle.sql_script.proofs.Numbers.{own, numeral_digits}
 use Rattle.sql_script.proofs.Spelling.{HasNoSpace, bind_ok, after_spelled, after_parts, before_spelled, before_parts}
 

@@ -6,3 +6,4 @@ mod Printed
 mod Sentences
 mod Spelling
 mod TextSteps
+pub mod OneReading

@@ -14,7 +14,7 @@ use Rattle.spec_script.specs.Texts.{AreLines, kept, is_skipped}
 use Rattle.spec_script.specs.declared.statement.Statement.{Statement}
 use Rattle.spec_script.specs.declared.statement.Statement.TheVariants.{Begin, Commit, Rollback, Insert, Count, Check}
 use Rattle.sql_script.specs.Laws.{IsReadAgain, printed}
-use Rattle.spec_file.specs.NameLaws.{name_bytes}
+use Rattle.spec_file.proofs.NameLaws.{name_bytes}
 use Rattle.sql_script.proofs.Numbers.{own}
 use Rattle.sql_script.proofs.FirstLines.{first_of_parts}
 use Rattle.sql_script.proofs.Figures.{weaken}

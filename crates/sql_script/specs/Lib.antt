@@ -1,4 +1,3 @@
 pub mod Reading
 pub mod Stops
 pub mod Laws
-pub mod OneReading

@@ -2,3 +2,4 @@ pub mod Words
 pub mod Views
 pub mod Turns
 pub mod Moves
+pub mod Prefixes

@@ -11,7 +11,7 @@ use Rattle.atomic_table.specs.Table.{State, Me, Step, rest, step, keeps, takes, 
 use Rattle.atomic_table.proofs.Lists.{set_again}
 use Rattle.turn_seat.specs.declared.rule.SeatView.{SeatView}
 use Rattle.turn_seat.specs.Shown.{longer}
-use Rattle.turn_seat.specs.Prefixes.{prefix_longer_left, prefix_longer_right}
+use Rattle.turn_seat.proofs.Prefixes.{prefix_longer_left, prefix_longer_right}
 use Rattle.turn_seat.specs.Rule.{seat_view, outside, waiting, called, spent, with_parts_kept, with_parts_given, joined, Fitting, IsKept, Drew, Called, Counted, Passed, Settled}
 use Rattle.turn_seat.proofs.Words.{set_0_0, set_0_1, set_0_2, set_1_0, set_1_1, set_1_2, set_2_0, set_2_1, set_2_2, some_same}
 use Rattle.turn_seat.proofs.Views.{parts-within}

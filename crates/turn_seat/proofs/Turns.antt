@@ -10,7 +10,7 @@ use lib.ListN.{get_elem?}
 use Rattle.atomic_table.proofs.Lists.{at_set, at_snoc, at_longer, set_here, set_else}
 use Rattle.turn_seat.specs.declared.rule.SeatView.{SeatView}
 use Rattle.turn_seat.specs.Shown.{longer}
-use Rattle.turn_seat.specs.Prefixes.{prefix_self, prefix_trans, longer_prefix}
+use Rattle.turn_seat.proofs.Prefixes.{prefix_self, prefix_trans, longer_prefix}
 use Rattle.turn_seat.specs.Rule.{seat_view, outside, waiting, called, spent, parts_of, Holds, Fits, IsHome, IsOut, Fitting}
 use Rattle.turn_seat.proofs.Words.{at_bound, off, not_on, none_some, some_same}
 use Rattle.turn_seat.proofs.Views.{parts-set, others_none, each-set, same_view, held-set, held_before, once-set, held-snoc, once-snoc}

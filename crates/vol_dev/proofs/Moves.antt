@@ -5,7 +5,7 @@ use Rattle.std.proofs.lemmas.Slice.{between_to_end}
 use Rattle.std.specs.Io.KnownBytes.{prepend_known}
 use Rattle.spec_file.specs.Image.{page_at}
 use Rattle.vol_dev.specs.Devices.{WroteFront}
-use Rattle.vol_dev.specs.DeviceLaws.{WroteFront-nothing, WroteFront-take}
+use Rattle.vol_dev.proofs.DeviceLaws.{WroteFront-nothing, WroteFront-take}
 
 -- the slice at a page's place is that page
 pub page_read : (bytes items new : List ℕ) (p : ℕ) → bytes ≡ items

@@ -1,5 +1,4 @@
 pub mod Devices
+pub mod Files
+pub mod Output
 pub mod Memory
-pub mod DeviceLaws
-pub mod Lines
-pub mod PageLaws

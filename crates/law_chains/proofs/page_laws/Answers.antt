@@ -1,4 +1,4 @@
-use Rattle.law_chains.specs.Allocated.{pages_are_allocated, pages_rise}
+use Rattle.law_chains.proofs.Allocated.{pages_are_allocated, pages_rise}
 use Rattle.law_chains.proofs.page_laws.Goals as goal
 
 pub returns : goal.returns

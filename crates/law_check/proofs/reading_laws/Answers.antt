@@ -1,5 +1,5 @@
-use Rattle.law_check.specs.RowReading.{key_is_read, child_is_read}
-use Rattle.law_check.specs.SlotReading.{slot_has_row, slot_key_is_read, head_is_read, index_row_is_read}
+use Rattle.law_check.proofs.RowReading.{key_is_read, child_is_read}
+use Rattle.law_check.proofs.SlotReading.{slot_has_row, slot_key_is_read, head_is_read, index_row_is_read}
 use Rattle.law_check.proofs.reading_laws.Goals as goal
 
 pub returns : goal.returns

@@ -1,4 +1,4 @@
-use Rattle.law_check.specs.ReportLaw.{one_report}
+use Rattle.law_check.proofs.ReportLaw.{one_report}
 use Rattle.law_check.proofs.report_law.Goals as goal
 
 pub returns : goal.returns

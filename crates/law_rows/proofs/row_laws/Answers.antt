@@ -1,6 +1,6 @@
-use Rattle.law_rows.specs.Catalog.{catalog_passes}
-use Rattle.law_rows.specs.Inserted.{row_inserted}
-use Rattle.law_rows.specs.Passes.{page_passes}
+use Rattle.law_rows.proofs.Catalog.{catalog_passes}
+use Rattle.law_rows.proofs.Inserted.{row_inserted}
+use Rattle.law_rows.proofs.Passes.{page_passes}
 use Rattle.law_rows.proofs.row_laws.Goals as goal
 
 pub returns : goal.returns

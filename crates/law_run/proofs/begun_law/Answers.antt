@@ -1,4 +1,4 @@
-use Rattle.law_run.specs.Bounds.{begun_is_bounded}
+use Rattle.law_run.proofs.Bounds.{begun_is_bounded}
 use Rattle.law_run.proofs.begun_law.Goals as goal
 
 pub returns : goal.returns

@@ -1,4 +1,4 @@
-use Rattle.law_shape.specs.Items.{legal_has_items, whole_has_items}
+use Rattle.law_shape.proofs.Items.{legal_has_items, whole_has_items}
 use Rattle.law_shape.proofs.item_laws.Goals as goal
 
 pub returns : goal.returns

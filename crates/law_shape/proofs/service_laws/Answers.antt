@@ -1,4 +1,4 @@
-use Rattle.law_shape.specs.Items.{legal_is_served, whole_is_served}
+use Rattle.law_shape.proofs.Items.{legal_is_served, whole_is_served}
 use Rattle.law_shape.proofs.service_laws.Goals as goal
 
 pub returns : goal.returns

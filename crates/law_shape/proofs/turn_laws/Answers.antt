@@ -1,4 +1,4 @@
-use Rattle.law_shape.specs.Marking.{turns_mark, turns_are_legal}
+use Rattle.law_shape.proofs.Marking.{turns_mark, turns_are_legal}
 use Rattle.law_shape.proofs.turn_laws.Goals as goal
 
 pub returns : goal.returns

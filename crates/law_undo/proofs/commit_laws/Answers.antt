@@ -1,4 +1,4 @@
-use Rattle.law_undo.specs.Commits.{commit_shows_view, commit_changes_own, silent_items_change_nothing}
+use Rattle.law_undo.proofs.Commits.{commit_shows_view, commit_changes_own, silent_items_change_nothing}
 use Rattle.law_undo.proofs.commit_laws.Goals as goal
 
 pub returns : goal.returns

@@ -1,4 +1,4 @@
-use Rattle.law_undo.specs.Damage.{damage_is_old}
+use Rattle.law_undo.proofs.Damage.{damage_is_old}
 use Rattle.law_undo.proofs.damage_law.Goals as goal
 
 pub returns : goal.returns

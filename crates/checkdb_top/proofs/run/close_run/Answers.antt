@@ -1,8 +1,8 @@
 use Rattle.std.proofs.Common.{◌∙◌, [], map}
 use Rattle.std.proofs.lemmas.List.{length-map}
 use Rattle.spec_run.specs.Entries.{items_of}
-use Rattle.law_shape.specs.Items.{whole_is_served}
-use Rattle.law_shape.specs.Marking.{turns_are_legal}
+use Rattle.law_shape.proofs.Items.{whole_is_served}
+use Rattle.law_shape.proofs.Marking.{turns_are_legal}
 use Rattle.checkdb_top.specs.Runs.{replies_to}
 use Rattle.checkdb_top.proofs.RunCompleteness.{none_without}
 use Rattle.checkdb_top.proofs.Closings.{closed, close_of, items_order, may_write}

@@ -1,6 +1,6 @@
 use Rattle.std.proofs.Common.{◌<◌, ◌∙◌, ap, arith, drop, length, map, subst}
 use Rattle.std.proofs.lemmas.List.{length-map, take_at}
-use Rattle.run_file.specs.SourcesLaws.{failed_rose}
+use Rattle.run_file.proofs.SourcesLaws.{failed_rose}
 use Rattle.spec_file.specs.declared.data.PageNo.{PageNo}
 use Rattle.checkdb_top.specs.Answers.{Answers}
 use Rattle.checkdb_top.specs.Printings.{page_printing}

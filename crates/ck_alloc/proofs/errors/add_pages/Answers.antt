@@ -1,6 +1,6 @@
 use Rattle.std.proofs.Common.{◌≡◌, ℕ, ◌+◌, ◌*◌, arith, subst}
 use Rattle.ck_error.specs.Gathered.{Adds, Below}
-use Rattle.ck_error.specs.GatheringLaws.{adds_below_none, adds_below_more}
+use Rattle.ck_error.proofs.GatheringLaws.{adds_below_none, adds_below_more}
 use Rattle.ck_alloc.specs.MapRules.{page_state, uses_at}
 use Rattle.ck_alloc.specs.PageRules.{PageSays}
 use Rattle.ck_alloc.proofs.errors.add_pages.Goals as goal

@@ -1,5 +1,5 @@
-use Rattle.ck_error.specs.GatheringLaws.{lists_in_order}
-use Rattle.ck_facts.specs.MapLaws.{uses_by_page}
+use Rattle.ck_error.proofs.GatheringLaws.{lists_in_order}
+use Rattle.ck_facts.proofs.MapLaws.{uses_by_page}
 use Rattle.ck_alloc.proofs.MapLaws.{gathers_of}
 use Rattle.ck_alloc.proofs.errors.alloc_errors.Goals as goal
 

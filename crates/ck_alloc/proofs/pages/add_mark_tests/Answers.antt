@@ -1,5 +1,5 @@
 use Rattle.std.proofs.Common.{arith}
-use Rattle.ck_error.specs.GatheringLaws.{adds_each_none, adds_each_next, adds_each_all}
+use Rattle.ck_error.proofs.GatheringLaws.{adds_each_none, adds_each_next, adds_each_all}
 use Rattle.ck_alloc.proofs.pages.add_mark_tests.Goals as goal
 
 pub loop-i-init : goal.loop-i-init

@@ -1,4 +1,4 @@
-use Rattle.ck_error.specs.GatheringLaws.{adds_both}
+use Rattle.ck_error.proofs.GatheringLaws.{adds_both}
 use Rattle.ck_alloc.proofs.pages.add_owner_tests.Goals as goal
 
 pub returns : goal.returns

@@ -1,5 +1,5 @@
 use Rattle.std.proofs.Common.{sym, ◌∙◌}
-use Rattle.ck_error.specs.GatheringLaws.{adds_given}
+use Rattle.ck_error.proofs.GatheringLaws.{adds_given}
 use Rattle.ck_alloc.proofs.pages.add_test_alone.Goals as goal
 
 pub returns : goal.returns

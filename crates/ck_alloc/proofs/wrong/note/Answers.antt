@@ -1,4 +1,4 @@
-use Rattle.ck_error.specs.GatheringLaws.{adds_given, adds_not}
+use Rattle.ck_error.proofs.GatheringLaws.{adds_given, adds_not}
 use Rattle.ck_alloc.proofs.wrong.note.Goals as goal
 
 pub returns-then-not-is_wrong : goal.returns-then-not-is_wrong

@@ -1,4 +1,4 @@
-use Rattle.ck_chain.specs.Inside.{interval_below}
+use Rattle.ck_chain.proofs.Inside.{interval_below}
 use Rattle.ck_chain.proofs.Looking.{goes_to_iam, goes_to_interval}
 use Rattle.ck_chain.proofs.chain.take.Goals as goal
 

@@ -1,5 +1,5 @@
 use Rattle.std.proofs.Common.{arith}
-use Rattle.ck_error.specs.GatheringLaws.{adds_given}
+use Rattle.ck_error.proofs.GatheringLaws.{adds_given}
 use Rattle.ck_chain.proofs.found.note_first_slots.Goals as goal
 
 pub returns : goal.returns

@@ -1,4 +1,4 @@
-use Rattle.ck_error.specs.GatheringLaws.{adds_both}
+use Rattle.ck_error.proofs.GatheringLaws.{adds_both}
 use Rattle.ck_chain.proofs.found.take_uses.Goals as goal
 
 pub returns : goal.returns

@@ -1,4 +1,4 @@
-use Rattle.ck_error.specs.GatheringLaws.{adds_if}
+use Rattle.ck_error.proofs.GatheringLaws.{adds_if}
 use Rattle.ck_chain.proofs.pages.note_interval.Goals as goal
 
 pub returns : goal.returns

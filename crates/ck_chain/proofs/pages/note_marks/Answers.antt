@@ -1,4 +1,4 @@
-use Rattle.ck_error.specs.GatheringLaws.{adds_below_more}
+use Rattle.ck_error.proofs.GatheringLaws.{adds_below_more}
 use Rattle.ck_chain.proofs.pages.note_marks.Goals as goal
 
 pub loop-n-preserved : goal.loop-n-preserved

@@ -2,7 +2,7 @@ use Rattle.std.proofs.Common.{◌≡◌, ap}
 use Rattle.spec_file.specs.declared.data.PageNo.{PageNo}
 use Rattle.spec_chain.specs.Chains.{prev_of}
 use Rattle.pg_iam.specs.Views.{bytes_of}
-use Rattle.ck_error.specs.GatheringLaws.{adds_if}
+use Rattle.ck_error.proofs.GatheringLaws.{adds_if}
 use Rattle.ck_chain.proofs.pages.note_prev.Goals as goal
 
 pub returns : goal.returns

@@ -1,7 +1,7 @@
 use Rattle.std.proofs.Common.{◌≡◌}
 use Rattle.spec_file.specs.Iam.{iam_sequence}
 use Rattle.pg_iam.specs.Views.{bytes_of}
-use Rattle.ck_error.specs.GatheringLaws.{adds_if}
+use Rattle.ck_error.proofs.GatheringLaws.{adds_if}
 use Rattle.ck_chain.proofs.pages.note_sequence.Goals as goal
 
 pub returns : goal.returns

@@ -1,4 +1,4 @@
-use Rattle.ck_error.specs.GatheringLaws.{adds_if}
+use Rattle.ck_error.proofs.GatheringLaws.{adds_if}
 use Rattle.ck_chain.proofs.slots.note_slot.Goals as goal
 
 pub returns : goal.returns

@@ -1,4 +1,4 @@
-use Rattle.ck_error.specs.GatheringLaws.{adds_below_more}
+use Rattle.ck_error.proofs.GatheringLaws.{adds_below_more}
 use Rattle.ck_chain.proofs.slots.take_slots.Goals as goal
 
 pub loop-i-preserved : goal.loop-i-preserved

@@ -1,5 +1,5 @@
 use Rattle.std.proofs.Common.{[]}
-use Rattle.ck_error.specs.GatheringLaws.{adds_both}
+use Rattle.ck_error.proofs.GatheringLaws.{adds_both}
 use Rattle.ck_facts.specs.Tested.{IsOutOfOrder, HasOtherFullness}
 use Rattle.ck_facts.proofs.shown.errors_of.Goals as goal
 

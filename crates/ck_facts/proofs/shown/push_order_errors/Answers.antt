@@ -1,4 +1,4 @@
-use Rattle.ck_error.specs.GatheringLaws.{adds_given}
+use Rattle.ck_error.proofs.GatheringLaws.{adds_given}
 use Rattle.ck_facts.specs.Tested.{Falls}
 use Rattle.ck_facts.proofs.shown.push_order_errors.Goals as goal
 

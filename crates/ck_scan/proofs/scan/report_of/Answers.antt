@@ -3,7 +3,7 @@ use Rattle.spec_check.specs.Errors.{Lists}
 use Rattle.spec_tables.specs.Lines.{AreTables}
 use Rattle.spec_tables.specs.Written.{IsRuleError}
 use Rattle.spec_tree.specs.Trees.{IsTreeError}
-use Rattle.ck_error.specs.GatheringLaws.{lists_in_order}
+use Rattle.ck_error.proofs.GatheringLaws.{lists_in_order}
 use Rattle.ck_facts.specs.Facts.{known_of}
 use Rattle.ck_scan.proofs.Reports.{Joins, rule_errors}
 use Rattle.ck_scan.proofs.TableLaws.{tables_found}

@@ -1,4 +1,4 @@
-use Rattle.spec_file.specs.NameLaws.{name_is_text}
+use Rattle.spec_file.proofs.NameLaws.{name_is_text}
 use Rattle.db_cat.proofs.rows.read_name.Goals as goal
 
 pub unreachable-requires : goal.unreachable-requires

@@ -2,7 +2,7 @@ use Rattle.std.proofs.Common.{ℕ, sym, ap, ◌∙◌}
 use Rattle.spec_file.specs.declared.geometry.Geometry.{Geometry}
 use Rattle.spec_file.specs.Places.{pfs_page}
 use Rattle.spec_plan.specs.Sight.{where_good}
-use Rattle.db_heap.specs.ReadsLaws.{answers_then, answers_exit, same_good}
+use Rattle.db_heap.proofs.ReadsLaws.{answers_then, answers_exit, same_good}
 use Rattle.db_heap.proofs.bytes.read_byte.Goals as goal
 
 pub returns-in_err-unless_held-clause-passes : goal.returns-in_err-unless_held-clause-passes

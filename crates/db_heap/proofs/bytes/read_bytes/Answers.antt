@@ -1,7 +1,7 @@
 use Rattle.std.proofs.Common.{List, ap, ◌∙◌, subst, ℕ, All, ◌<◌, length}
 use Rattle.spec_plan.specs.Reading.{bytes_read}
 use Rattle.db_heap.specs.Heaps.{IsByteFree}
-use Rattle.db_heap.specs.ReadsLaws.{answers_then, answers_exit}
+use Rattle.db_heap.proofs.ReadsLaws.{answers_then, answers_exit}
 use Rattle.db_heap.proofs.Lists.{all_at, all_more, drop_at, take_at, drop_none, take_whole}
 use Rattle.db_heap.proofs.bytes.read_bytes.Goals as goal
 

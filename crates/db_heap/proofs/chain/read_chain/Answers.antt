@@ -5,7 +5,7 @@ use Rattle.spec_plan.specs.Sight.{Outcome, Refuses}
 use Rattle.spec_plan.specs.Reading.{chain_from}
 use Rattle.spec_chain.specs.Chains.{is_last}
 use Rattle.db_cat.specs.Rows.{row_of}
-use Rattle.db_heap.specs.ReadsLaws.{answers_then, answers_exit}
+use Rattle.db_heap.proofs.ReadsLaws.{answers_then, answers_exit}
 use Rattle.db_heap.specs.Heaps.{numbers, link_read, IsSeenIam}
 use Rattle.db_heap.proofs.Lists.{all_more}
 use Rattle.db_heap.proofs.ChainSteps.{chain_last, chain_more, chain_full, chain_starts}

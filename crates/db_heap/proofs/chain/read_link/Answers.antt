@@ -1,7 +1,7 @@
 use Rattle.std.proofs.Common.{ap, sym, ◌∙◌}
 use Rattle.spec_chain.specs.Chains.{next_of}
 use Rattle.spec_file.specs.declared.header.Header.{Header}
-use Rattle.db_heap.specs.ReadsLaws.{answers_then, answers_exit, same_good}
+use Rattle.db_heap.proofs.ReadsLaws.{answers_then, answers_exit, same_good}
 use Rattle.db_heap.proofs.Seen.{inside_seen}
 use Rattle.db_heap.proofs.chain.read_link.Goals as goal
 

@@ -2,7 +2,7 @@ use Rattle.std.proofs.Common.{ℕ, List}
 use Rattle.spec_file.specs.CatalogRows.{CatalogRow}
 use Rattle.spec_plan.specs.Sight.{Counts}
 use Rattle.spec_plan.specs.Statements.{counted}
-use Rattle.db_heap.specs.ReadsLaws.{answers_exit}
+use Rattle.db_heap.proofs.ReadsLaws.{answers_exit}
 use Rattle.db_heap.proofs.count.count.Goals as goal
 
 pub returns-in_err-heap : goal.returns-in_err-heap

@@ -3,7 +3,7 @@ use Rattle.spec_rows.specs.Slots.{slot_count}
 use Rattle.spec_plan.specs.Statements.{counted}
 use Rattle.db_cat.specs.Rows.{row_of}
 use Rattle.db_heap.specs.Heaps.{numbers, IsByteFree}
-use Rattle.db_heap.specs.ReadsLaws.{answers_then, answers_exit}
+use Rattle.db_heap.proofs.ReadsLaws.{answers_then, answers_exit}
 use Rattle.db_heap.proofs.Lists.{all_at, drop_at}
 use Rattle.db_heap.proofs.count.count_rows.Goals as goal
 

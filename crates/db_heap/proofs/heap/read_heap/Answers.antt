@@ -3,7 +3,7 @@ use Rattle.spec_file.specs.CatalogRows.{CatalogRow}
 use Rattle.spec_plan.specs.Sight.{Outcome}
 use Rattle.db_cat.specs.Rows.{row_of}
 use Rattle.db_heap.specs.Heaps.{chain_bytes_read}
-use Rattle.db_heap.specs.ReadsLaws.{answers_then, answers_exit}
+use Rattle.db_heap.proofs.ReadsLaws.{answers_then, answers_exit}
 use Rattle.db_heap.proofs.heap.read_heap.Goals as goal
 
 pub returns-in_err-row-clause-reads : goal.returns-in_err-row-clause-reads

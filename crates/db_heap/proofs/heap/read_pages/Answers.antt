@@ -3,7 +3,7 @@ use Rattle.spec_file.specs.declared.data.PageNo.{PageNo}
 use Rattle.spec_plan.specs.Sight.{Outcome}
 use Rattle.spec_plan.specs.Reading.{bytes_read, byte_pages, object_pages}
 use Rattle.db_heap.specs.Heaps.{numbers}
-use Rattle.db_heap.specs.ReadsLaws.{answers_then, answers_exit}
+use Rattle.db_heap.proofs.ReadsLaws.{answers_then, answers_exit}
 use Rattle.db_heap.proofs.heap.read_pages.Goals as goal
 
 pub returns-in_err-chain-clause-reads : goal.returns-in_err-chain-clause-reads

@@ -1,5 +1,5 @@
 use Rattle.std.proofs.Common.{sym}
-use Rattle.db_heap.specs.ReadsLaws.{answers_then, answers_exit, same_good}
+use Rattle.db_heap.proofs.ReadsLaws.{answers_then, answers_exit, same_good}
 use Rattle.db_heap.proofs.heap_pages.read_heap_page.Goals as goal
 
 pub returns-in_err-unless_held-clause-passes : goal.returns-in_err-unless_held-clause-passes

@@ -2,7 +2,7 @@ use Rattle.std.proofs.Common.{◌+◌, get_or, drop, ap, ◌∙◌}
 use Rattle.spec_plan.specs.Statements.{inserted}
 use Rattle.db_cat.specs.Rows.{row_of}
 use Rattle.db_heap.specs.Heaps.{numbers, IsByteFree}
-use Rattle.db_heap.specs.ReadsLaws.{answers_then, answers_exit}
+use Rattle.db_heap.proofs.ReadsLaws.{answers_then, answers_exit}
 use Rattle.db_heap.proofs.Lists.{all_at, drop_at}
 use Rattle.db_heap.proofs.Inserting.{after_room, inserted_step}
 use Rattle.db_heap.proofs.insert.find_room.Goals as goal

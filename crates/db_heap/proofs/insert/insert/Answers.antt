@@ -5,7 +5,7 @@ use Rattle.spec_plan.specs.Statements.{inserted}
 use Rattle.db_cat.specs.Rows.{row_of}
 use Rattle.db_heap.specs.Heaps.{numbers}
 use Rattle.db_heap.specs.Plans.{outcome_of}
-use Rattle.db_heap.specs.ReadsLaws.{answers_exit}
+use Rattle.db_heap.proofs.ReadsLaws.{answers_exit}
 use Rattle.db_heap.proofs.insert.insert.Goals as goal
 
 pub returns-in_err-heap : goal.returns-in_err-heap

@@ -1,7 +1,7 @@
 use Rattle.std.proofs.Common.{◌≡◌, ℕ, List, false, length, ap, sym, ◌∙◌}
 use Rattle.spec_plan.specs.Rows.{has_room_for}
 use Rattle.db_cat.specs.Rows.{row_of}
-use Rattle.db_heap.specs.ReadsLaws.{answers_then, answers_exit}
+use Rattle.db_heap.proofs.ReadsLaws.{answers_then, answers_exit}
 use Rattle.db_heap.proofs.Inserting.{is_full, room_asked}
 use Rattle.db_heap.proofs.insert.test_room.Goals as goal
 

@@ -1,7 +1,7 @@
 use Rattle.std.proofs.Common.{◌≡◌, ◌+◌, ap, ◌∙◌, arith, filter, length}
 use Rattle.std.specs.List.{range_with_len}
 use Rattle.db_heap.specs.Heaps.{numbers, has_byte}
-use Rattle.law_rows.specs.Parts.{range_more}
+use Rattle.law_rows.proofs.Parts.{range_more}
 use Rattle.db_heap.proofs.Lists.{filter_more, all_filtered}
 use Rattle.db_heap.proofs.marks.byte_pages.Goals as goal
 

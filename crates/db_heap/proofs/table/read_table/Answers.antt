@@ -3,7 +3,7 @@ use Rattle.spec_file.specs.declared.data.Resource.TheVariants as resource
 use Rattle.spec_file.specs.CatalogRows.{CatalogRow}
 use Rattle.spec_plan.specs.Sight.{Sight, Outcome, unless_held}
 use Rattle.spec_plan.specs.Reading.{where_named, named_among}
-use Rattle.db_heap.specs.ReadsLaws.{answers_then, answers_exit}
+use Rattle.db_heap.proofs.ReadsLaws.{answers_then, answers_exit}
 use Rattle.db_heap.specs.Heaps.{catalog_read}
 use Rattle.db_heap.proofs.Seen.{catalog_seen}
 use Rattle.db_heap.proofs.table.read_table.Goals as goal

@@ -1,6 +1,6 @@
 use Rattle.std.proofs.Common.{◌∙◌}
 use Rattle.spec_plan.specs.Rows.{passes_page}
-use Rattle.law_rows.specs.Passes.{test_from, test_into}
+use Rattle.law_rows.proofs.Passes.{test_from, test_into}
 use Rattle.heap_page.proofs.Answered.{ok_is}
 use Rattle.heap_page.proofs.page.is_heap_page.Goals as goal
 

@@ -1,5 +1,5 @@
 use Rattle.std.proofs.Common.{◌∙◌, arith}
-use Rattle.pg_base.specs.NumberLaws.{number_stays, front_stays, back_stays}
+use Rattle.pg_base.proofs.NumberLaws.{number_stays, front_stays, back_stays}
 use Rattle.pg_base.proofs.header.write_counts.Goals as goal
 
 pub returns-clause-slots : goal.returns-clause-slots

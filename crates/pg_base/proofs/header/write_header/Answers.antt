@@ -1,7 +1,7 @@
 use Rattle.std.proofs.Common.{◌≡◌, ◌∙◌, drop, slice_index, arith, refl}
 use Rattle.spec_file.specs.Image.{number_at}
 use Rattle.pg_base.proofs.FirstBytes.{with_first, first_byte, second_byte, third_byte, fourth_byte, bytes_behind}
-use Rattle.pg_base.specs.NumberLaws.{same_number, same_byte, same_back}
+use Rattle.pg_base.proofs.NumberLaws.{same_number, same_byte, same_back}
 use Rattle.pg_base.proofs.header.write_header.Goals as goal
 
 pub returns-clause-read : goal.returns-clause-read

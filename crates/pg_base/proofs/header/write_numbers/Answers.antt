@@ -1,5 +1,5 @@
 use Rattle.std.proofs.Common.{◌∙◌, arith}
-use Rattle.pg_base.specs.NumberLaws.{number_stays, front_stays, back_stays}
+use Rattle.pg_base.proofs.NumberLaws.{number_stays, front_stays, back_stays}
 use Rattle.pg_base.proofs.header.write_numbers.Goals as goal
 
 pub returns-clause-page_id : goal.returns-clause-page_id

@@ -1,8 +1,8 @@
 use Rattle.std.proofs.Common.{◌≡◌, ℕ, List, take, drop, slice_index, arith, ap, sym, ◌∙◌}
 use Rattle.std.proofs.lemmas.List.{drop-take}
-use Rattle.pg_base.specs.NumberLaws.{front_stays, back_stays, number_stays, same_byte, same_back}
+use Rattle.pg_base.proofs.NumberLaws.{front_stays, back_stays, number_stays, same_byte, same_back}
 use Rattle.pg_base.specs.Zeros.{zero_page}
-use Rattle.pg_base.specs.HeaderLaws.{same_header}
+use Rattle.pg_base.proofs.HeaderLaws.{same_header}
 use Rattle.pg_iam.proofs.write.make_iam.Goals as goal
 
 kept : (c : goal.After-put_u32-2) → take 96 c.put_u32-2.new.page.bytes ≡ take 96 c.write_header.new.page.bytes

@@ -1,6 +1,6 @@
 use Rattle.std.proofs.Common.{◌+◌, ◌*◌, arith, inl, inr}
 use Rattle.std.proofs.lemmas.Bool.{cases_order}
-use Rattle.pg_base.specs.NumberLaws.{number_stays, same_number_behind}
+use Rattle.pg_base.proofs.NumberLaws.{number_stays, same_number_behind}
 use Rattle.pg_iam.proofs.write.set_slot.Goals as goal
 
 pub returns-clause-other_slots : goal.returns-clause-other_slots

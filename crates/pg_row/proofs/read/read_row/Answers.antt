@@ -1,7 +1,7 @@
 use Rattle.std.proofs.Common.{◌≡◌, ◌-◌, false, None, refl, length, take, drop, length-drop, arith, sym, ◌∙◌}
 use Rattle.std.proofs.lemmas.List.{take_all}
 use Rattle.spec_rows.specs.Rows.{is_data_row, is_index_row, row_of}
-use Rattle.spec_rows.specs.RowLaws.{data_spelled, index_spelled, no_row}
+use Rattle.spec_rows.proofs.RowLaws.{data_spelled, index_spelled, no_row}
 use Rattle.pg_row.proofs.read.read_row.Goals as goal
 
 pub returns-then-is_data_row-clause-spelled : goal.returns-then-is_data_row-clause-spelled

@@ -1,7 +1,7 @@
 use Rattle.std.proofs.Common.{ℕ, List, [], ◌∷◌, ◌++◌, length, arith, ap, refl, ◌∙◌}
 use Rattle.byteorder.specs.Endian.{little_bytes}
 use Rattle.spec_rows.specs.Rows.{IndexRow, row_bytes, row_of}
-use Rattle.spec_rows.specs.RowLaws.{reads_back}
+use Rattle.spec_rows.proofs.RowLaws.{reads_back}
 use Rattle.pg_row.proofs.Follow.{follows, stays}
 use Rattle.pg_row.proofs.write.write_index.Goals as goal
 

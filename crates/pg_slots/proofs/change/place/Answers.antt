@@ -3,9 +3,9 @@ use Rattle.spec_file.specs.declared.header.Header.{Header}
 use Rattle.spec_file.specs.Header.{header_of}
 use Rattle.spec_rows.specs.Slots.{slot_count, rows_end}
 use Rattle.spec_rows.specs.Changes.{with_counts}
-use Rattle.spec_rows.specs.SlotLaws.{rows_room}
-use Rattle.pg_base.specs.NumberLaws.{same_front}
-use Rattle.pg_base.specs.HeaderLaws.{same_header}
+use Rattle.spec_rows.proofs.SlotLaws.{rows_room}
+use Rattle.pg_base.proofs.NumberLaws.{same_front}
+use Rattle.pg_base.proofs.HeaderLaws.{same_header}
 use Rattle.pg_slots.proofs.Bytes.{stays_front, stays_back, slot_stays_back}
 use Rattle.pg_slots.proofs.change.place.Goals as goal
 
@@ -18,7 +18,7 @@ returns c =
     let said = c.read_header-header.result in
     let read = c.read_header-header.ensures in
     let long = length c.args.row.now in
-    let room = rows_room (header_of old) c.requires.holds.room in
+    let room = rows_room (header_of old) c.requires.room in
     let open_facts = c.open_slot.ensures in
     let put_facts = c.put_row.ensures in
     let counts = c.set_counts.ensures in

@@ -3,9 +3,9 @@ use Rattle.spec_file.specs.declared.header.Header.{Header}
 use Rattle.spec_file.specs.Header.{header_of}
 use Rattle.spec_rows.specs.Slots.{slot_count, rows_size}
 use Rattle.spec_rows.specs.Changes.{with_counts}
-use Rattle.spec_rows.specs.SlotLaws.{rows_room}
-use Rattle.pg_base.specs.NumberLaws.{same_front}
-use Rattle.pg_base.specs.HeaderLaws.{same_header}
+use Rattle.spec_rows.proofs.SlotLaws.{rows_room}
+use Rattle.pg_base.proofs.NumberLaws.{same_front}
+use Rattle.pg_base.proofs.HeaderLaws.{same_header}
 use Rattle.pg_slots.proofs.Bytes.{stays_front, stays_back, slot_stays_back}
 use Rattle.pg_slots.proofs.Compacted.{rises}
 use Rattle.pg_slots.proofs.pack.move_together.Goals as goal

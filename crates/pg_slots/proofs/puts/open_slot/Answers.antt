@@ -1,7 +1,7 @@
 use Rattle.std.proofs.Common.{ℕ, ◌+◌, ◌-◌, ◌*◌, arith, ap, sym, ◌∙◌, inl, inr}
 use Rattle.std.proofs.lemmas.Bool.{cases_eq}
 use Rattle.spec_rows.specs.Slots.{slot_at}
-use Rattle.pg_base.specs.NumberLaws.{same_front}
+use Rattle.pg_base.proofs.NumberLaws.{same_front}
 use Rattle.pg_slots.proofs.puts.open_slot.Goals as goal
 
 pub loop-k-preserved : goal.loop-k-preserved

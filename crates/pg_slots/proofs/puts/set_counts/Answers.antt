@@ -1,6 +1,6 @@
 use Rattle.std.proofs.Common.{◌≡◌, refl, ◌∙◌, arith}
 use Rattle.spec_file.specs.Image.{number_at}
-use Rattle.pg_base.specs.NumberLaws.{number_stays, front_stays, back_stays, same_number, same_byte, same_number_behind}
+use Rattle.pg_base.proofs.NumberLaws.{number_stays, front_stays, back_stays, same_number, same_byte, same_number_behind}
 use Rattle.pg_slots.proofs.puts.set_counts.Goals as goal
 
 pub returns-clause-front : goal.returns-clause-front

@@ -1,4 +1,4 @@
-use Rattle.run_file.specs.OpeningLaws.{told_passes}
+use Rattle.run_file.proofs.OpeningLaws.{told_passes}
 use Rattle.run_file.proofs.Refusals.{later_file}
 use Rattle.run_file.proofs.opening.open_file.Goals as goal
 

@@ -1,5 +1,5 @@
 use Rattle.spec_script.specs.Lines.{IsTurnsLine}
-use Rattle.sql_script.specs.OneReading.{says_one, never_both, one_fault}
+use Rattle.sql_script.proofs.OneReading.{says_one, never_both, one_fault}
 use Rattle.sql_script.proofs.Sentences.{one_turns}
 use Rattle.sql_script.proofs.laws.schedule_law.Goals as goal
 

@@ -1,5 +1,5 @@
 use Rattle.spec_script.specs.Lines.{IsStatementLine}
-use Rattle.sql_script.specs.OneReading.{says_one, never_both, one_fault}
+use Rattle.sql_script.proofs.OneReading.{says_one, never_both, one_fault}
 use Rattle.sql_script.proofs.Printed.{read_again}
 use Rattle.sql_script.proofs.Sentences.{one_statement}
 use Rattle.sql_script.proofs.laws.script_law.Goals as goal

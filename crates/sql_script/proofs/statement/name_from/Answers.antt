@@ -1,4 +1,4 @@
-use Rattle.spec_file.specs.NameLaws.{name_is_text}
+use Rattle.spec_file.proofs.NameLaws.{name_is_text}
 use Rattle.sql_script.proofs.statement.name_from.Goals as goal
 
 pub unreachable-requires : goal.unreachable-requires

@@ -4,7 +4,7 @@ use Rattle.ck_facts.specs.declared.map.PageUse.{PageUse}
 use Rattle.ck_facts.specs.declared.owners.OwnedPage.{OwnedPage}
 use Rattle.ck_facts.specs.OwnedBy.{is_owned_by, owners_of}
 use Rattle.ck_facts.proofs.OwnerLists.{AreOwnersUpTo, owners_none, owners_nowhere, owners_next}
-use Rattle.ck_facts.specs.MapLaws.{uses_by_page}
+use Rattle.ck_facts.proofs.MapLaws.{uses_by_page}
 use Rattle.ck_facts.proofs.OwnerLaws.{owns, owners_are, never_owned, uses_found, all_owners}
 use Rattle.ck_facts.proofs.map.AllocMap.pages_in.Goals as goal
 

@@ -1,0 +1,3 @@
+pub mod Allocated
+pub mod Ranges
+pub mod Reads

@@ -1,0 +1,3 @@
+pub mod ReportLaw
+pub mod RowReading
+pub mod SlotReading

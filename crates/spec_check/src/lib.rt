@@ -2,8 +2,10 @@
 //! which errors an image has, in what order a report lists them, and how it is printed.
 #![tactic(auto)]
 
+mod claims;
 mod report;
 
+pub use claims::Claims;
 pub use report::{CheckError, CheckReport, TableLine};
 
 #[cfg(test)]

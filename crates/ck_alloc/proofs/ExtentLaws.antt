@@ -10,9 +10,10 @@ use Rattle.spec_file.specs.Roles.{is_system_extent}
 use Rattle.spec_chain.specs.Marks.{AreMarkers}
 use Rattle.spec_check.specs.declared.report.CheckError.{CheckError}
 use Rattle.spec_check.specs.Allocation.{IsExtentError}
-use Rattle.spec_check.specs.Maps.{GivesTwoMarkers, HoldsUse, HasNoOwner, IsLost, Claims, AreClaims, claim_count, two_claims, HasTwoClaims}
+use Rattle.spec_check.specs.Maps.{GivesTwoMarkers, HoldsUse, HasNoClaim, IsLost, AreClaims, claim_count, two_claims, HasTwoClaims}
 use Rattle.ck_alloc.specs.declared.extents.ExtentState.{ExtentState}
-use Rattle.ck_alloc.specs.ExtentRules.{claims_of, has_no_owner, LostSays, ClaimsSay, ExtentSays}
+use Rattle.spec_check.specs.declared.claims.Claims.{Claims}
+use Rattle.ck_alloc.specs.ExtentRules.{claims_of, has_no_claim, LostSays, ClaimsSay, ExtentSays}
 use Rattle.spec_check.proofs.Members.{none_there, none_from, sorted_same}
 
 -- the state of an extent of an image
@@ -61,7 +62,7 @@ lost_there g image e used ids x below held are (none, is) =
       clash b p q = cc
 
 lost_back : (g : Geometry) (image : Image) (e : ℕ) (used : Bool) (ids : List ℕ) → IsTrue used ↔ HoldsUse g image e → AreMarkers g image e ids
-    → HasNoOwner g image e → IsTrue (has_no_owner (seen_extent g image e used) ids)
+    → HasNoClaim g image e → IsTrue (has_no_claim (seen_extent g image e used) ids)
 lost_back g image e used ids held are nobody =
     lost_from (is_free g image e) (is_mixed g image e) (is_system_extent g e) used (length ids == 0) nobody.free nobody.mixed nobody.system
     (false_from_ne_true used (λ h. nobody.uses (held.0 h))) (none_from ids (λ o h. nobody.marks (o, are.sound o h)))

@@ -10,7 +10,7 @@ use Rattle.spec_file.specs.Places.{HasShape}
 use Rattle.ck_alloc.specs.declared.places.SystemKind.TheVariants.{Pfs, Gam, Sgam}
 use Rattle.ck_alloc.specs.declared.system_maps.SystemMaps.{SystemMaps}
 use Rattle.ck_alloc.specs.SystemPlaces.{place_count, bit_in, byte_in}
-use Rattle.ck_alloc.specs.SystemMaps.{PagesRead, ArePagesOf, GivesError, IsErrorOfPages, SaysValues, AreSaidBy, AreSystemMaps, HaveSizes}
+use Rattle.ck_alloc.specs.SystemMaps.{PagesRead, ArePagesOf, GivesError, IsErrorOfPages, SaysValues, AreSaidBy, AreSystemMaps, HaveSizes, AreMapsRead}
 use Rattle.spec_file.specs.Catalog.{PassesCatalog}
 use Rattle.ck_alloc.proofs.OfImage.{told_maps, sizes_of}
 use Rattle.ck_alloc.proofs.BootTested.{boot_tested}
@@ -49,14 +49,22 @@ unfolding pages_read
 pages_are g pages None maps r = tt
 pages_are g pages (Some image) maps r = record { pfs = r.pfs.are; gam = r.gam.are; sgam = r.sgam.are; boot = r.boot }
 
-pub system_told : (g : Geometry) (pages : ℕ) (told : Option Image) (maps : SystemMaps) → HasShape g pages → ForSome told (λ image. length image ≡ pages)
+system_told : (g : Geometry) (pages : ℕ) (told : Option Image) (maps : SystemMaps) → HasShape g pages → ForSome told (λ image. length image ≡ pages)
     → IsReadInTurn g pages told maps → IfSome told (AreSystemMaps g maps)
 system_told g pages told maps shape whole r =
     told_maps told g pages (pages_read g pages told maps r) maps shape whole (pages_are g pages told maps r) (said_by g pages told maps r)
 
-pub system_sizes : (g : Geometry) (pages : ℕ) (told : Option Image) (maps : SystemMaps) → IsReadInTurn g pages told maps → HaveSizes pages maps
+system_sizes : (g : Geometry) (pages : ℕ) (told : Option Image) (maps : SystemMaps) → IsReadInTurn g pages told maps → HaveSizes pages maps
 system_sizes g pages told maps r = sizes_of g pages (pages_read g pages told maps r) maps (said_by g pages told maps r)
 
-pub system_boot : (g : Geometry) (pages : ℕ) (told : Option Image) (maps : SystemMaps) → IsReadInTurn g pages told maps
+system_boot : (g : Geometry) (pages : ℕ) (told : Option Image) (maps : SystemMaps) → IsReadInTurn g pages told maps
     → maps.errors.items ≡ [] → (PassesCatalog maps.boot.value.bytes → ⊥) → ⊥
 system_boot g pages told maps r = boot_tested g pages (pages_read g pages told maps r) maps (said_by g pages told maps r)
+
+pub maps_read : (g : Geometry) (pages : ℕ) (told : Option Image) (maps : SystemMaps) → HasShape g pages → ForSome told (λ image. length image ≡ pages)
+    → IsReadInTurn g pages told maps → AreMapsRead g pages told maps
+maps_read g pages told maps shape whole r = record {
+  said = system_told g pages told maps shape whole r;
+  sizes = system_sizes g pages told maps r;
+  boot = system_boot g pages told maps r;
+}

@@ -1,9 +1,10 @@
 -- The system pages of a file, and what they say of its extents and pages.
-use Rattle.std.specs.Prelude.{◌≡◌, ◌⊎◌, ℕ, ◌/◌, List, length, map, vec_len, Option, IfSome}
+use Rattle.std.specs.Prelude.{◌≡◌, ◌⊎◌, ℕ, ◌/◌, List, [], length, map, vec_len, Option, IfSome}
 use Rattle.std.specs.List.{range_with_len}
 use Rattle.spec_file.specs.declared.geometry.Geometry.{Geometry}
 use Rattle.spec_file.specs.Image.{Image, page}
 use Rattle.spec_file.specs.Places.{is_free, is_mixed, extent_count}
+use Rattle.spec_file.specs.Catalog.{PassesCatalog}
 use Rattle.spec_chain.specs.Uses.{pfs_byte}
 use Rattle.spec_check.specs.declared.report.CheckError.{CheckError}
 use Rattle.spec_check.specs.System.{IsWrong, IsErrorOf, IsSystemError}
@@ -76,3 +77,10 @@ pub record HaveSizes (pages : ℕ) (maps : SystemMaps) : Type 0 where
   pub free : vec_len maps.free ≡ pages / 8
   pub mixed : vec_len maps.mixed ≡ pages / 8
   pub pfs : vec_len maps.pfs ≡ pages
+
+-- what is known of the system maps of a file of so many pages, whose reader may tell its image. Where they have
+-- no error the catalog passes its test.
+pub record AreMapsRead (g : Geometry) (pages : ℕ) (told : Option Image) (maps : SystemMaps) : Type 0 where
+  pub said : IfSome told (AreSystemMaps g maps)
+  pub sizes : HaveSizes pages maps
+  pub boot : maps.errors.items ≡ [] → (PassesCatalog maps.boot.value.bytes → ⊥) → ⊥

@@ -1,9 +1,10 @@
 // The allocation errors of a file, by its maps.
-ghost use Rattle.std.specs.Prelude.{◌≡◌, ◌+◌, ◌*◌, ◌/◌, ◌<◌, [], IfOk, OnOk};
+ghost use Rattle.std.specs.Prelude.{◌≡◌, ◌+◌, ◌*◌, ◌/◌, ◌<◌, IfOk, OnOk};
 ghost use Rattle.spec_file.specs.Image.{Image};
 ghost use Rattle.spec_check.specs.Errors.{Lists};
 ghost use Rattle.spec_check.specs.Allocation.{IsAllocationError};
 ghost use Rattle.ck_error.specs.Gathered.{Adds, Below};
+ghost use Rattle.ck_facts.specs.Maps.{HasNoSystemErrors};
 ghost use Rattle.ck_facts.specs.MapOf.{IsMapOf, extent_at};
 ghost use Rattle.ck_facts.specs.PageUses.{IsByPage};
 ghost use Rattle.ck_alloc.specs.Held as held;
@@ -22,11 +23,16 @@ use spec_file::NoMemory;
 use std::alloc::Global;
 
 fn extent_at(map: &AllocMap, e: u32) -> ExtentMap
-    requires sound { map.now.system.items ≡ [] }
-    requires inside { 8 * e < map.now.pages }
     ensures { result ≡ extent_at map.now e }
 {
-    map.extents[e as usize]
+    match map.extents.get(e as usize) {
+        Some(extent) => *extent,
+        None => ExtentMap {
+            free: false,
+            mixed: false,
+            marks: [0; 16],
+        },
+    }
 }
 
 // Whether a page of the extent has a use, or is the boot page.
@@ -39,8 +45,7 @@ fn holds_use(uses: &[PageUse], e: u32) -> bool
 }
 
 fn extent_state(map: &AllocMap, e: u32) -> ExtentState
-    requires sound { map.now.system.items ≡ [] }
-    requires inside { 8 * e < map.now.pages }
+    requires { 8 * e < map.now.pages }
     ensures state { IsByPage map.now.uses.items → result ≡ rules_of.extent_state map.now e }
     ensures bound { result.extent < 65536 }
 {
@@ -55,7 +60,7 @@ fn extent_state(map: &AllocMap, e: u32) -> ExtentState
 }
 
 fn markers_at(map: &AllocMap, e: u32) -> Markers
-    requires sound { map.now.system.items ≡ [] }
+    requires sound { HasNoSystemErrors map.now }
     requires inside { 8 * e < map.now.pages }
     ensures { result.items ≡ rules_of.markers_at map.now e }
 {
@@ -64,8 +69,7 @@ fn markers_at(map: &AllocMap, e: u32) -> Markers
 }
 
 fn page_state(map: &AllocMap, p: u32) -> PageState
-    requires sound { map.now.system.items ≡ [] }
-    requires inside { p < map.now.pages }
+    requires { p < map.now.pages }
     ensures { result ≡ rules_of.page_state map.now p }
 {
     PageState {
@@ -82,8 +86,7 @@ fn add_page(
     p: u32,
     markers: &[u32],
 ) -> Result<(), NoMemory>
-    requires sound { map.now.system.items ≡ [] }
-    requires inside { p < map.now.pages }
+    requires { p < map.now.pages }
     ensures { OnOk result (IsByPage map.now.uses.items
         → Adds errors.old.items errors.new.items (PageSays (rules_of.page_state map.now p) (rules_of.uses_at map.now p) markers.now)) }
 {
@@ -100,8 +103,7 @@ fn add_pages(
     e: u32,
     markers: &[u32],
 ) -> Result<(), NoMemory>
-    requires sound { map.now.system.items ≡ [] }
-    requires inside { 8 * e < map.now.pages }
+    requires { 8 * e < map.now.pages }
     ensures { OnOk result (IsByPage map.now.uses.items
         → Adds errors.old.items errors.new.items
         (Below 8 (λ k. PageSays (rules_of.page_state map.now (8 * e + k)) (rules_of.uses_at map.now (8 * e + k)) markers.now))) }
@@ -118,8 +120,7 @@ fn add_extent(
     e: u32,
     markers: &[u32],
 ) -> Result<(), NoMemory>
-    requires sound { map.now.system.items ≡ [] }
-    requires inside { 8 * e < map.now.pages }
+    requires { 8 * e < map.now.pages }
     ensures { OnOk result (IsByPage map.now.uses.items
         → Adds errors.old.items errors.new.items (ExtentSays (rules_of.extent_state map.now e) markers.now)) }
 {
@@ -130,7 +131,7 @@ fn add_extent(
 
 // Adds the errors of an extent and of its pages.
 fn add_part(errors: &mut Vec<CheckError>, map: &AllocMap, e: u32) -> Result<(), NoMemory>
-    requires sound { map.now.system.items ≡ [] }
+    requires sound { HasNoSystemErrors map.now }
     requires inside { 8 * e < map.now.pages }
     ensures { OnOk result (IsByPage map.now.uses.items
         → Adds errors.old.items errors.new.items (rules_of.PartOfMapSays map.now e)) }
@@ -143,7 +144,7 @@ fn add_part(errors: &mut Vec<CheckError>, map: &AllocMap, e: u32) -> Result<(), 
 
 // Adds the errors of all extents and pages.
 fn add_parts(errors: &mut Vec<CheckError>, map: &AllocMap) -> Result<(), NoMemory>
-    requires { map.now.system.items ≡ [] }
+    requires { HasNoSystemErrors map.now }
     ensures { OnOk result (IsByPage map.now.uses.items
         → Adds errors.old.items errors.new.items (Below (map.now.pages / 8) (rules_of.PartOfMapSays map.now))) }
 {
@@ -155,7 +156,7 @@ fn add_parts(errors: &mut Vec<CheckError>, map: &AllocMap) -> Result<(), NoMemor
 
 // The errors of chains, and those of all extents and pages.
 fn gathered(alloc: Global, map: &AllocMap) -> Result<Vec<CheckError>, NoMemory>
-    requires { map.now.system.items ≡ [] }
+    requires { HasNoSystemErrors map.now }
     ensures { IfOk result (λ errors. IsByPage map.now.uses.items
         → Adds map.now.chains.items errors.items (Below (map.now.pages / 8) (rules_of.PartOfMapSays map.now))) }
 {
@@ -168,7 +169,7 @@ fn gathered(alloc: Global, map: &AllocMap) -> Result<Vec<CheckError>, NoMemory>
 ///
 /// Where the map is that of an image, they are the image's.
 pub fn alloc_errors(alloc: Global, map: &AllocMap) -> Result<Vec<CheckError>, NoMemory>
-    requires { map.now.system.items ≡ [] }
+    requires { HasNoSystemErrors map.now }
     ensures { IfOk result (λ errors. (image : Image) → IsMapOf image map.now
         → Lists errors.items (IsAllocationError map.now.geometry image)) }
 {

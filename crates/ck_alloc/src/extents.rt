@@ -5,6 +5,7 @@ ghost use Rattle.ck_error.specs.Gathered.{Adds};
 ghost use Rattle.ck_alloc.specs.ExtentRules as rules_of;
 
 use ck_error::{CheckError, push_if};
+use spec_check::Claims;
 use spec_file::NoMemory;
 
 /// What the maps say of one extent, but for the objects that mark it.
@@ -18,29 +19,6 @@ pub struct ExtentState {
     pub used: bool,
 }
 
-/// Who claims an extent.
-#[derive(Clone, Copy)]
-pub struct Claimants {
-    pub system: bool,
-    pub free: bool,
-    pub mixed: bool,
-    pub marked: bool,
-}
-
-impl Claimants {
-    fn count(&self) -> u32
-        ensures { result ≡ spec.claim_count (rules_of.claims_seen self.now) }
-    {
-        worth(1, self.system) + worth(1, self.free) + worth(1, self.mixed) + worth(1, self.marked)
-    }
-
-    fn sum(&self) -> u32
-        ensures { result ≡ spec.claim_sum (rules_of.claims_seen self.now) }
-    {
-        worth(1, self.system) + worth(2, self.free) + worth(4, self.mixed) + worth(8, self.marked)
-    }
-}
-
 fn worth(n: u32, claimed: bool) -> u32
     ensures value { result ≡ spec.worth n claimed }
     ensures bound { result ≤ n }
@@ -48,10 +26,22 @@ fn worth(n: u32, claimed: bool) -> u32
     if claimed { n } else { 0 }
 }
 
-fn claims_of(state: &ExtentState, markers: &[u32]) -> Claimants
-    ensures { rules_of.claims_seen result ≡ rules_of.claims_of state.now markers.now }
+fn claim_count(c: &Claims) -> u32
+    ensures { result ≡ spec.claim_count c.now }
 {
-    Claimants {
+    worth(1, c.system) + worth(1, c.free) + worth(1, c.mixed) + worth(1, c.marked)
+}
+
+fn claim_sum(c: &Claims) -> u32
+    ensures { result ≡ spec.claim_sum c.now }
+{
+    worth(1, c.system) + worth(2, c.free) + worth(4, c.mixed) + worth(8, c.marked)
+}
+
+fn claims_of(state: &ExtentState, markers: &[u32]) -> Claims
+    ensures { result ≡ rules_of.claims_of state.now markers.now }
+{
+    Claims {
         system: state.system,
         free: state.free,
         mixed: state.used || state.mixed && !state.free,
@@ -59,12 +49,12 @@ fn claims_of(state: &ExtentState, markers: &[u32]) -> Claimants
     }
 }
 
-fn has_no_owner(state: &ExtentState, markers: &[u32]) -> bool
-    ensures { result ≡ rules_of.has_no_owner state.now markers.now }
+fn has_no_claim(state: &ExtentState, markers: &[u32]) -> bool
+    ensures { result ≡ rules_of.has_no_claim state.now markers.now }
 {
     let listed = state.free || state.mixed;
-    let owned = state.system || state.used;
-    !listed && !owned && markers.is_empty()
+    let held = state.system || state.used;
+    !listed && !held && markers.is_empty()
 }
 
 fn is_in_both(state: &ExtentState) -> bool
@@ -124,9 +114,9 @@ fn lowest(markers: &[u32]) -> u32
     }
 }
 
-fn two_claims_error(extent: u32, markers: &[u32], claims: &Claimants) -> CheckError
+fn two_claims_error(extent: u32, markers: &[u32], claims: &Claims) -> CheckError
     requires { extent < 65536 }
-    ensures { result ≡ spec.two_claims extent markers.now (rules_of.claims_seen claims.now) }
+    ensures { result ≡ spec.two_claims extent markers.now claims.now }
 {
     CheckError {
         number: 8913,
@@ -134,7 +124,7 @@ fn two_claims_error(extent: u32, markers: &[u32], claims: &Claimants) -> CheckEr
         page: 8 * extent,
         other: 0,
         slot: 0,
-        value: u64::from(claims.sum()),
+        value: u64::from(claim_sum(claims)),
     }
 }
 
@@ -163,7 +153,7 @@ fn add_lost_extent(
 {
     push_if(
         errors,
-        has_no_owner(state, markers),
+        has_no_claim(state, markers),
         lost_extent_error(state.extent),
     )?;
     Ok(())
@@ -179,7 +169,7 @@ fn add_two_claims(
 {
     let claims = claims_of(state, markers);
     let error = two_claims_error(state.extent, markers, &claims);
-    push_if(errors, claims.count() > 1, error)?;
+    push_if(errors, claim_count(&claims) > 1, error)?;
     Ok(())
 }
 

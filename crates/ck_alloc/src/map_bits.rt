@@ -4,11 +4,8 @@ ghost use Rattle.std.specs.List.{range_with_len};
 ghost use Rattle.spec_file.specs.Image.{bit as bit_of};
 ghost use Rattle.ck_alloc.specs.SystemPlaces.{byte_of};
 
-use pg_base::{NoMemory, Page};
+use pg_base::{MAPS_START, NoMemory, Page};
 use pg_maps::bit;
-
-// The offset of a PFS page's first byte.
-const MAPS_START: usize = 96;
 
 /// Adds the first n bits of a GAM or SGAM page.
 pub fn push_bits(bits: &mut Vec<bool>, page: &Page, n: u32) -> Result<(), NoMemory>

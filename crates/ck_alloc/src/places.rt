@@ -7,7 +7,7 @@ use pg_base::{ExtentNo, Geometry, PageNo};
 use pg_geom::{gam_of, interval_pages, interval_size, pfs_of, pfs_span, sgam_of};
 
 /// The kinds of system places.
-#[derive(Clone, Copy, Debug, PartialEq, Eq)]
+#[derive(Clone, Copy)]
 pub enum SystemKind {
     Pfs,
     Gam,

@@ -1,9 +1,11 @@
 // The maps of a file, read through a snapshot.
-ghost use Rattle.std.specs.Prelude.{◌≡◌, ◌↔◌, ◌<◌, ◌≤◌, ◌/◌, [], IsTrue, IfOk, IfSome, OnOk, Contains, length, vec_len, slice_get, Some};
+ghost use Rattle.std.specs.Prelude.{◌≡◌, ◌↔◌, ◌<◌, ◌≤◌, ◌/◌, [], IfOk, IfSome, OnOk, Contains, length, vec_len, slice_get, Some};
+ghost use Rattle.spec_file.specs.declared.sizes.TheConstants.{ENTRY_COUNT};
 ghost use Rattle.spec_file.specs.CatalogRows.{CatalogRow};
 ghost use Rattle.std.specs.Option.{ForSome};
 ghost use Rattle.std.specs.List.Sorted.{IsStrictlySortedBy};
-ghost use Rattle.pg_base.specs.Reading.{StopHasCause};
+ghost use Rattle.pg_base.specs.Stops.{stop_of};
+ghost use Rattle.pg_base.specs.Reading.{OnlyReads};
 ghost use Rattle.spec_file.specs.Places.{HasShape};
 ghost use Rattle.ck_facts.specs.Maps.{page_use_cmp, rows_of_objects};
 ghost use Rattle.ck_facts.specs.MapOf.{IsMapOf};
@@ -80,16 +82,11 @@ fn read_chains<R: SnapReader>(
 ) -> Result<(), ReadStop>
     requires count { R.pages reader.old ≡ pages }
     requires shape { HasShape g pages }
-    requires few { length objects.now ≤ 128 }
+    requires few { length objects.now ≤ ENTRY_COUNT }
     requires extents { vec_len found.old.extents ≡ pages / 8 }
     ensures read { OnOk result (ForSome (R.image reader.old) (λ image. AreChainsRead g image (rows_of_objects objects.now) (length objects.now) found.old found.new)) }
     ensures extents { OnOk result (vec_len found.new.extents ≡ pages / 8) }
-    ensures cause { StopHasCause (R.faults reader.old) (R.faults reader.new) (R.failed reader.new) (R.ended reader.new) result }
-    ensures ended { IsTrue (R.ended reader.old) → IsTrue (R.ended reader.new) }
-    ensures faults { R.faults reader.old ≤ R.faults reader.new }
-    ensures pages { R.pages reader.new ≡ R.pages reader.old }
-    ensures image { R.image reader.new ≡ R.image reader.old }
-    ensures bound { R.bound reader.new ≡ R.bound reader.old }
+    ensures reads { OnlyReads R.SnapReader reader.old reader.new (stop_of result) }
 {
     for i in 0..objects.len() {
         let owner = owner_of(objects, i, g, pages);
@@ -130,17 +127,12 @@ fn found_in<R: SnapReader>(
 ) -> Result<Found, ReadStop>
     requires count { R.pages reader.old ≡ pages }
     requires shape { HasShape g pages }
-    requires few { length objects.now ≤ 128 }
+    requires few { length objects.now ≤ ENTRY_COUNT }
     requires free { length free.now ≡ pages / 8 }
     requires mixed { length mixed.now ≡ pages / 8 }
     ensures read { IfOk result (λ found. ForSome (R.image reader.old) (λ image. IsFoundIn g image (rows_of_objects objects.now) free.now mixed.now found)) }
     ensures extents { IfOk result (λ found. vec_len found.extents ≡ pages / 8) }
-    ensures cause { StopHasCause (R.faults reader.old) (R.faults reader.new) (R.failed reader.new) (R.ended reader.new) result }
-    ensures ended { IsTrue (R.ended reader.old) → IsTrue (R.ended reader.new) }
-    ensures faults { R.faults reader.old ≤ R.faults reader.new }
-    ensures pages { R.pages reader.new ≡ R.pages reader.old }
-    ensures image { R.image reader.new ≡ R.image reader.old }
-    ensures bound { R.bound reader.new ≡ R.bound reader.old }
+    ensures reads { OnlyReads R.SnapReader reader.old reader.new (stop_of result) }
 {
     let mut found = Found {
         errors: Vec::new(alloc),
@@ -162,12 +154,7 @@ pub fn read_maps<R: SnapReader>(
     requires count { R.pages reader.old ≡ pages }
     requires shape { HasShape g pages }
     ensures map { IfOk result (λ map. (map.geometry ≡ g) × (map.pages ≡ pages) × IfSome (R.image reader.old) (λ image. IsMapOf image map)) }
-    ensures cause { StopHasCause (R.faults reader.old) (R.faults reader.new) (R.failed reader.new) (R.ended reader.new) result }
-    ensures ended { IsTrue (R.ended reader.old) → IsTrue (R.ended reader.new) }
-    ensures faults { R.faults reader.old ≤ R.faults reader.new }
-    ensures pages { R.pages reader.new ≡ R.pages reader.old }
-    ensures image { R.image reader.new ≡ R.image reader.old }
-    ensures bound { R.bound reader.new ≡ R.bound reader.old }
+    ensures reads { OnlyReads R.SnapReader reader.old reader.new (stop_of result) }
 {
     let maps = read_system(alloc, reader, g, pages)?;
     let SystemMaps {

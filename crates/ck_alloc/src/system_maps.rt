@@ -1,9 +1,9 @@
 // From the system pages of a file to what they say.
-ghost use Rattle.spec_file.specs.Catalog.{PassesCatalog};
-ghost use Rattle.std.specs.Prelude.{◌≡◌, ◌≤◌, [], IfOk, IfSome, IsTrue};
-ghost use Rattle.pg_base.specs.Reading.{StopHasCause};
+ghost use Rattle.std.specs.Prelude.{◌≡◌, IfOk};
+ghost use Rattle.pg_base.specs.Stops.{stop_of};
+ghost use Rattle.pg_base.specs.Reading.{OnlyReads};
 ghost use Rattle.spec_file.specs.Places.{HasShape};
-ghost use Rattle.ck_alloc.specs.SystemMaps.{AreSystemMaps, HaveSizes};
+ghost use Rattle.ck_alloc.specs.SystemMaps.{AreMapsRead};
 
 use crate::places::SystemKind;
 use crate::system_pages::{read_bits, read_bytes};
@@ -37,15 +37,8 @@ pub fn read_system<R: SnapReader>(
 ) -> Result<SystemMaps, ReadStop>
     requires count { R.pages reader.old ≡ pages }
     requires shape { HasShape g pages }
-    ensures maps { IfOk result (λ maps. IfSome (R.image reader.old) (AreSystemMaps g maps)) }
-    ensures sizes { IfOk result (HaveSizes pages) }
-    ensures boot { IfOk result (λ maps. maps.errors.items ≡ [] → (PassesCatalog maps.boot.value.bytes → ⊥) → ⊥) }
-    ensures cause { StopHasCause (R.faults reader.old) (R.faults reader.new) (R.failed reader.new) (R.ended reader.new) result }
-    ensures ended { IsTrue (R.ended reader.old) → IsTrue (R.ended reader.new) }
-    ensures faults { R.faults reader.old ≤ R.faults reader.new }
-    ensures pages { R.pages reader.new ≡ R.pages reader.old }
-    ensures image { R.image reader.new ≡ R.image reader.old }
-    ensures bound { R.bound reader.new ≡ R.bound reader.old }
+    ensures maps { IfOk result (AreMapsRead g pages (R.image reader.old)) }
+    ensures reads { OnlyReads R.SnapReader reader.old reader.new (stop_of result) }
 {
     let mut page = Page::zeroed(alloc)?;
     let mut errors = Vec::new(alloc);

@@ -1,7 +1,8 @@
 // The system places of a file, each read once into one page.
-ghost use Rattle.std.specs.Prelude.{◌≡◌, ◌≢◌, ◌-◌, ◌*◌, ◌/◌, ◌≤◌, ◌<◌, IfOk, IfSome, OnOk, IsTrue, min};
+ghost use Rattle.std.specs.Prelude.{◌≡◌, ◌≢◌, ◌-◌, ◌*◌, ◌/◌, ◌≤◌, ◌<◌, IfOk, IfSome, OnOk, min};
 ghost use Rattle.spec_file.specs.Image.{page as image_page};
-ghost use Rattle.pg_base.specs.Reading.{StopHasCause};
+ghost use Rattle.pg_base.specs.Stops.{stop_of};
+ghost use Rattle.pg_base.specs.Reading.{OnlyReads};
 ghost use Rattle.spec_file.specs.Places.{page_limit, HasShape};
 ghost use Rattle.ck_error.specs.Gathered.{Adds};
 ghost use Rattle.ck_alloc.specs.SystemPlaces as spec;
@@ -28,12 +29,7 @@ fn read_place<R: SnapReader>(
     requires limit { p.0 < page_limit g }
     ensures page { OnOk result (IfSome (R.image reader.old) (λ image. page.new.bytes ≡ image_page image p.0)) }
     ensures errors { OnOk result (Adds errors.old.items errors.new.items (GivesError g p.0 page.new.bytes)) }
-    ensures cause { StopHasCause (R.faults reader.old) (R.faults reader.new) (R.failed reader.new) (R.ended reader.new) result }
-    ensures ended { IsTrue (R.ended reader.old) → IsTrue (R.ended reader.new) }
-    ensures faults { R.faults reader.old ≤ R.faults reader.new }
-    ensures pages { R.pages reader.new ≡ R.pages reader.old }
-    ensures image { R.image reader.new ≡ R.image reader.old }
-    ensures bound { R.bound reader.new ≡ R.bound reader.old }
+    ensures reads { OnlyReads R.SnapReader reader.old reader.new (stop_of result) }
 {
     reader.page(p, page)?;
     note(errors, g, p, page)?;
@@ -64,12 +60,7 @@ pub fn read_bits<R: SnapReader>(
     requires kind { kind ≢ Pfs }
     ensures said { IfOk result (λ bits. SaysValues kind g (spec.bit_in g) (spec.place_count kind g pages) (pages / 8)
         (R.image reader.old) errors.old.items errors.new.items bits.items) }
-    ensures cause { StopHasCause (R.faults reader.old) (R.faults reader.new) (R.failed reader.new) (R.ended reader.new) result }
-    ensures ended { IsTrue (R.ended reader.old) → IsTrue (R.ended reader.new) }
-    ensures faults { R.faults reader.old ≤ R.faults reader.new }
-    ensures pages { R.pages reader.new ≡ R.pages reader.old }
-    ensures image { R.image reader.new ≡ R.image reader.old }
-    ensures bound { R.bound reader.new ≡ R.bound reader.old }
+    ensures reads { OnlyReads R.SnapReader reader.old reader.new (stop_of result) }
 {
     let mut bits = Vec::new(alloc);
     for k in 0..place_count(kind, g, pages) {
@@ -93,12 +84,7 @@ pub fn read_bytes<R: SnapReader>(
     requires shape { HasShape g pages }
     ensures said { IfOk result (λ bytes. SaysValues Pfs g (spec.byte_in g) (spec.place_count Pfs g pages) pages
         (R.image reader.old) errors.old.items errors.new.items bytes.items) }
-    ensures cause { StopHasCause (R.faults reader.old) (R.faults reader.new) (R.failed reader.new) (R.ended reader.new) result }
-    ensures ended { IsTrue (R.ended reader.old) → IsTrue (R.ended reader.new) }
-    ensures faults { R.faults reader.old ≤ R.faults reader.new }
-    ensures pages { R.pages reader.new ≡ R.pages reader.old }
-    ensures image { R.image reader.new ≡ R.image reader.old }
-    ensures bound { R.bound reader.new ≡ R.bound reader.old }
+    ensures reads { OnlyReads R.SnapReader reader.old reader.new (stop_of result) }
 {
     let mut bytes = Vec::new(alloc);
     for k in 0..place_count(SystemKind::Pfs, g, pages) {

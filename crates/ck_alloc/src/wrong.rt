@@ -7,7 +7,9 @@ ghost use Rattle.ck_error.specs.Gathered.{Adds};
 ghost use Rattle.ck_alloc.specs.SystemMaps.{GivesError};
 
 use db_cat::catalog_passes;
-use pg_base::{Geometry, NoMemory, Page, PageNo, Role, is_page_of};
+use pg_base::{
+    BOOT_TYPE, GAM_TYPE, Geometry, NoMemory, PFS_TYPE, Page, PageNo, Role, SGAM_TYPE, is_page_of,
+};
 use pg_geom::{interval_pages, role_of};
 use spec_check::CheckError;
 
@@ -16,10 +18,10 @@ fn type_of(role: Role) -> Option<u8>
     ensures { result ≡ system_type role }
 {
     match role {
-        Role::Pfs => Some(11),
-        Role::Gam => Some(8),
-        Role::Sgam => Some(9),
-        Role::Boot => Some(13),
+        Role::Pfs => Some(PFS_TYPE),
+        Role::Gam => Some(GAM_TYPE),
+        Role::Sgam => Some(SGAM_TYPE),
+        Role::Boot => Some(BOOT_TYPE),
         Role::FileHeader | Role::Reserved | Role::Ordinary => None,
     }
 }

@@ -2,7 +2,7 @@
 ghost use Rattle.std.specs.Prelude.{◌≡◌, ◌<◌, ◌/◌, [], vec_len, slice_index};
 ghost use Rattle.spec_file.specs.Roles as roles;
 ghost use Rattle.spec_file.specs.Places.{HasShape};
-ghost use Rattle.ck_facts.specs.Maps.{HasSizes};
+ghost use Rattle.ck_facts.specs.Sizes.{HasSizes};
 
 use crate::CatRow;
 use pg_base::{ExtentNo, Geometry, PageNo};
@@ -87,13 +87,15 @@ impl AllocMap {
         self.pages / 8
     }
 
-    /// The PFS byte of a page.
+    /// The PFS byte of a page; 0 where a system page is wrong, since none was kept then.
     pub fn pfs(&self, p: PageNo) -> u8
-        requires sound { self.now.system.items ≡ [] }
-        requires inside { p.0 < self.now.pages }
+        requires { p.0 < self.now.pages }
         ensures { result ≡ slice_index self.now.pfs.items p.0 }
     {
-        self.pfs[p.0 as usize]
+        match self.pfs.get(p.0 as usize) {
+            Some(byte) => *byte,
+            None => 0,
+        }
     }
 
     /// Whether a page is one that an object may own, by its number.

@@ -1,5 +1,6 @@
 use Rattle.std.proofs.Common.{◌≡◌, arith, ◌∙◌, length, subst}
 use Rattle.ck_facts.specs.Maps.{rows_of_objects}
+use Rattle.pg_base.proofs.ReadingLaws.{reads_then}
 use Rattle.ck_alloc.specs.ChainsRead.{AreChainsRead}
 use Rattle.ck_alloc.proofs.ChainSteps.{read_more, row_at}
 use Rattle.ck_alloc.proofs.read.read_chains.Goals as goal
@@ -9,14 +10,10 @@ loop-i-preserved g c = record {
   extents = rw c.owner_of-owner.ensures.pages at c.in_ok-read_chain.ensures.extents;
   read = λ x at.
       let (row, is) = row_at c.args.objects.now c.loop-i.i c.loop-i-test.true in
-      let chain = c.in_ok-read_chain.ensures.read x (c.loop-i.invariant.image ∙ at) row (c.owner_of-owner.ensures.row row is) (c.first_of.ensures row is) in
+      let chain = c.in_ok-read_chain.ensures.read x (c.loop-i.invariant.reads.image ∙ at) row (c.owner_of-owner.ensures.row row is) (c.first_of.ensures row is) in
       read_more c.args.g x (rows_of_objects c.args.objects.now) c.loop-i.i row c.args.found.now c.loop-i.found c.read_chain.new.found is
       (c.loop-i.invariant.read x at) (rw (c.owner_of-owner.ensures.geometry, c.owner_of-owner.ensures.index) at chain);
-  ended = λ e. c.read_chain.ensures.ended (c.loop-i.invariant.ended e);
-  faults = omega (arith, c.read_chain.ensures.faults, c.loop-i.invariant.faults);
-  pages = c.read_chain.ensures.pages ∙ c.loop-i.invariant.pages;
-  image = c.read_chain.ensures.image ∙ c.loop-i.invariant.image;
-  bound = c.read_chain.ensures.bound ∙ c.loop-i.invariant.bound;
+  reads = reads_then _ _ _ _ _ c.loop-i.invariant.reads c.in_ok-read_chain.ensures.reads;
 }
 
 pub returns-clause-read : goal.returns-clause-read

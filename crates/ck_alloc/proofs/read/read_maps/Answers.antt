@@ -12,7 +12,7 @@ returns-then-not-is_empty-clause-map g c = (
   c.map_of_errors.ensures.pages,
   told_if _ _ (λ x at.
       error_map x _ c.in_ok-maps.maps (g.met.R.SnapReader.whole c.args.reader.now x at ∙ c.requires.count ∙ sym c.map_of_errors.ensures.pages)
-      (rw c.map_of_errors.ensures.geometry (told_at _ x (AreSystemMaps c.args.g c.in_ok-maps.maps) at c.in_ok-maps.ensures.maps))
+      (rw c.map_of_errors.ensures.geometry (told_at _ x (AreSystemMaps c.args.g c.in_ok-maps.maps) at c.in_ok-maps.ensures.maps.said))
       (rw c.map_of_errors.ensures.system c.in_order-system.ensures.sorted)
       (rw c.map_of_errors.ensures.system c.in_order-system.ensures.same)
       (λ none.
@@ -25,7 +25,7 @@ pub objects_of-requires : goal.objects_of-requires
 objects_of-requires g c =
     let empty : vec_len c.in_order-system.result ≡ 0 = grind (arith, nat_tests) in
     let none : length c.in_order-system.result.items ≡ 0 = sym c.in_order-system.result.ok.0 ∙ empty in
-    rw c.deref.ensures (c.in_ok-maps.ensures.boot (none_before _ _ c.in_order-system.ensures.same none))
+    rw c.deref.ensures (c.in_ok-maps.ensures.maps.boot (none_before _ _ c.in_order-system.ensures.same none))
 
 pub returns-clause-map : goal.returns-clause-map
 returns-clause-map g c = (
@@ -33,7 +33,7 @@ returns-clause-map g c = (
   refl,
   told_if _ _ (λ x at.
       whole_map x _ c.in_ok-maps.maps c.in_ok-found.found (g.met.R.SnapReader.whole c.args.reader.now x at ∙ c.requires.count)
-      (told_at _ x (AreSystemMaps c.args.g c.in_ok-maps.maps) at c.in_ok-maps.ensures.maps)
+      (told_at _ x (AreSystemMaps c.args.g c.in_ok-maps.maps) at c.in_ok-maps.ensures.maps.said)
       (record {
         sorted = c.in_order-system.ensures.sorted;
         same = c.in_order-system.ensures.same;
@@ -47,5 +47,5 @@ returns-clause-map g c = (
         extents = refl;
         pfs = refl;
       })
-      (rw (c.deref-2.ensures.value, c.deref-3.ensures.value, c.deref-4.ensures.value) at (c.in_ok-found.ensures.read x (c.in_ok-maps.ensures.image ∙ at)))),
+      (rw (c.deref-2.ensures.value, c.deref-3.ensures.value, c.deref-4.ensures.value) at (c.in_ok-found.ensures.read x (c.in_ok-maps.ensures.reads.image ∙ at)))),
 )

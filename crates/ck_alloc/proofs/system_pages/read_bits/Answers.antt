@@ -1,5 +1,6 @@
 use Rattle.std.proofs.Common.{◌<◌, ◌+◌, ◌*◌, ◌/◌, ℕ, arith, ◌∙◌, sym, ap}
 use Rattle.spec_file.specs.Image.{bit}
+use Rattle.pg_base.proofs.ReadingLaws.{reads_then}
 use Rattle.ck_alloc.specs.SystemPlaces.{place_count}
 use Rattle.spec_file.specs.Places.{interval_size}
 use Rattle.ck_alloc.proofs.ValuesRead.{says_more, divides_interval, bits_next, bits_begin}
@@ -13,11 +14,7 @@ loop-k-preserved g c =
     let rest = rw c.interval_size.ensures at c.rest_of.ensures in
     record {
       said = says_more c.args.kind c.args.g bit (interval_size c.args.g) c.loop-k.k c.rest_of.result _ _ _ _ _ _ _ _ _ _ _
-          (divides_interval c.args.g c.loop-k.k) (omega (arith, rest)) next.0 (next.1 ∙ ap (λ (n : ℕ). interval_size c.args.g * c.loop-k.k + n) (sym rest)) c.loop-k.invariant.image c.place_of.ensures
+          (divides_interval c.args.g c.loop-k.k) (omega (arith, rest)) next.0 (next.1 ∙ ap (λ (n : ℕ). interval_size c.args.g * c.loop-k.k + n) (sym rest)) c.loop-k.invariant.reads.image c.place_of.ensures
           c.loop-k.invariant.said c.in_ok-read_place.ensures.page c.in_ok-read_place.ensures.errors c.in_ok-push_bits.ensures;
-      ended = λ h. c.read_place.ensures.ended (c.loop-k.invariant.ended h);
-      faults = omega (arith, c.read_place.ensures.faults, c.loop-k.invariant.faults);
-      pages = c.read_place.ensures.pages ∙ c.loop-k.invariant.pages;
-      image = c.read_place.ensures.image ∙ c.loop-k.invariant.image;
-      bound = c.read_place.ensures.bound ∙ c.loop-k.invariant.bound;
+      reads = reads_then _ _ _ _ _ c.loop-k.invariant.reads c.in_ok-read_place.ensures.reads;
     }

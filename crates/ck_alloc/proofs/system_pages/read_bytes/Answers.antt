@@ -1,4 +1,5 @@
 use Rattle.std.proofs.Common.{◌<◌, ◌+◌, ◌*◌, ℕ, arith, ◌∙◌, sym, ap}
+use Rattle.pg_base.proofs.ReadingLaws.{reads_then}
 use Rattle.ck_alloc.specs.SystemPlaces.{place_count, byte_of}
 use Rattle.spec_file.specs.Places.{pfs_span}
 use Rattle.ck_alloc.specs.declared.places.SystemKind.TheVariants.{Pfs}
@@ -13,11 +14,7 @@ loop-k-preserved g c =
     let rest = rw c.pfs_span.ensures at c.rest_of.ensures in
     record {
       said = says_more Pfs c.args.g byte_of (pfs_span c.args.g) c.loop-k.k c.rest_of.result _ _ _ _ _ _ _ _ _ _ _
-          (divides_span c.args.g c.loop-k.k) (omega (arith, rest)) next.0 (next.1 ∙ ap (λ (n : ℕ). pfs_span c.args.g * c.loop-k.k + n) (sym rest)) c.loop-k.invariant.image c.place_of.ensures
+          (divides_span c.args.g c.loop-k.k) (omega (arith, rest)) next.0 (next.1 ∙ ap (λ (n : ℕ). pfs_span c.args.g * c.loop-k.k + n) (sym rest)) c.loop-k.invariant.reads.image c.place_of.ensures
           c.loop-k.invariant.said c.in_ok-read_place.ensures.page c.in_ok-read_place.ensures.errors c.in_ok-push_bytes.ensures;
-      ended = λ h. c.read_place.ensures.ended (c.loop-k.invariant.ended h);
-      faults = omega (arith, c.read_place.ensures.faults, c.loop-k.invariant.faults);
-      pages = c.read_place.ensures.pages ∙ c.loop-k.invariant.pages;
-      image = c.read_place.ensures.image ∙ c.loop-k.invariant.image;
-      bound = c.read_place.ensures.bound ∙ c.loop-k.invariant.bound;
+      reads = reads_then _ _ _ _ _ c.loop-k.invariant.reads c.in_ok-read_place.ensures.reads;
     }

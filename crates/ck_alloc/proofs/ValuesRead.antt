@@ -1,5 +1,5 @@
 -- One system place more of a kind: its errors and the values that it holds.
-use Rattle.std.proofs.Common.{◌≡◌, ◌≢◌, ℕ, zero, suc, ◌+◌, ◌-◌, ◌*◌, ◌/◌, ◌%◌, ◌<◌, ◌≤◌, min, List, [], ◌∷◌, ◌++◌, Option, Some, None, IfSome, length, map, arith, refl, sym, subst, ap, ◌∙◌, append-nil}
+use Rattle.std.proofs.Common.{◌≡◌, ◌≢◌, ℕ, zero, suc, ◌+◌, ◌-◌, ◌*◌, ◌/◌, ◌%◌, ◌<◌, ◌≤◌, min, Bool, List, [], ◌∷◌, ◌++◌, Option, Some, None, IfSome, length, map, arith, refl, sym, subst, ap, ◌∙◌, append-nil}
 use Rattle.std.specs.List.{range_with_len}
 use Rattle.std.proofs.lemmas.List.FromFn.{map-range_with_len_more}
 use Rattle.std.proofs.lemmas.List.{append_assoc}
@@ -7,15 +7,15 @@ use Rattle.std.proofs.Math.ListN.{get_or-append}
 use Rattle.std.proofs.Math.Seq.{get_or-append_seam}
 use Rattle.spec_file.specs.declared.geometry.Geometry.{Geometry}
 use Rattle.spec_file.specs.declared.geometry.Geometry.TheVariants.{Standard, Small}
-use Rattle.spec_file.specs.Image.{Image, page}
+use Rattle.spec_file.specs.Image.{Image, page, bit}
 use Rattle.spec_file.specs.Places.{interval_size, pfs_span, HasShape}
 use Rattle.spec_check.specs.declared.report.CheckError.{CheckError}
 use Rattle.ck_error.specs.Gathered.{Adds, Below}
 use Rattle.ck_error.proofs.GatheringLaws.{adds_as, adds_below_none, adds_below_more}
 use Rattle.ck_alloc.specs.declared.places.SystemKind.{SystemKind}
 use Rattle.ck_alloc.specs.declared.places.SystemKind.TheVariants.{Pfs, Gam, Sgam}
-use Rattle.ck_alloc.specs.SystemPlaces.{place_of, place_count, places_of_image}
-use Rattle.ck_alloc.specs.SystemMaps.{GivesError, GivesErrorAt, IsErrorOfKind, SaysValues}
+use Rattle.ck_alloc.specs.SystemPlaces.{size_of, value_count, rest_of, place_of, place_count, places_of_image, bit_in}
+use Rattle.ck_alloc.specs.SystemMaps.{GivesError, GivesErrorAt, IsErrorOfKind, IsPlaceRead, SaysValues}
 use Rattle.ck_alloc.proofs.Ranges.{same_values}
 
 -- the values of a function at the first a + n numbers
@@ -41,11 +41,11 @@ pub record Divides (size k : ℕ) : Type 0 where
   pub before : (e : ℕ) → e < size * k → e / size < k
   pub behind : (i : ℕ) → i < size → ((size * k + i) / size ≡ k) × ((size * k + i) % size ≡ i)
 
-pub divides_interval : (g : Geometry) (k : ℕ) → Divides (interval_size g) k
+divides_interval : (g : Geometry) (k : ℕ) → Divides (interval_size g) k
 divides_interval Standard k = record { before = λ e h. omega (arith, h); behind = λ i h. (omega (arith, h), omega (arith, h)) }
 divides_interval Small k = record { before = λ e h. omega (arith, h); behind = λ i h. (omega (arith, h), omega (arith, h)) }
 
-pub divides_span : (g : Geometry) (k : ℕ) → Divides (pfs_span g) k
+divides_span : (g : Geometry) (k : ℕ) → Divides (pfs_span g) k
 divides_span Standard k = record { before = λ e h. omega (arith, h); behind = λ i h. (omega (arith, h), omega (arith, h)) }
 divides_span Small k = record { before = λ e h. omega (arith, h); behind = λ i h. (omega (arith, h), omega (arith, h)) }
 
@@ -83,7 +83,7 @@ errors_more kind g k found b old mid new many before here =
       longer (x ∷ xs) = let less = longer xs in omega (arith, less)
 
 -- none was read yet
-pub says_none : {X : Type 0} (kind : SystemKind) (g : Geometry) (value : List (List ℕ) → ℕ → X) (count : ℕ) (told : Option Image) (errors : List CheckError)
+says_none : {X : Type 0} (kind : SystemKind) (g : Geometry) (value : List (List ℕ) → ℕ → X) (count : ℕ) (told : Option Image) (errors : List CheckError)
     (xs : List X) → xs ≡ [] → count ≡ 0 → SaysValues kind g value 0 count told errors errors xs
 says_none {X} kind g value count told errors xs empty none = record {
   found = [];
@@ -96,7 +96,7 @@ says_none {X} kind g value count told errors xs empty none = record {
   nothing None = tt
   nothing (Some image) = refl
 
-pub says_more : {X : Type 0} (kind : SystemKind) (g : Geometry) (v : List ℕ → ℕ → X) (size k n count next p : ℕ) (told now : Option Image)
+says_more : {X : Type 0} (kind : SystemKind) (g : Geometry) (v : List ℕ → ℕ → X) (size k n count next p : ℕ) (told now : Option Image)
     (old mid new : List CheckError) (b : List ℕ) (xs ys : List X) → Divides size k → n ≤ size → count ≡ size * k → next ≡ size * k + n
     → now ≡ told → p ≡ place_of kind g k
     → SaysValues kind g (value_in v size) k count told old mid xs → IfSome now (λ image. b ≡ page image p)
@@ -126,46 +126,94 @@ says_more {X} kind g v size k n count next p told now old mid new b xs ys d few 
       ap (λ l. l ++ b ∷ []) a ∙ ap (λ l. places_of_image kind g image k ++ l ∷ []) is
       ∙ sym (map-range_with_len_more (λ i. page image (place_of kind g i)) 0 k k (omega arith))
 
+-- all places of a kind were read
+says_all : {X : Type 0} (kind : SystemKind) (g : Geometry) (value : List (List ℕ) → ℕ → X) (k n count all : ℕ) (told : Option Image)
+    (old new : List CheckError) (xs : List X) → k ≡ n → count ≡ all → SaysValues kind g value k count told old new xs
+    → SaysValues kind g value n all told old new xs
+says_all {X} kind g value k n count all told old new xs same ends s =
+    subst (λ a. SaysValues kind g value n a told old new xs) ends (subst (λ i. SaysValues kind g value i count told old new xs) same s)
+
 -- where the k-th place begins, and what is left behind it
-pub bits_begin : (kind : SystemKind) (g : Geometry) (pages k : ℕ) → kind ≢ Pfs → HasShape g pages → k < place_count kind g pages
-    → interval_size g * k ≤ pages / 8
-bits_begin Pfs g pages k other shape below = absurd (other refl)
-bits_begin Gam Standard pages k other shape below = omega (arith, below)
-bits_begin Gam Small pages k other shape below = omega (arith, below)
-bits_begin Sgam Standard pages k other shape below = omega (arith, below)
-bits_begin Sgam Small pages k other shape below = omega (arith, below)
+pub begins : (kind : SystemKind) (g : Geometry) (pages k : ℕ) → HasShape g pages → k < place_count kind g pages → size_of kind g * k ≤ value_count kind pages
+begins Pfs Standard pages k shape below = omega (arith, below)
+begins Pfs Small pages k shape below = omega (arith, below)
+begins Gam Standard pages k shape below = omega (arith, below)
+begins Gam Small pages k shape below = omega (arith, below)
+begins Sgam Standard pages k shape below = omega (arith, below)
+begins Sgam Small pages k shape below = omega (arith, below)
 
-pub bits_end : (kind : SystemKind) (g : Geometry) (pages : ℕ) → kind ≢ Pfs → HasShape g pages
-    → min (pages / 8) (interval_size g * place_count kind g pages) ≡ pages / 8
-bits_end Pfs g pages other shape = absurd (other refl)
-bits_end Gam Standard pages other shape = omega arith
-bits_end Gam Small pages other shape = omega arith
-bits_end Sgam Standard pages other shape = omega arith
-bits_end Sgam Small pages other shape = omega arith
+pub ends : (kind : SystemKind) (g : Geometry) (pages : ℕ) → min (value_count kind pages) (size_of kind g * place_count kind g pages) ≡ value_count kind pages
+ends Pfs Standard pages = omega arith
+ends Pfs Small pages = omega arith
+ends Gam Standard pages = omega arith
+ends Gam Small pages = omega arith
+ends Sgam Standard pages = omega arith
+ends Sgam Small pages = omega arith
 
-pub bits_next : (g : Geometry) (extents k : ℕ) → interval_size g * k ≤ extents
-    → (min extents (interval_size g * k) ≡ interval_size g * k)
-    × (min extents (interval_size g * (k + 1)) ≡ interval_size g * k + min (extents - interval_size g * k) (interval_size g))
-bits_next Standard extents k h = (omega (arith, h), omega (arith, h))
-bits_next Small extents k h = (omega (arith, h), omega (arith, h))
+pub values_few : (kind : SystemKind) (pages : ℕ) → value_count kind pages ≤ pages
+values_few Pfs pages = omega arith
+values_few Gam pages = omega arith
+values_few Sgam pages = omega arith
 
-pub bytes_begin : (g : Geometry) (pages k : ℕ) → HasShape g pages → k < place_count Pfs g pages → pfs_span g * k ≤ pages
-bytes_begin Standard pages k shape below = omega (arith, below)
-bytes_begin Small pages k shape below = omega (arith, below)
+next : (size all k : ℕ) → size * k ≤ all
+    → (min all (size * k) ≡ size * k) × (min all (size * (k + 1)) ≡ size * k + min (all - size * k) size)
+next size all k h =
+    let more : size * (k + 1) ≡ size * k + size = grind arith in
+    (omega (arith, h), omega (arith, h, more))
 
-pub bytes_end : (g : Geometry) (pages : ℕ) → HasShape g pages → min pages (pfs_span g * place_count Pfs g pages) ≡ pages
-bytes_end Standard pages shape = omega arith
-bytes_end Small pages shape = omega arith
+divides : (kind : SystemKind) (g : Geometry) (k : ℕ) → Divides (size_of kind g) k
+divides Pfs g k = divides_span g k
+divides Gam g k = divides_interval g k
+divides Sgam g k = divides_interval g k
 
-pub bytes_next : (g : Geometry) (pages k : ℕ) → pfs_span g * k ≤ pages
-    → (min pages (pfs_span g * k) ≡ pfs_span g * k)
-    × (min pages (pfs_span g * (k + 1)) ≡ pfs_span g * k + min (pages - pfs_span g * k) (pfs_span g))
-bytes_next Standard pages k h = (omega (arith, h), omega (arith, h))
-bytes_next Small pages k h = (omega (arith, h), omega (arith, h))
+-- so many values fit into a page of this kind
+pub bits_fit : (kind : SystemKind) (g : Geometry) (pages k n : ℕ) → kind ≢ Pfs → n ≡ rest_of kind g pages k → n ≤ 63904
+bits_fit Pfs g pages k n other is = absurd (other refl)
+bits_fit Gam Standard pages k n other is = omega (arith, is)
+bits_fit Gam Small pages k n other is = omega (arith, is)
+bits_fit Sgam Standard pages k n other is = omega (arith, is)
+bits_fit Sgam Small pages k n other is = omega (arith, is)
 
-pub rest_fits : (g : Geometry) (a : ℕ) → (min a (interval_size g) ≤ 63904) × (min a (pfs_span g) ≤ 8088)
-rest_fits Standard a = (omega arith, omega arith)
-rest_fits Small a = (omega arith, omega arith)
+pub bytes_fit : (g : Geometry) (pages k n : ℕ) → n ≡ rest_of Pfs g pages k → n ≤ 8088
+bytes_fit Standard pages k n is = omega (arith, is)
+bytes_fit Small pages k n is = omega (arith, is)
+
+-- the first k places of a kind were read
+abbrev pub SaysFirst : {X : Type 0} → (kind : SystemKind) (g : Geometry) (v : List ℕ → ℕ → X) (pages k : ℕ) → Option Image → List CheckError → List CheckError → List X → Type 0
+SaysFirst {X} kind g v pages k told old new xs =
+    SaysValues kind g (value_in v (size_of kind g)) k (min (value_count kind pages) (size_of kind g * k)) told old new xs
+
+pub first_none : {X : Type 0} (kind : SystemKind) (g : Geometry) (v : List ℕ → ℕ → X) (pages : ℕ) (told : Option Image) (errors : List CheckError) (xs : List X)
+    → xs ≡ [] → SaysFirst kind g v pages 0 told errors errors xs
+first_none {X} kind g v pages told errors xs empty =
+    says_none kind g (value_in v (size_of kind g)) (min (value_count kind pages) (size_of kind g * 0)) told errors xs empty (omega arith)
+
+pub first_more : {X : Type 0} (kind : SystemKind) (g : Geometry) (v : List ℕ → ℕ → X) (pages k n : ℕ) (told now : Option Image) (old mid new : List CheckError)
+    (b : List ℕ) (xs ys : List X) → HasShape g pages → k < place_count kind g pages → now ≡ told → SaysFirst kind g v pages k told old mid xs
+    → IsPlaceRead kind g pages k now mid new b n → ys ≡ xs ++ map (v b) (range_with_len 0 n) → SaysFirst kind g v pages (k + 1) told old new ys
+first_more {X} kind g v pages k n told now old mid new b xs ys shape below same s p grown =
+    let size = size_of kind g in
+    let all = value_count kind pages in
+    let at = next size all k (begins kind g pages k shape below) in
+    let rest : n ≡ min (all - size * k) size = p.rest in
+    says_more kind g v size k n (min all (size * k)) (min all (size * (k + 1))) (place_of kind g k) told now old mid new b xs ys
+    (divides kind g k) (omega (arith, rest)) at.0 (at.1 ∙ ap (λ (r : ℕ). size * k + r) (sym rest)) same refl s p.is p.errors grown
+
+-- all of them
+pub first_all : {X : Type 0} (kind : SystemKind) (g : Geometry) (v : List ℕ → ℕ → X) (pages k : ℕ) (told : Option Image) (old new : List CheckError) (xs : List X)
+    → k ≡ place_count kind g pages → SaysFirst kind g v pages k told old new xs
+    → SaysValues kind g (value_in v (size_of kind g)) (place_count kind g pages) (value_count kind pages) told old new xs
+first_all {X} kind g v pages k told old new xs is s =
+    says_all kind g (value_in v (size_of kind g)) k (place_count kind g pages) (min (value_count kind pages) (size_of kind g * k)) (value_count kind pages) told old new xs is
+    (ap (λ (i : ℕ). min (value_count kind pages) (size_of kind g * i)) is ∙ ends kind g pages) s
+
+-- the values of bits in the words of GAM and SGAM pages
+pub of_bits : (kind : SystemKind) (g : Geometry) (pages : ℕ) (told : Option Image) (old new : List CheckError) (xs : List Bool) → kind ≢ Pfs
+    → SaysValues kind g (value_in bit (size_of kind g)) (place_count kind g pages) (value_count kind pages) told old new xs
+    → SaysValues kind g (bit_in g) (place_count kind g pages) (pages / 8) told old new xs
+of_bits Pfs g pages told old new xs other s = absurd (other refl)
+of_bits Gam g pages told old new xs other s = s
+of_bits Sgam g pages told old new xs other s = s
 
 -- one value more of a page
 pub pushed_more : {X : Type 0} (f : ℕ → X) (n : ℕ) (old now new : List X) (v : X) → now ≡ old ++ map f (range_with_len 0 n) → new ≡ now ++ v ∷ []
@@ -173,10 +221,3 @@ pub pushed_more : {X : Type 0} (f : ℕ → X) (n : ℕ) (old now new : List X) 
 pushed_more {X} f n old now new v before grown is =
     grown ∙ ap (λ l. l ++ v ∷ []) before ∙ append_assoc old (map f (range_with_len 0 n)) (v ∷ [])
     ∙ ap (λ w. old ++ (map f (range_with_len 0 n) ++ w ∷ [])) is ∙ ap (λ l. old ++ l) (sym (map-range_with_len_more f 0 n n (omega arith)))
-
--- all places of a kind were read
-pub says_all : {X : Type 0} (kind : SystemKind) (g : Geometry) (value : List (List ℕ) → ℕ → X) (k n count all : ℕ) (told : Option Image)
-    (old new : List CheckError) (xs : List X) → k ≡ n → count ≡ all → SaysValues kind g value k count told old new xs
-    → SaysValues kind g value n all told old new xs
-says_all {X} kind g value k n count all told old new xs same ends s =
-    subst (λ a. SaysValues kind g value n a told old new xs) ends (subst (λ i. SaysValues kind g value i count told old new xs) same s)

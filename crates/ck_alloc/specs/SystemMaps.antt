@@ -12,7 +12,7 @@ use Rattle.ck_error.specs.Gathered.{Gathers, Adds, Below}
 use Rattle.ck_alloc.specs.declared.places.SystemKind.{SystemKind}
 use Rattle.ck_alloc.specs.declared.places.SystemKind.TheVariants.{Pfs, Gam, Sgam}
 use Rattle.ck_alloc.specs.declared.system_maps.SystemMaps.{SystemMaps}
-use Rattle.ck_alloc.specs.SystemPlaces.{place_of, place_count, places_of_image, bit_in, byte_in}
+use Rattle.ck_alloc.specs.SystemPlaces.{rest_of, place_of, place_count, places_of_image, bit_in, byte_in}
 
 -- the bytes of all system places of a file, by kind, and of its boot page
 pub record PagesRead : Type 0 where
@@ -35,6 +35,13 @@ GivesError g p bytes x = IsWrong g p bytes × IsErrorOf g p bytes x
 -- the k-th place of a kind has these bytes, is wrong, and gives this error
 abbrev pub GivesErrorAt : SystemKind → Geometry → List (List ℕ) → ℕ → CheckError → Type 0
 GivesErrorAt kind g found k x = GivesError g (place_of kind g k) (page found k) x
+
+-- the k-th place of a kind was read, where a reader may tell its image: its errors were added, and the first n values
+-- that it holds are those of the file
+pub record IsPlaceRead (kind : SystemKind) (g : Geometry) (pages k : ℕ) (told : Option Image) (old new : List CheckError) (bytes : List ℕ) (n : ℕ) : Type 0 where
+  pub is : IfSome told (λ image. bytes ≡ page image (place_of kind g k))
+  pub errors : Adds old new (GivesError g (place_of kind g k) bytes)
+  pub rest : n ≡ rest_of kind g pages k
 
 -- an error of one of the pages of a kind
 abbrev pub IsErrorOfKind : SystemKind → Geometry → List (List ℕ) → CheckError → Type 0

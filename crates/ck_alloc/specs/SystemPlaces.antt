@@ -1,6 +1,6 @@
 -- The system places of a file: a PFS page for each span of pages, a GAM and an SGAM page for each interval
 -- (Pages and Extents Architecture Guide).
-use Rattle.std.specs.Prelude.{ℕ, ◌+◌, ◌-◌, ◌*◌, ◌/◌, ◌%◌, ◌==◌, if◌then◌else◌, Bool, List, map, slice_index}
+use Rattle.std.specs.Prelude.{ℕ, ◌+◌, ◌-◌, ◌*◌, ◌/◌, ◌%◌, ◌==◌, min, if◌then◌else◌, Bool, List, map, slice_index}
 use Rattle.std.specs.List.{range_with_len}
 use Rattle.spec_file.specs.declared.geometry.Geometry.{Geometry}
 use Rattle.spec_file.specs.Image.{Image, page, bit, maps_start}
@@ -13,6 +13,22 @@ abbrev pub span_of : SystemKind → Geometry → ℕ
 span_of Pfs g = pfs_span g
 span_of Gam g = 8 * interval_size g
 span_of Sgam g = 8 * interval_size g
+
+-- how many values one of them holds, and how many a file of so many pages has: a bit for each extent, or a byte
+-- for each page
+abbrev pub size_of : SystemKind → Geometry → ℕ
+size_of Pfs g = pfs_span g
+size_of Gam g = interval_size g
+size_of Sgam g = interval_size g
+
+abbrev pub value_count : SystemKind → ℕ → ℕ
+value_count Pfs pages = pages
+value_count Gam pages = pages / 8
+value_count Sgam pages = pages / 8
+
+-- how many values of the k-th of them are those of the file
+abbrev pub rest_of : SystemKind → Geometry → ℕ → ℕ → ℕ
+rest_of kind g pages k = min (value_count kind pages - size_of kind g * k) (size_of kind g)
 
 -- the k-th of them, from 0
 abbrev pub place_of : SystemKind → Geometry → ℕ → ℕ

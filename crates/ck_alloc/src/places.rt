@@ -24,6 +24,35 @@ pub fn span_of(kind: SystemKind, g: Geometry) -> u32
     }
 }
 
+// How many values one system place of this kind holds.
+fn size_of(kind: SystemKind, g: Geometry) -> u32
+    ensures { result ≡ spec.size_of kind g }
+{
+    match kind {
+        SystemKind::Pfs => pfs_span(g),
+        SystemKind::Gam | SystemKind::Sgam => interval_size(g),
+    }
+}
+
+fn value_count(kind: SystemKind, pages: u32) -> u32
+    ensures { result ≡ spec.value_count kind pages }
+{
+    match kind {
+        SystemKind::Pfs => pages,
+        SystemKind::Gam | SystemKind::Sgam => pages / 8,
+    }
+}
+
+/// How many values of the k-th system place of this kind are those of the file.
+pub fn rest_of(kind: SystemKind, g: Geometry, pages: u32, k: u32) -> u32
+    requires shape { HasShape g pages }
+    requires below { k < spec.place_count kind g pages }
+    ensures { result ≡ spec.rest_of kind g pages k }
+{
+    let size = size_of(kind, g);
+    (value_count(kind, pages) - size * k).min(size)
+}
+
 /// The k-th system place of this kind, from 0.
 pub fn place_of(kind: SystemKind, g: Geometry, k: u32) -> PageNo
     requires { spec.span_of kind g * k < page_limit g }

@@ -1,51 +1,44 @@
 // The system places of a file, each read once into one page.
-ghost use Rattle.std.specs.Prelude.{◌≡◌, ◌≢◌, ◌-◌, ◌*◌, ◌/◌, ◌≤◌, ◌<◌, IfOk, IfSome, OnOk, min};
-ghost use Rattle.spec_file.specs.Image.{page as image_page};
+ghost use Rattle.std.specs.Prelude.{◌≡◌, ◌≢◌, ◌/◌, ◌<◌, IfOk};
 ghost use Rattle.pg_base.specs.Stops.{stop_of};
 ghost use Rattle.pg_base.specs.Reading.{OnlyReads};
-ghost use Rattle.spec_file.specs.Places.{page_limit, HasShape};
-ghost use Rattle.ck_error.specs.Gathered.{Adds};
+ghost use Rattle.spec_file.specs.Places.{HasShape};
 ghost use Rattle.ck_alloc.specs.SystemPlaces as spec;
 ghost use Rattle.ck_alloc.specs.declared.places.SystemKind.TheVariants.{Pfs};
-ghost use Rattle.ck_alloc.specs.SystemMaps.{GivesError, SaysValues};
+ghost use Rattle.ck_alloc.specs.SystemMaps.{IsPlaceRead, SaysValues};
 
 use crate::map_bits::{push_bits, push_bytes};
-use crate::places::{SystemKind, place_count, place_of};
+use crate::places::{SystemKind, place_count, place_of, rest_of};
 use crate::wrong::note;
 use pg_base::{Geometry, NoMemory, Page, PageNo, ReadStop, SnapReader};
-use pg_geom::{interval_size, pfs_span};
 use spec_check::CheckError;
 use std::alloc::Global;
 
-// Reads system place p into the page, and notes its errors.
+// Reads the k-th system place of a kind into the page, and notes its errors. So many of the values that it
+// holds are those of the file.
+#[tactic(auto, using(crate::proofs::PlaceBounds::place_inside, crate::proofs::PlaceBounds::span_below_limit))]
 fn read_place<R: SnapReader>(
     reader: &mut R,
+    kind: SystemKind,
     g: Geometry,
-    p: PageNo,
+    pages: u32,
+    k: u32,
     page: &mut Page,
     errors: &mut Vec<CheckError>,
-) -> Result<(), ReadStop>
-    requires inside { p.0 < R.pages reader.old }
-    requires limit { p.0 < page_limit g }
-    ensures page { OnOk result (IfSome (R.image reader.old) (λ image. page.new.bytes ≡ image_page image p.0)) }
-    ensures errors { OnOk result (Adds errors.old.items errors.new.items (GivesError g p.0 page.new.bytes)) }
+) -> Result<u32, ReadStop>
+    requires count { R.pages reader.old ≡ pages }
+    requires shape { HasShape g pages }
+    requires below { k < spec.place_count kind g pages }
+    ensures place { IfOk result (IsPlaceRead kind g pages k (R.image reader.old) errors.old.items errors.new.items page.new.bytes) }
     ensures reads { OnlyReads R.SnapReader reader.old reader.new (stop_of result) }
 {
+    let p = place_of(kind, g, k);
     reader.page(p, page)?;
     note(errors, g, p, page)?;
-    Ok(())
-}
-
-// How many of the values of the k-th place are those of a file that has so many.
-fn rest_of(size: u32, k: u32, count: u32) -> u32
-    requires { size * k ≤ count }
-    ensures { result ≡ min (count - size * k) size }
-{
-    (count - size * k).min(size)
+    Ok(rest_of(kind, g, pages, k))
 }
 
 /// Reads the GAM or the SGAM pages of a file: its bits, and the errors of these pages.
-#[tactic(auto, using(crate::proofs::PlaceBounds::place_inside, crate::proofs::PlaceBounds::span_below_limit))]
 pub fn read_bits<R: SnapReader>(
     alloc: Global,
     reader: &mut R,
@@ -64,14 +57,13 @@ pub fn read_bits<R: SnapReader>(
 {
     let mut bits = Vec::new(alloc);
     for k in 0..place_count(kind, g, pages) {
-        read_place(reader, g, place_of(kind, g, k), page, errors)?;
-        push_bits(&mut bits, page, rest_of(interval_size(g), k, pages / 8))?;
+        let n = read_place(reader, kind, g, pages, k, page, errors)?;
+        push_bits(&mut bits, page, n)?;
     }
     Ok(bits)
 }
 
 /// Reads the PFS pages of a file: its bytes, and the errors of these pages.
-#[tactic(auto, using(crate::proofs::PlaceBounds::place_inside, crate::proofs::PlaceBounds::span_below_limit))]
 pub fn read_bytes<R: SnapReader>(
     alloc: Global,
     reader: &mut R,
@@ -88,8 +80,8 @@ pub fn read_bytes<R: SnapReader>(
 {
     let mut bytes = Vec::new(alloc);
     for k in 0..place_count(SystemKind::Pfs, g, pages) {
-        read_place(reader, g, place_of(SystemKind::Pfs, g, k), page, errors)?;
-        push_bytes(&mut bytes, page, rest_of(pfs_span(g), k, pages))?;
+        let n = read_place(reader, SystemKind::Pfs, g, pages, k, page, errors)?;
+        push_bytes(&mut bytes, page, n)?;
     }
     Ok(bytes)
 }

@@ -1,3 +1,4 @@
+pub mod Sizes
 pub mod Maps
 pub mod MapOf
 pub mod Owners

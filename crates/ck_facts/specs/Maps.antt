@@ -1,5 +1,5 @@
 -- The maps that a check keeps, and what they say of an image.
-use Rattle.std.specs.Prelude.{◌≡◌, ◌↔◌, ℕ, ◌/◌, ◌%◌, ◌≤◌, ◌==◌, Bool, IsTrue, List, map, slice_index, slice_get, Some, Contains}
+use Rattle.std.specs.Prelude.{◌≡◌, ◌↔◌, ℕ, ◌/◌, ◌%◌, ◌==◌, Bool, IsTrue, List, [], map, slice_index, slice_get, Some, Contains}
 use Rattle.std.specs.Int.{bit_at}
 use Rattle.std.specs.List.Sorted.{IsStrictlySortedBy}
 use Rattle.std.specs.Ordering.{nat_cmp, on, then_cmp}
@@ -13,14 +13,13 @@ use Rattle.spec_chain.specs.Marks.{IsMarked}
 use Rattle.spec_chain.specs.Uses.{Use, IsUse}
 use Rattle.db_cat.specs.declared.rows.CatRow.{CatRow}
 use Rattle.db_cat.specs.Rows.{row_of}
+use Rattle.ck_facts.specs.declared.map.AllocMap.{AllocMap}
 use Rattle.ck_facts.specs.declared.map.PageUse.{PageUse}
 use Rattle.ck_facts.specs.declared.map.ExtentMap.{ExtentMap}
 
--- the catalog has at most 128 objects, and each extent and page of the file has its place
-pub record HasSizes (pages object_count extent_count byte_count : ℕ) : Type 0 where
-  pub objects : object_count ≤ 128
-  pub extents : extent_count ≡ pages / 8
-  pub bytes : byte_count ≡ pages
+-- a check goes on behind the maps only where no system page is wrong
+abbrev pub HasNoSystemErrors : AllocMap → Type 0
+HasNoSystemErrors m = m.system.items ≡ []
 
 -- uses are ordered by page, object and place
 abbrev pub page_use_cmp : PageUse → PageUse → Ordering

@@ -4,7 +4,7 @@ use Rattle.std.specs.Option.{ForSome}
 use Rattle.std.specs.List.{list_any}
 use Rattle.std.proofs.lemmas.List.{reverse-reverse}
 use Rattle.spec_file.specs.Image.{Image, page_size}
-use Rattle.spec_file.specs.ImageLaws.{bytes_of}
+use Rattle.spec_file.specs.Image.{bytes_of}
 use Rattle.spec_log.specs.declared.item.Record.{Record}
 use Rattle.spec_log.specs.Images.{final_image}
 use Rattle.spec_script.specs.declared.reply.Reply.{Reply}

@@ -15,8 +15,3 @@ pub use facts::{Fact, PageFacts, facts_of_page};
 pub use map::{AllocMap, ExtentMap, PageUse};
 pub use runs::uses_between;
 pub use spec_check::{CheckError, CheckReport, TableLine};
-
-#[cfg(test)]
-mod owner_tests;
-#[cfg(test)]
-mod page_tests;

@@ -16,6 +16,3 @@ ghost use Rattle.ck_scan.specs.PartsLaw.{PartsShowTrees};
 pub fn parts_law()
     ensures { PartsShowTrees }
 {}
-
-#[cfg(test)]
-mod tests;

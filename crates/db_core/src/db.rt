@@ -138,6 +138,3 @@ impl Core {
         &self.state.frames
     }
 }
-
-#[cfg(test)]
-mod tests;

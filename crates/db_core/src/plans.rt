@@ -343,6 +343,3 @@ pub fn begin_planned(state: &mut State, at: usize, plan: Result<Plan, NoMemory>)
     let plan = prepare(state, at, plan);
     begin_ready(state, at, plan);
 }
-
-#[cfg(test)]
-mod tests;

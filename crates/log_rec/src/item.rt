@@ -6,7 +6,7 @@ ghost use Rattle.spec_log.specs.Bytes.{cell_bytes, item_bytes, resource_bytes};
 ghost use Rattle.spec_log.specs.Items.{has_form};
 
 use crate::head::{Head, head_of, push_u8, push_u16, push_u32, push_u64};
-use crate::parts::{push, push_all};
+use pg_base::{append, append_three};
 use spec_file::{Lsn, NoMemory, PageNo, Resource, Tran};
 use spec_log::{Cell, Record};
 
@@ -126,7 +126,7 @@ fn push_resources(into: &mut Vec<u8>, takes: &[Resource]) -> Result<(), NoMemory
     ensures err { OnErr result (take (length into.old.items) into.new.items ≡ into.old.items) }
 {
     for resource in takes {
-        push(into, resource_of(resource).as_slice())?;
+        append(into, resource_of(resource).as_slice())?;
     }
     Ok(())
 }
@@ -137,7 +137,7 @@ fn push_start(into: &mut Vec<u8>, head: &[u8], takes: &[Resource]) -> Result<(),
     ensures err { OnErr result (into.new.items ≡ into.old.items) }
 {
     let before = into.len();
-    push(into, head)?;
+    append(into, head)?;
     match push_resources(into, takes) {
         Ok(()) => Ok(()),
         Err(stop) => {
@@ -181,23 +181,23 @@ pub fn encode(item: &Record, into: &mut Vec<u8>) -> Result<(), NoMemory>
             after,
         } => {
             let head = change_head(*tran, cell, after.count() as u16);
-            push_all(into, head.as_slice(), before.as_slice(), after.as_slice())
+            append_three(into, head.as_slice(), before.as_slice(), after.as_slice())
         }
-        Record::Undo { tran, change } => push(into, undo_bytes(*tran, *change).as_slice()),
-        Record::Commit { tran } => push(into, tran_head(4, *tran).as_slice()),
-        Record::Abort { tran } => push(into, tran_head(5, *tran).as_slice()),
+        Record::Undo { tran, change } => append(into, undo_bytes(*tran, *change).as_slice()),
+        Record::Commit { tran } => append(into, tran_head(4, *tran).as_slice()),
+        Record::Abort { tran } => append(into, tran_head(5, *tran).as_slice()),
         Record::Snap { session, index } => {
-            push(into, statement_head(6, *session, *index).as_slice())
+            append(into, statement_head(6, *session, *index).as_slice())
         }
         Record::Failed {
             session,
             index,
             page,
-        } => push(into, failed_bytes(*session, *index, *page).as_slice()),
+        } => append(into, failed_bytes(*session, *index, *page).as_slice()),
         Record::CheckEnd {
             session,
             index,
             outcome,
-        } => push(into, end_bytes(*session, *index, *outcome).as_slice()),
+        } => append(into, end_bytes(*session, *index, *outcome).as_slice()),
     }
 }

@@ -3,10 +3,6 @@
 
 mod head;
 mod item;
-mod parts;
 
 pub use item::encode;
 pub use spec_log::{Cell, Record};
-
-#[cfg(test)]
-mod tests;

@@ -1,7 +1,8 @@
-//! Pages: their numbers and headers, the words of a command line, and what reads the pages of one
-//! image.
+//! Pages: their numbers and headers, the words of a command line, what reads the pages of one image, and
+//! bytes that are put behind others.
 #![tactic(auto)]
 
+mod bytes;
 mod header;
 mod numbers;
 mod page;
@@ -9,8 +10,9 @@ mod read;
 mod reader;
 mod words;
 
+pub use bytes::{append, append_three};
 pub use header::{is_page_of, read_header, write_header};
-pub use numbers::{put_u16, put_u32, u16_at, u32_at};
+pub use numbers::{put_u16, put_u32, u16_at, u32_at, u64_at};
 pub use page::{Page, is_whole};
 pub use read::read_page;
 pub use reader::{ReadStop, SnapReader};
@@ -22,6 +24,3 @@ pub use spec_file::{
 };
 pub use spec_file::{MAPS_START, PAGE_SIZE};
 pub use words::Words;
-
-#[cfg(test)]
-mod tests;

@@ -15,6 +15,15 @@ pub fn u32_at(bytes: &[u8], at: usize) -> u32
     LittleEndian::read_u32(&bytes[at..])
 }
 
+/// The number of the eight bytes from `at`, the lowest first.
+#[tactic(auto, unfolding(spec_file::specs::Image::number_at))]
+pub fn u64_at(bytes: &[u8], at: usize) -> u64
+    requires { at + 8 ≤ length bytes.now }
+    ensures { result ≡ number_at 8 at bytes.now }
+{
+    LittleEndian::read_u64(&bytes[at..])
+}
+
 /// The number of the two bytes from `at`, the lowest first.
 #[tactic(auto, unfolding(spec_file::specs::Image::number_at))]
 pub fn u16_at(bytes: &[u8], at: usize) -> u16

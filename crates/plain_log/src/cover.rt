@@ -8,11 +8,11 @@ ghost use Rattle.spec_log.specs.Cover as spec;
 
 use crate::holders::holds;
 use pg_geom::{interval_size, pfs_span, role_of};
-use spec_file::{ExtentNo, Geometry, PageNo, Resource, Role};
+use spec_file::{ExtentNo, Geometry, MAPS_START, PageNo, Resource, Role};
 use spec_log::{Cell, Record};
 
-// Where the bits of a map page and the bytes of a PFS page begin.
-const MAPS_START: u64 = 96;
+// Where the bytes of a PFS page begin, as a number of 64 bits.
+const START: u64 = MAPS_START as u64;
 
 /// The extent that bit n of a map page speaks of.
 fn extent_at(g: Geometry, p: PageNo, n: u32) -> u64
@@ -28,7 +28,7 @@ fn paged_at(p: PageNo, at: u64) -> u64
     ensures { result ≡ spec.paged_at p.0 at }
 {
     let first = if p.0 == 1 { 0 } else { u64::from(p.0) };
-    first + at.saturating_sub(MAPS_START)
+    first + at.saturating_sub(START)
 }
 
 /// The guard of bit n of a GAM or SGAM page, none where the file has no such extent.
@@ -49,7 +49,7 @@ fn pfs_guard(g: Geometry, pages: u32, p: PageNo, at: u64) -> Option<Resource>
     ensures { result ≡ spec.pfs_guard g pages p.0 at }
 {
     let paged = paged_at(p, at);
-    if MAPS_START <= at && at - MAPS_START < u64::from(pfs_span(g)) && paged < u64::from(pages) {
+    if START <= at && at - START < u64::from(pfs_span(g)) && paged < u64::from(pages) {
         Some(Resource::Byte(PageNo(paged as u32)))
     } else {
         None

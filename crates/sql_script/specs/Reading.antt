@@ -4,6 +4,7 @@ use Rattle.std.specs.List.{list_all, position}
 use Rattle.std.specs.Str.Parse.{digits_value}
 use Rattle.spec_file.specs.Catalog.{is_name}
 use Rattle.spec_script.specs.Lines.{is_payload}
+use Rattle.spec_script.specs.declared.limits.TheConstants.{MOST_WORKERS, USUAL_WORKERS, MOST_TURNS}
 use Rattle.spec_script.specs.declared.statement.Statement.{Statement}
 use Rattle.spec_script.specs.declared.statement.Statement.TheVariants.{Begin, Commit, Rollback, Insert, Count, Check}
 
@@ -61,7 +62,7 @@ row_of words =
 unfoldable pub turns_of : ℕ → List ℕ → Option (ℕ × ℕ)
 turns_of sessions line =
     cut_at_space line >>= λ words. number_within 1 sessions words.0 >>= λ session.
-    number_within 1 10000000 words.1 >>= λ count. Some (session, count)
+    number_within 1 MOST_TURNS words.1 >>= λ count. Some (session, count)
 
 -- a statement of one line alone
 unfoldable pub keyword_of : List ℕ → Option Statement
@@ -69,7 +70,7 @@ keyword_of line =
     if bytes_eq line (codes "BEGIN") then Some Begin
     else (if bytes_eq line (codes "COMMIT") then Some Commit
     else (if bytes_eq line (codes "ROLLBACK") then Some Rollback
-    else (if bytes_eq line (codes "DBCC CHECKDB") then Some (Check 4) else None)))
+    else (if bytes_eq line (codes "DBCC CHECKDB") then Some (Check USUAL_WORKERS) else None)))
 
 unfoldable pub insert_of : List ℕ → Option Statement
 insert_of words = option_map (λ row. Insert row.0 row.1 row.2) (row_of words)
@@ -78,7 +79,7 @@ unfoldable pub count_of : List ℕ → Option Statement
 count_of word = option_map (λ table. Count table) (name_of word)
 
 unfoldable pub check_of : List ℕ → Option Statement
-check_of digits = option_map (λ workers. Check workers) (number_within 1 16 digits)
+check_of digits = option_map (λ workers. Check workers) (number_within 1 MOST_WORKERS digits)
 
 -- what the rest says where there is one, else the other
 abbrev pub said : {A : Type 0} → Option A → (A → Option Statement) → Option Statement → Option Statement

@@ -5,6 +5,7 @@ ghost use Rattle.spec_script.specs.Lines.{is_statement, statement_line};
 
 use arrayvec::ArrayString;
 use itoa::Buffer;
+use pg_base::{append, append_three};
 use spec_file::NoMemory;
 use spec_script::Statement;
 
@@ -57,39 +58,6 @@ fn check_line(workers: u8) -> Head
     line
 }
 
-fn push(into: &mut Vec<u8>, bytes: &[u8]) -> Result<(), NoMemory>
-    ensures ok { OnOk result (into.new.items ≡ into.old.items ++ bytes.now) }
-    ensures err { OnErr result (into.new.items ≡ into.old.items) }
-{
-    into.extend_from_slice(bytes)?;
-    Ok(())
-}
-
-// Two parts, of which the first may stand there after an error.
-fn push_both(into: &mut Vec<u8>, first: &[u8], second: &[u8]) -> Result<(), NoMemory>
-    ensures ok { OnOk result (into.new.items ≡ into.old.items ++ (first.now ++ second.now)) }
-    ensures err { OnErr result (take (length into.old.items) into.new.items ≡ into.old.items) }
-{
-    push(into, first)?;
-    push(into, second)
-}
-
-// Three parts, or none.
-fn push_all(into: &mut Vec<u8>, first: &[u8], second: &[u8], third: &[u8]) -> Result<(), NoMemory>
-    ensures ok { OnOk result (into.new.items ≡ into.old.items ++ (first.now ++ (second.now ++ third.now))) }
-    ensures err { OnErr result (into.new.items ≡ into.old.items) }
-{
-    let before = into.len();
-    push(into, first)?;
-    match push_both(into, second, third) {
-        Ok(()) => Ok(()),
-        Err(stop) => {
-            into.truncate(before);
-            Err(stop)
-        }
-    }
-}
-
 /// Writes the line of a statement at the end, with its LF.
 pub fn print_statement(statement: &Statement, into: &mut Vec<u8>) -> Result<(), NoMemory>
     requires { IsTrue (is_statement statement.now) }
@@ -97,18 +65,18 @@ pub fn print_statement(statement: &Statement, into: &mut Vec<u8>) -> Result<(), 
     ensures err { OnErr result (into.new.items ≡ into.old.items) }
 {
     match statement {
-        Statement::Begin => push(into, b"BEGIN\n"),
-        Statement::Commit => push(into, b"COMMIT\n"),
-        Statement::Rollback => push(into, b"ROLLBACK\n"),
+        Statement::Begin => append(into, b"BEGIN\n"),
+        Statement::Commit => append(into, b"COMMIT\n"),
+        Statement::Rollback => append(into, b"ROLLBACK\n"),
         Statement::Insert {
             table,
             key,
             payload,
         } => {
             let head = insert_head(table.as_str(), *key);
-            push_all(into, head.as_str().as_bytes(), payload.as_slice(), b"'\n")
+            append_three(into, head.as_str().as_bytes(), payload.as_slice(), b"'\n")
         }
-        Statement::Count(table) => push(into, count_line(table.as_str()).as_str().as_bytes()),
-        Statement::Check { workers } => push(into, check_line(*workers).as_str().as_bytes()),
+        Statement::Count(table) => append(into, count_line(table.as_str()).as_str().as_bytes()),
+        Statement::Check { workers } => append(into, check_line(*workers).as_str().as_bytes()),
     }
 }

@@ -7,14 +7,8 @@ ghost use Rattle.sql_script.specs.Stops.{StopsAt, StopsLine, StopsValue, Takes, 
 use crate::ScriptStop;
 use crate::statement::{statement_of, turns_of};
 use crate::text::{first_line, is_skipped};
-use spec_script::{ScriptWhy, Statement};
+use spec_script::{LONGEST_TEXT, MOST_LINES, ScriptWhy, Statement};
 use std::alloc::Global;
-
-/// The most bytes of a script or a schedule, and the most lines of it that aren't skipped (this
-/// project's own).
-const LONGEST: usize = 16_777_216;
-
-const MOST_LINES: usize = 65_536;
 
 // Adds what a line says, which is nothing where the line is wrong.
 fn push_value<T: Drop>(values: &mut Vec<T>, value: Option<T>, number: u32) -> Result<(), ScriptStop>
@@ -61,7 +55,7 @@ pub fn read_script(alloc: Global, bytes: &[u8]) -> Result<Vec<Statement>, Script
     ensures ok { IfOk result (λ statements. IsScript bytes.now statements.items) }
     ensures fault { StopsAt IsStatementLine bytes.now result }
 {
-    if bytes.len() > LONGEST {
+    if bytes.len() > LONGEST_TEXT {
         return Err(ScriptStop::Fault {
             line: 0,
             why: ScriptWhy::Size,
@@ -106,7 +100,7 @@ pub fn read_schedule(
     ensures ok { IfOk result (λ turns. IsSchedule sessions bytes.now turns.items) }
     ensures fault { StopsAt (IsTurnsLine sessions) bytes.now result }
 {
-    if bytes.len() > LONGEST {
+    if bytes.len() > LONGEST_TEXT {
         return Err(ScriptStop::Fault {
             line: 0,
             why: ScriptWhy::Size,

@@ -6,7 +6,7 @@ ghost use Rattle.sql_script.specs.Reading as spec;
 use crate::words::{after, cut_at_space, name_of, number_of, number_within, payload_of};
 use spec_file::NoMemory;
 use spec_log::Values;
-use spec_script::{Name, Statement};
+use spec_script::{MOST_TURNS, MOST_WORKERS, Name, Statement, USUAL_WORKERS};
 use std::alloc::Global;
 
 // What an INSERT names.
@@ -73,7 +73,7 @@ fn count_of(alloc: Global, word: &[u8]) -> Result<Option<Statement>, NoMemory>
 fn check_of(digits: &[u8]) -> Option<Statement>
     ensures { result ≡ spec.check_of digits.now }
 {
-    match number_within(1, 16, digits) {
+    match number_within(1, u32::from(MOST_WORKERS), digits) {
         Some(workers) => Some(Statement::Check {
             workers: workers as u8,
         }),
@@ -98,7 +98,9 @@ fn keyword_of(line: &[u8]) -> Option<Statement>
     } else if is(line, "ROLLBACK") {
         Some(Statement::Rollback)
     } else if is(line, "DBCC CHECKDB") {
-        Some(Statement::Check { workers: 4 })
+        Some(Statement::Check {
+            workers: USUAL_WORKERS,
+        })
     } else {
         None
     }
@@ -128,6 +130,6 @@ pub(crate) fn turns_of(sessions: u32, line: &[u8]) -> Option<(u32, u32)>
 {
     let (session, count) = cut_at_space(line)?;
     let session = number_within(1, sessions, session)?;
-    let count = number_within(1, 10_000_000, count)?;
+    let count = number_within(1, MOST_TURNS, count)?;
     Some((session, count))
 }

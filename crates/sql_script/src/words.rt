@@ -6,6 +6,7 @@ ghost use Rattle.spec_script.specs.Lines as lines;
 ghost use Rattle.sql_script.specs.Reading as spec;
 
 use crate::name::is_name;
+use spec_file::PAYLOAD_LIMIT;
 
 /// The first place of a byte.
 pub(crate) fn place_of(byte: u8, bytes: &[u8]) -> Option<usize>
@@ -111,7 +112,7 @@ pub(crate) fn payload_of(quoted: &[u8]) -> Option<&[u8]>
 {
     let rest = after(quoted, b"'")?;
     let payload = before(rest, b"'")?;
-    if are_payload_bytes(payload) && payload.len() <= 1013 {
+    if are_payload_bytes(payload) && payload.len() <= PAYLOAD_LIMIT {
         Some(payload)
     } else {
         None

@@ -12,6 +12,3 @@ mod pieces;
 pub use device::{DeviceFailed, LONGEST_LOG, LogFile, LogStop, Sink, Source, Volume};
 pub use file::{FileLog, FileSource, FileVolume, StdoutSink};
 pub use memory::{FailAt, MemLog, MemSink, MemSource, MemVolume};
-
-#[cfg(test)]
-mod tests;

@@ -5,7 +5,7 @@ use Rattle.std.proofs.lemmas.List.{take_more}
 use Rattle.std.proofs.lemmas.List.Elements.{All-push}
 use Rattle.std.proofs.Math.Seq.{take-length}
 use Rattle.spec_file.specs.Image.{Image, page_at, pages_of}
-use Rattle.spec_file.specs.ImageLaws.{length-pages_of, page-pages_of}
+use Rattle.spec_file.proofs.ImageLaws.{length-pages_of, page-pages_of}
 use Rattle.spec_log.specs.Cells.{HasWholePages}
 
 has_pages : (bytes : List ℕ) (pages : ℕ) → length bytes ≡ 8192 * pages → length bytes / 8192 ≡ pages

@@ -5,3 +5,5 @@ pub mod Stepping
 pub mod Finding
 pub mod Reading
 pub mod Inside
+pub mod Tests
+pub mod Exits

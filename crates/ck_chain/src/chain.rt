@@ -1,11 +1,13 @@
 // The walk along a chain, page by page.
 ghost use Rattle.std.specs.Prelude.{◌≡◌, ◌*◌, ◌/◌, ◌<◌, ◌≤◌, IsTrue, None, OnOk, IfOk, IfSome, length, vec_len, slice_index_or, false};
+ghost use Rattle.spec_file.specs.declared.sizes.TheConstants.{ENTRY_COUNT};
 ghost use Rattle.spec_file.specs.Image.{page as image_page};
 ghost use Rattle.spec_file.specs.Iam.{iam_interval, has_interval};
 ghost use Rattle.pg_iam.specs.Views.{bytes_of, Views};
 ghost use Rattle.spec_file.specs.CatalogRows.{CatalogRow};
 ghost use Rattle.spec_chain.specs.Chains.{fault_of_number as number_fault};
-ghost use Rattle.pg_base.specs.Reading.{StopHasCause};
+ghost use Rattle.pg_base.specs.Stops.{stop_of};
+ghost use Rattle.pg_base.specs.Reading.{OnlyReads};
 ghost use Rattle.spec_file.specs.Places.{HasShape};
 ghost use Rattle.ck_chain.specs.Walks.{looked_at, met_end, inside_count, TakesPage, GoesOnBehind, IsChainRead};
 ghost use Rattle.std.specs.Option.{ForSome};
@@ -44,12 +46,7 @@ fn look<R: SnapReader>(
     ensures end { IfOk result (λ end. end ≡ looked_at owner.now walk.now page.new.bytes) }
     ensures read { OnOk result (number_fault owner.now.geometry owner.now.pages walk.now.link.count walk.now.link.page ≡ None
         → IfSome (R.image reader.old) (λ image. page.new.bytes ≡ image_page image walk.now.link.page)) }
-    ensures cause { StopHasCause (R.faults reader.old) (R.faults reader.new) (R.failed reader.new) (R.ended reader.new) result }
-    ensures ended { IsTrue (R.ended reader.old) → IsTrue (R.ended reader.new) }
-    ensures faults { R.faults reader.old ≤ R.faults reader.new }
-    ensures pages { R.pages reader.new ≡ R.pages reader.old }
-    ensures image { R.image reader.new ≡ R.image reader.old }
-    ensures bound { R.bound reader.new ≡ R.bound reader.old }
+    ensures reads { OnlyReads R.SnapReader reader.old reader.new (stop_of result) }
 {
     let q = walk.link.page;
     if let Some(end) = fault_of_number(owner.geometry, owner.pages, walk.link.count, q) {
@@ -77,7 +74,7 @@ fn extents_inside(owner: &Owner, iam: &IamView<'_>) -> usize
 // Takes what the walk's next page gives, and goes on behind it.
 fn take(owner: &Owner, walk: &mut Walk, page: &Page, found: &mut Found) -> Result<(), NoMemory>
     requires shape { HasShape owner.now.geometry owner.now.pages }
-    requires object { owner.now.index < 128 }
+    requires object { owner.now.index < ENTRY_COUNT }
     requires size { vec_len walk.old.met ≡ owner.now.pages }
     requires count { walk.old.link.count < owner.now.pages }
     requires extents { vec_len found.old.extents ≡ owner.now.pages / 8 }
@@ -110,17 +107,12 @@ fn follow<R: SnapReader>(
 ) -> Result<(), ReadStop>
     requires count { R.pages reader.old ≡ owner.now.pages }
     requires shape { HasShape owner.now.geometry owner.now.pages }
-    requires object { owner.now.index < 128 }
+    requires object { owner.now.index < ENTRY_COUNT }
     requires extents { vec_len found.old.extents ≡ owner.now.pages / 8 }
     ensures read { OnOk result (ForSome (R.image reader.old) (λ image. (row : CatalogRow) → row.id ≡ owner.now.id → row.first_iam ≡ first
         → IsChainRead owner.now.geometry image row owner.now.index found.old found.new)) }
     ensures extents { OnOk result (vec_len found.new.extents ≡ owner.now.pages / 8) }
-    ensures cause { StopHasCause (R.faults reader.old) (R.faults reader.new) (R.failed reader.new) (R.ended reader.new) result }
-    ensures ended { IsTrue (R.ended reader.old) → IsTrue (R.ended reader.new) }
-    ensures faults { R.faults reader.old ≤ R.faults reader.new }
-    ensures pages { R.pages reader.new ≡ R.pages reader.old }
-    ensures image { R.image reader.new ≡ R.image reader.old }
-    ensures bound { R.bound reader.new ≡ R.bound reader.old }
+    ensures reads { OnlyReads R.SnapReader reader.old reader.new (stop_of result) }
 {
     let mut walk = Walk::begin(alloc, first, owner.pages)?;
     for count in 0..owner.pages {
@@ -151,17 +143,12 @@ pub fn read_chain<R: SnapReader>(
 ) -> Result<(), ReadStop>
     requires count { R.pages reader.old ≡ owner.now.pages }
     requires shape { HasShape owner.now.geometry owner.now.pages }
-    requires object { owner.now.index < 128 }
+    requires object { owner.now.index < ENTRY_COUNT }
     requires extents { vec_len found.old.extents ≡ owner.now.pages / 8 }
     ensures read { OnOk result (ForSome (R.image reader.old) (λ image. (row : CatalogRow) → row.id ≡ owner.now.id → row.first_iam ≡ first
         → IsChainRead owner.now.geometry image row owner.now.index found.old found.new)) }
     ensures extents { OnOk result (vec_len found.new.extents ≡ owner.now.pages / 8) }
-    ensures cause { StopHasCause (R.faults reader.old) (R.faults reader.new) (R.failed reader.new) (R.ended reader.new) result }
-    ensures ended { IsTrue (R.ended reader.old) → IsTrue (R.ended reader.new) }
-    ensures faults { R.faults reader.old ≤ R.faults reader.new }
-    ensures pages { R.pages reader.new ≡ R.pages reader.old }
-    ensures image { R.image reader.new ≡ R.image reader.old }
-    ensures bound { R.bound reader.new ≡ R.bound reader.old }
+    ensures reads { OnlyReads R.SnapReader reader.old reader.new (stop_of result) }
 {
     let mut page = Page::zeroed(alloc)?;
     follow(alloc, reader, owner, first, &mut page, found)?;

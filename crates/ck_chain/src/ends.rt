@@ -7,7 +7,7 @@ ghost use Rattle.spec_check.specs.Chains.{error_of_end};
 ghost use Rattle.ck_error.specs.Gathered.{Adds};
 
 use ck_error::{CheckError, push_some};
-use pg_base::{Geometry, NoMemory, Page, PageNo, is_page_of, u32_at};
+use pg_base::{Geometry, IAM_TYPE, NoMemory, Page, PageNo, is_page_of, u32_at};
 use pg_geom::{is_inside, is_ordinary};
 use pg_iam::has_interval;
 use spec_chain::ChainEnd;
@@ -41,7 +41,7 @@ pub fn fault_of_number(g: Geometry, pages: u32, count: u32, q: u32) -> Option<Ch
 pub fn fault_of_page(g: Geometry, pages: u32, id: u32, q: u32, page: &Page) -> Option<ChainEnd>
     ensures { result ≡ chains.fault_of_bytes g pages id q page.now.bytes }
 {
-    if !is_page_of(page, 10, PageNo(q)) {
+    if !is_page_of(page, IAM_TYPE, PageNo(q)) {
         return Some(ChainEnd::NotIam);
     }
     if u32_at(&page.bytes, 8) != id {

@@ -1,5 +1,6 @@
 // The extents that an object marks.
 ghost use Rattle.std.specs.Prelude.{◌≡◌, ◌+◌, ◌<◌, ◌≤◌, vec_len, IsTrue, ⊤};
+ghost use Rattle.spec_file.specs.declared.sizes.TheConstants.{ENTRY_COUNT};
 ghost use Rattle.pg_iam.specs.Views.{bytes_of, Views};
 ghost use Rattle.ck_chain.specs.Marking.{IsMarkedAs, AreMarkedAs, MarksFront};
 
@@ -9,7 +10,7 @@ use pg_maps::with_bit;
 
 // The extent, marked by the i-th object too.
 fn with_mark(extent: ExtentMap, i: usize) -> ExtentMap
-    requires { i < 128 }
+    requires { i < ENTRY_COUNT }
     ensures { IsMarkedAs i ⊤ extent result }
 {
     let mut marks = extent.marks;
@@ -22,7 +23,7 @@ fn with_mark(extent: ExtentMap, i: usize) -> ExtentMap
 }
 
 fn mark_if(extents: &mut Vec<ExtentMap>, e: usize, i: usize, marked: bool)
-    requires object { i < 128 }
+    requires object { i < ENTRY_COUNT }
     requires inside { e < vec_len extents.old }
     ensures marked { AreMarkedAs i (λ k. IsTrue marked × (k ≡ e)) extents.old.items extents.new.items }
     ensures size { vec_len extents.new ≡ vec_len extents.old }
@@ -41,7 +42,7 @@ pub fn mark_extents(
     start: usize,
     count: usize,
 )
-    requires object { i < 128 }
+    requires object { i < ENTRY_COUNT }
     requires view { Views (bytes_of iam.now) iam.now }
     requires bits { count ≤ 63904 }
     requires inside { start + count ≤ vec_len extents.old }

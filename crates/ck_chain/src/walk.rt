@@ -6,7 +6,7 @@ use pg_base::{Geometry, NoMemory};
 use std::alloc::Global;
 
 /// Whose chain is walked, and in what file.
-#[derive(Clone, Copy, Debug, PartialEq, Eq)]
+#[derive(Clone, Copy)]
 pub struct Owner {
     pub geometry: Geometry,
     /// How many pages the file has.
@@ -17,7 +17,7 @@ pub struct Owner {
 }
 
 /// The next pointer of a chain.
-#[derive(Clone, Copy, Debug, PartialEq, Eq)]
+#[derive(Clone, Copy)]
 pub struct Link {
     /// The page that it names.
     pub page: u32,

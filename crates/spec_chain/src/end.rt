@@ -1,5 +1,5 @@
 /// How an IAM chain ends (this project's own).
-#[derive(Clone, Copy, Debug, PartialEq, Eq)]
+#[derive(Clone, Copy)]
 pub enum ChainEnd {
     /// After its last page.
     Whole,

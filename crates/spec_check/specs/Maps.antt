@@ -7,6 +7,7 @@ use Rattle.spec_file.specs.Roles.{is_system_extent}
 use Rattle.spec_chain.specs.Marks.{AreMarkers, HasMarker}
 use Rattle.spec_chain.specs.Uses.{HasUse}
 use Rattle.spec_check.specs.declared.report.CheckError.{CheckError}
+use Rattle.spec_check.specs.declared.claims.Claims.{Claims}
 
 -- 8903, with the extent's first page
 abbrev pub both_maps : ℕ → CheckError
@@ -40,9 +41,9 @@ HoldsUse g image e = ((p : ℕ) × (p / 8 ≡ e) × HasUse g image p) ⊎ (e ≡
 abbrev pub lost_extent : ℕ → CheckError
 lost_extent e = record { number = 8905; object = 0; page = 8 * e; other = 0; slot = 0; value = 0 }
 
--- an extent that isn't free has no owner: it is neither mixed nor a system extent, and nobody uses a page of
--- it or marks it
-pub record HasNoOwner (g : Geometry) (image : Image) (e : ℕ) : Type 0 where
+-- nothing claims an extent: it is neither free nor mixed nor a system extent, and nobody uses a page of it or
+-- marks it
+pub record HasNoClaim (g : Geometry) (image : Image) (e : ℕ) : Type 0 where
   pub free : is_free g image e ≡ false
   pub mixed : is_mixed g image e ≡ false
   pub system : is_system_extent g e ≡ false
@@ -50,19 +51,13 @@ pub record HasNoOwner (g : Geometry) (image : Image) (e : ℕ) : Type 0 where
   pub marks : HasMarker g image e → ⊥
 
 abbrev pub IsLost : Geometry → Image → CheckError → Type 0
-IsLost g image x = (e : ℕ) × (e < extent_count image) × HasNoOwner g image e × (x ≡ lost_extent e)
+IsLost g image x = (e : ℕ) × (e < extent_count image) × HasNoClaim g image e × (x ≡ lost_extent e)
 
 -- the extent is mixed: a page of it has a use, or SGAM alone marks it
 abbrev pub IsMixed : Geometry → Image → ℕ → Type 0
 IsMixed g image e = HoldsUse g image e ⊎ (IsTrue (is_mixed g image e) × (is_free g image e ≡ false))
 
--- who claims an extent: the system, the free space, single pages, and objects that mark it
-pub record Claims : Type 0 where
-  pub system : Bool
-  pub free : Bool
-  pub mixed : Bool
-  pub marked : Bool
-
+-- what claims an extent: the system, the free space, single pages, and objects that mark it
 pub record AreClaims (g : Geometry) (image : Image) (e : ℕ) (ids : List ℕ) (claims : Claims) : Type 0 where
   pub system : claims.system ≡ is_system_extent g e
   pub free : claims.free ≡ is_free g image e

@@ -2,6 +2,8 @@
 //! which errors an image has, in what order a report lists them, and how it is printed.
 #![tactic(auto)]
 
+mod claims;
 mod report;
 
+pub use claims::Claims;
 pub use report::{CheckError, CheckReport, TableLine};

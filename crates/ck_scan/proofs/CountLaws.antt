@@ -16,11 +16,11 @@ use Rattle.spec_file.specs.declared.data.Kind.{Kind}
 use Rattle.ck_facts.specs.declared.map.AllocMap.{AllocMap}
 use Rattle.ck_facts.specs.Maps.{HasNoSystemErrors}
 use Rattle.ck_facts.specs.MapOf.{IsMapOf, ids_of}
-use Rattle.ck_facts.specs.Owners.{Owned, owned, IsObjectAt, IsPlaceOf}
+use Rattle.ck_facts.specs.Owners.{Owned, owned, IsPlaceOf}
 use Rattle.ck_facts.proofs.OwnerLaws.{place_there, stand_by_id}
 use Rattle.ck_facts.proofs.Places.{one_place}
-use Rattle.ck_scan.specs.Shown.{IsRowOf, IsSeenAt, WithPage}
-use Rattle.ck_scan.specs.Counted.{IsCountOf, IsOneMore, CountsPage, IsMetOf, AreCounts}
+use Rattle.ck_scan.specs.Shown.{IsRowOf, WithPage}
+use Rattle.ck_scan.specs.Counted.{IsCountOf, IsOneMore, IsMetOf, AreCounts}
 use Rattle.ck_scan.specs.Found.{CountsIt, CountsSeen, IsBehind}
 use Rattle.ck_scan.proofs.Counting.{count_as, count_push, IsCountable, TakesMore}
 use Rattle.ck_scan.proofs.OwnerLaws.{seen_low, file_end, one_row, object_of_place}

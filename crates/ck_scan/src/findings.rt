@@ -136,7 +136,8 @@ impl Findings {
         };
         let row = &map.objects[place];
         let shown = facts_of_page(alloc, page, owned.0, row, map.pfs(owned.0))?;
-        self.take(place, &shown)
+        self.take(place, &shown)?;
+        Ok(())
     }
 
     /// Takes that no object may own the page.

@@ -5,3 +5,4 @@ pub mod OwnerLists
 pub mod OwnerLaws
 pub mod Between
 pub mod MapLaws
+pub mod Places

@@ -9,7 +9,7 @@ use Rattle.std.proofs.lemmas.Option.{slice_get-get_or}
 use Rattle.spec_file.specs.Image.{Image}
 use Rattle.ck_facts.specs.declared.map.AllocMap.{AllocMap}
 use Rattle.ck_facts.specs.declared.map.PageUse.{PageUse}
-use Rattle.ck_facts.specs.Maps.{page_use_cmp, IsExtentOf, rows_of_objects}
+use Rattle.ck_facts.specs.Maps.{HasNoSystemErrors, page_use_cmp, IsExtentOf, rows_of_objects}
 use Rattle.ck_facts.specs.MapOf.{IsMapOf, no_extent, extent_at}
 use Rattle.ck_facts.specs.PageUses.{IsByPage}
 
@@ -30,10 +30,10 @@ by_page uses sorted = record {
   split : (i j : ℕ) → i ≤ j → (i < j) ⊎ (i ≡ j)
   split i j h = search (rules, arith)
 
-pub uses_by_page : (image : Image) (m : AllocMap) → IsMapOf image m → m.system.items ≡ [] → IsByPage m.uses.items
+pub uses_by_page : (image : Image) (m : AllocMap) → IsMapOf image m → HasNoSystemErrors m → IsByPage m.uses.items
 uses_by_page image m of sound = by_page m.uses.items (of.whole sound).uses.sorted
 
-pub extent_of : (image : Image) (m : AllocMap) → IsMapOf image m → m.system.items ≡ [] → (e : ℕ) → e < m.pages / 8
+pub extent_of : (image : Image) (m : AllocMap) → IsMapOf image m → HasNoSystemErrors m → (e : ℕ) → e < m.pages / 8
     → IsExtentOf m.geometry image (rows_of_objects m.objects.items) e (extent_at m e)
 extent_of image m of sound e below =
     let kept : m.extents.len ≡ m.pages / 8 = (m.sizes sound).extents in

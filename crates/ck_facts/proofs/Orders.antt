@@ -1,10 +1,11 @@
 -- How the errors of a page's keys grow, slot by slot.
-use Rattle.std.proofs.Common.{◌≡◌, ◌≢◌, ℕ, ◌+◌, ◌-◌, ◌%◌, ◌≤◌, ◌==◌, Bool, true, false, not, IsTrue, nat_le, List, arith, refl, sym, subst, ap, ◌∙◌}
+use Rattle.std.proofs.Common.{◌≡◌, ◌≢◌, ℕ, ◌+◌, ◌-◌, ◌%◌, ◌≤◌, ◌==◌, Bool, true, false, not, IsTrue, nat_le, List, Result, Ok, Err, OnOk, arith, refl, sym, subst, ap, ◌∙◌}
 use Rattle.std.proofs.lemmas.Bool.{leb-true, le-leb, eqb-true, eq-eqb}
+use Rattle.spec_file.specs.declared.data.NoMemory.{NoMemory}
 use Rattle.spec_check.specs.declared.report.CheckError.{CheckError}
 use Rattle.spec_tables.specs.PageRules.{wrong_order}
 use Rattle.ck_error.specs.Gathered.{Adds, Below}
-use Rattle.ck_error.proofs.GatheringLaws.{adds_as, adds_none, adds_below_more, adds_if}
+use Rattle.ck_error.proofs.GatheringLaws.{adds_as, adds_none, adds_given, adds_below_more, adds_if}
 use Rattle.ck_facts.specs.Tested.{slot_key, FallsAt}
 
 -- the first slot has none before it
@@ -51,3 +52,9 @@ pub fullness_adds : (xs ys : List CheckError) (pfs n m : ℕ) (e f : CheckError)
     → Adds xs ys (λ x. (pfs % 8 ≢ m) × (x ≡ f))
 fullness_adds xs ys pfs n m e f right is a = adds_if xs ys (not (pfs % 8 == n)) e f (pfs % 8 ≢ m)
     (λ h. subst (λ k. pfs % 8 ≢ k) right (differs_from (pfs % 8) n h), λ h. differs_in (pfs % 8) n (subst (λ k. pfs % 8 ≢ k) (sym right) h)) is a
+
+-- a rule under a condition that holds, by a call whose answer is handed on
+pub given_on_ok : (r : Result (Unit {0}) NoMemory) (xs ys : List CheckError) (C : Type 0) (P : CheckError → Type 0) → C
+    → OnOk r (Adds xs ys P) → OnOk r (Adds xs ys (λ x. C × P x))
+given_on_ok (Ok t) xs ys C P holds a = adds_given xs ys C P holds a
+given_on_ok (Err e) xs ys C P holds a = a

@@ -13,8 +13,8 @@ use Rattle.std.proofs.lemmas.Bool.{ltb-true, ltb-false, lt-ltb, le-ltb, not-true
 use Rattle.std.proofs.lemmas.Cmp.{nat_cmp_total, tied_itself}
 use Rattle.std.proofs.lemmas.List.FromFn.{get_or-map-range_with_len, get_or-range_with_len, length-range_with_len}
 use Rattle.std.proofs.lemmas.Map.Keys.{sorted_tail}
-use Rattle.std.proofs.lemmas.Option.{slice_get-map, slice_get_cases, slice_get_within, get_or_from_slice_get, same_Some}
-use Rattle.std.proofs.lemmas.List.{get_or_default, get_or-replicate, get_or_past, length-replicate}
+use Rattle.std.proofs.lemmas.Option.{slice_get-get_or, slice_get-map, slice_get_cases, slice_get_within, get_or_from_slice_get, same_Some}
+use Rattle.std.proofs.lemmas.List.{get_or-map, get_or_default, get_or-replicate, get_or_past, length-replicate}
 use Rattle.std.proofs.lemmas.Nat.Bits.{bit_at-zero}
 use Rattle.spec_file.specs.declared.geometry.Geometry.{Geometry}
 use Rattle.spec_file.specs.Image.{Image}
@@ -30,14 +30,13 @@ use Rattle.ck_facts.specs.declared.map.ExtentMap.{ExtentMap}
 use Rattle.ck_facts.specs.declared.map.PageUse.{PageUse}
 use Rattle.ck_facts.specs.MapOf.{IsMapOf, no_extent, extent_at, ids_of}
 use Rattle.ck_facts.proofs.MapLaws.{extent_of}
-use Rattle.ck_facts.specs.Maps.{has_mark, AreObjects, AreAllUses, use_of, rows_of_objects}
-use Rattle.ck_facts.specs.Owners.{IsObjectAt, AreOwnersIn}
+use Rattle.ck_facts.specs.Maps.{HasNoSystemErrors, has_mark, AreObjects, AreAllUses, use_of, rows_of_objects}
+use Rattle.ck_facts.specs.Owners.{Owned, owned, IsObjectAt, IsPlaceOf, StandById, AreOwnersIn}
 use Rattle.ck_facts.specs.OwnedBy.{is_marked, is_single, is_held, is_owned_by, owned_at, owners_of, IsUnowned}
 use Rattle.ck_facts.specs.PageUses.{IsByPage, uses_between}
-use Rattle.ck_facts.specs.declared.owners.OwnedPage.{OwnedPage}
-use Rattle.spec_check.proofs.Members.{nothing_there, cons_cases, cons_here, cons_there, filter_from, filter_in, below}
+use Rattle.spec_check.proofs.Members.{nothing_there, cons_cases, cons_here, cons_there, filter_from, filter_in, below, sorted_map}
 use Rattle.ck_facts.proofs.Between.{between_by_page, page_in_extent}
-use Rattle.ck_facts.proofs.OwnerLists.{AreOwnersUpTo}
+use Rattle.ck_facts.proofs.OwnerLists.{owns, AreOwned}
 
 pub empty_list : {X : Type 0} (xs : List X) → length xs ≡ 0 → xs ≡ []
 empty_list [] h = refl
@@ -69,7 +68,7 @@ apart a b less same =
 abbrev by_id : CatalogRow → CatalogRow → Ordering
 by_id = on (λ r. r.id) nat_cmp
 
-same_row : (rows : List CatalogRow) (r s : CatalogRow) → IsStrictlySortedBy by_id rows → Contains rows r → Contains rows s → r.id ≡ s.id → r ≡ s
+pub same_row : (rows : List CatalogRow) (r s : CatalogRow) → IsStrictlySortedBy by_id rows → Contains rows r → Contains rows s → r.id ≡ s.id → r ≡ s
 same_row [] r s sorted a b same = absurd (nothing_there r a)
 same_row (x ∷ xs) r s sorted a b same = ⊎_elim
     (λ e. ⊎_elim (λ f. sym e ∙ f)
@@ -130,7 +129,7 @@ extent_inside : (n p : ℕ) → n % 8 ≡ 0 → p < n → p / 8 < n / 8
 extent_inside n p whole h = omega arith
 
 -- the extents that an object marks
-marked_same : (image : Image) (m : AllocMap) (i p : ℕ) (row : CatalogRow) → IsMapOf image m → m.system.items ≡ []
+marked_same : (image : Image) (m : AllocMap) (i p : ℕ) (row : CatalogRow) → IsMapOf image m → HasNoSystemErrors m
     → IsObjectAt m i row → p < m.pages
     → IsTrue (is_marked m i p) ↔ (IsMarked m.geometry image row (p / 8) × IsTrue (is_allocated m.geometry image p))
 marked_same image m i p row of sound at low =
@@ -144,7 +143,7 @@ marked_same image m i p row of sound at low =
       λ h. and_from (has_mark x i) (is_allocated_byte (slice_index m.pfs.items p)) ((is.marks i row at).1 h.0) (subst (λ b. IsTrue b) (sym bit) h.1),
     )
 
-row_there : (rows : List CatalogRow) (i : ℕ) (row : CatalogRow) → slice_get rows i ≡ Some row → Contains rows row
+pub row_there : (rows : List CatalogRow) (i : ℕ) (row : CatalogRow) → slice_get rows i ≡ Some row → Contains rows row
 row_there rows i row at = ⊎_elim (λ r. let same : r.0 ≡ row = same_Some r.0 row (sym r.2 ∙ at) in subst (Contains rows) same (i, r.1, r.3))
     (λ past. let no_ : Some row ≡ None = sym at ∙ past.1 in absurd (cc)) (slice_get_cases rows i).1
 
@@ -156,11 +155,7 @@ id_at : (objects : List CatRow) (i : ℕ) (row : CatalogRow) → slice_get (rows
 id_at objects i row at = get_or_from_slice_get (ids_of objects) i row.id 0
     (slice_get-map (λ (r : CatRow). r.id.0) objects i ∙ id_told (slice_get objects i) row (sym (slice_get-map row_of objects i) ∙ at))
 
--- the i-th object owns page p, by the maps
-abbrev pub owns : AllocMap → ℕ → ℕ → Bool
-owns m p i = is_owned_by m (uses_between p (p + 1) m.uses.items) p i
-
-owned_from : (image : Image) (m : AllocMap) (i p : ℕ) (row : CatalogRow) → IsMapOf image m → m.system.items ≡ [] → IsObjectAt m i row → p < m.pages
+owned_from : (image : Image) (m : AllocMap) (i p : ℕ) (row : CatalogRow) → IsMapOf image m → HasNoSystemErrors m → IsObjectAt m i row → p < m.pages
     → IsTrue (owns m p i) → IsAllocatedTo m.geometry image row p
 owned_from image m i p row of sound at low h =
     let whole = of.whole sound in
@@ -172,7 +167,7 @@ owned_from image m i p row of sound at low h =
     (row_there (rows_of_objects m.objects.items) i row at) (subst (λ n. IsTrue (is_held n uses)) (id_at m.objects.items i row at) held)))
     (or_cases (is_marked m i p) (is_held id uses) h)
 
-owned_in : (image : Image) (m : AllocMap) (i p : ℕ) (row : CatalogRow) → IsMapOf image m → m.system.items ≡ [] → IsObjectAt m i row → p < m.pages
+owned_in : (image : Image) (m : AllocMap) (i p : ℕ) (row : CatalogRow) → IsMapOf image m → HasNoSystemErrors m → IsObjectAt m i row → p < m.pages
     → IsAllocatedTo m.geometry image row p → IsTrue (owns m p i)
 owned_in image m i p row of sound at low h =
     let whole = of.whole sound in
@@ -183,6 +178,7 @@ owned_in image m i p row of sound at low h =
     (subst (λ n. IsTrue (is_held n uses)) (sym (id_at m.objects.items i row at)) (holds_in m.geometry image m.uses.items row p held.0 whole.uses object held.1)))
     (λ marked. or_left (is_marked m i p) (is_held id uses) ((marked_same image m i p row of sound at low).1 (marked.1, marked.2))) h
 
+-- where the objects stand in a map
 object_there : (objects : List CatRow) (i : ℕ) → i < length objects → (row : CatalogRow) × (slice_get (rows_of_objects objects) i ≡ Some row)
 object_there objects i below_end = ⊎_elim (λ r. (row_of r.0, slice_get-map row_of objects i ∙ ap (option_map row_of) r.2))
     (λ past. let end = past.0 in absurd (omega (arith, end, below_end))) (slice_get_cases objects i).1
@@ -191,6 +187,24 @@ object_within : (objects : List CatRow) (i : ℕ) (row : CatalogRow) → slice_g
 object_within objects i row at =
     let inside = slice_get_within (rows_of_objects objects) i row at in
     omega (arith, inside, length-map objects row_of)
+
+row_place : (rows : List CatalogRow) (row : CatalogRow) → Contains rows row → (i : ℕ) × (slice_get rows i ≡ Some row)
+row_place rows row h = (h.0, slice_get-get_or rows h.0 row h.1 ∙ ap Some h.2)
+
+pub ids_same : (objects : List CatRow) → map (λ (r : CatalogRow). r.id) (rows_of_objects objects) ≡ ids_of objects
+ids_same [] = refl
+ids_same (x ∷ xs) = ap (λ l. x.id.0 ∷ l) (ids_same xs)
+
+pub stand_by_id : (image : Image) (m : AllocMap) → IsMapOf image m → HasNoSystemErrors m → StandById m
+stand_by_id image m of sound = subst (IsStrictlySortedBy nat_cmp) (ids_same m.objects.items)
+    (sorted_map (λ (r : CatalogRow). r.id) nat_cmp (rows_of_objects m.objects.items) (of.whole sound).objects.sorted)
+
+pub place_there : (m : AllocMap) (i : ℕ) (row : CatalogRow) → IsObjectAt m i row → IsPlaceOf m i row.id
+place_there m i row at = record { inside = object_within m.objects.items i row at; is = id_at m.objects.items i row at }
+
+-- an object of the image stands at one place of the map
+pub place_of : (image : Image) (m : AllocMap) (row : CatalogRow) → IsMapOf image m → HasNoSystemErrors m → IsObject image row → (i : ℕ) × IsObjectAt m i row
+place_of image m row of sound object = row_place (rows_of_objects m.objects.items) row (((of.whole sound).objects.same row).1 object)
 
 eighth : (e p : ℕ) → 8 * e ≤ p → p < 8 * e + 8 → p / 8 ≡ e
 eighth e p low high = omega arith
@@ -202,29 +216,37 @@ inside_file : (e p pages : ℕ) → e < pages / 8 → p < 8 * e + 8 → p < page
 inside_file e p pages h low = omega arith
 
 -- the owners of an extent's pages, by the maps, are those of the image
-pub owners_are : (image : Image) (m : AllocMap) (e n : ℕ) (owned : List OwnedPage) → IsMapOf image m → m.system.items ≡ [] → n ≡ length m.objects.items
-    → e < m.pages / 8 → AreOwnersUpTo (owns m) n (8 * e) (8 * e + 8) 0 owned → AreOwnersIn image m e owned
-owners_are image m e n owned of sound count inside h = record {
-  sorted = h.sorted;
+pub owners_are : (image : Image) (m : AllocMap) (e n : ℕ) (owners : List Owned) → IsMapOf image m → HasNoSystemErrors m → n ≡ length m.objects.items
+    → e < m.pages / 8 → AreOwned m n (8 * e) (8 * e + 8) owners → AreOwnersIn m.geometry image e owners
+owners_are image m e n owners of sound count inside h = record {
+  sorted = h.sorted (stand_by_id image m of sound);
   sound = λ u c.
       let s = h.sound u c in
-      let from = s.1.from in
-      let owner = s.1.owner in
-      let high : u.page.0 < 8 * e + 8 = ⊎_elim (λ less. less) (λ same. let none = same.1 in absurd (omega (arith, none))) s.1.before in
-      let r = object_there m.objects.items u.owner (omega (arith, owner, count)) in
+      let object = s.object in
+      let page : s.page ≡ u.0.0 = ap (λ (v : Owned). v.0.0) s.is in
+      let r = object_there m.objects.items s.place (omega (arith, object, count)) in
       record {
         row = r.0;
-        object = r.1;
-        allocated = owned_from image m u.owner u.page.0 r.0 of sound r.1 (inside_file e u.page.0 m.pages inside high) s.0;
-        extent = eighth e u.page.0 from high;
+        object = ((of.whole sound).objects.same r.0).0 (row_there (rows_of_objects m.objects.items) s.place r.0 r.1);
+        id = sym (id_at m.objects.items s.place r.0 r.1) ∙ ap (λ (v : Owned). v.1.0) s.is;
+        allocated = subst (IsAllocatedTo m.geometry image r.0) page
+            (owned_from image m s.place s.page r.0 of sound r.1 (inside_file e s.page m.pages inside s.before) s.owns);
+        extent = ap (λ q. q / 8) (sym page) ∙ eighth e s.page s.from s.before;
       };
   complete = λ u is.
-      let place = within_eighth e u.page.0 is.extent in
-      let from = place.0 in
-      let high = place.1 in
-      let owner = object_within m.objects.items u.owner is.row is.object in
-      h.complete u (record { from = from; owner = omega (arith, owner, count); before = inl high })
-      (owned_in image m u.owner u.page.0 is.row of sound is.object (inside_file e u.page.0 m.pages inside high) is.allocated);
+      let range = within_eighth e u.0.0 is.extent in
+      let at = place_of image m is.row of sound is.object in
+      let place = place_there m at.0 is.row at.1 in
+      let there = place.inside in
+      h.complete u (record {
+        page = u.0.0;
+        place = at.0;
+        from = range.0;
+        before = range.1;
+        object = omega (arith, there, count);
+        owns = owned_in image m at.0 u.0.0 is.row of sound at.1 (inside_file e u.0.0 m.pages inside range.1) is.allocated;
+        is = ap (owned u.0.0) (place.is ∙ is.id);
+      });
 }
 
 -- nobody owns a page of an extent that nobody marks and whose pages have no use
@@ -252,11 +274,13 @@ uses_found m low p found here sorted first second from below_end =
     second (subst IsByPage (sym is) (between_by_page low (low + 8) m.uses.items sorted))
     ∙ (ap (uses_between p (p + 1)) is ∙ page_in_extent p low (low + 8) m.uses.items from below_end)
 
--- what holds of each owner of a page
-each_place : (n k : ℕ) → k < n → slice_index (range_with_len 0 n) k < n
-each_place n k h = omega (arith, get_or-range_with_len 0 n k 0 h)
+-- each owner of a page is named with that page
+pub all_owners : (m : AllocMap) (uses : List PageUse) (p n : ℕ) → p < m.pages → All (λ (u : Owned). u.0.0 < m.pages) (owners_of m uses p n)
+all_owners m uses p n below_end =
+    All-map (λ (u : Owned). u.0.0 < m.pages) (owned_at m p) (filter (is_owned_by m uses p) (range_with_len 0 n)) (λ k d h. below_end)
 
-pub all_owners : (P : OwnedPage → Type 0) (m : AllocMap) (uses : List PageUse) (p n : ℕ) → ((i : ℕ) → i < n → P (owned_at p i)) → All P (owners_of m uses p n)
-all_owners P m uses p n each = All-filter (λ (u : OwnedPage). is_owned_by m uses p u.owner) P (map (owned_at p) (range_with_len 0 n))
-    (All-map P (owned_at p) (range_with_len 0 n) (All-from_get_or (λ i. P (owned_at p i)) (range_with_len 0 n) 0
-    (λ k within. each (slice_index (range_with_len 0 n) k) (each_place n k (omega (arith, within, length-range_with_len 0 n))))))
+-- a page with the id of the i-th object
+pub named_at : (m : AllocMap) (p i : ℕ) (object : CatRow) → i < length m.objects.items → object ≡ get_or m.objects.items i object
+    → (record { 0 = p }, object.id) ≡ owned_at m p i
+named_at m p i object within is =
+    ap (owned p) (ap (λ (r : CatRow). r.id.0) is ∙ sym (get_or-map (λ (r : CatRow). r.id.0) m.objects.items i object 0 within))

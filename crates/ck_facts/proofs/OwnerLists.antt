@@ -1,32 +1,78 @@
--- Lists of owned pages that grow page by page, and object by object.
-use Rattle.std.proofs.Common.{◌≡◌, ◌⊎◌, ℕ, zero, suc, ◌+◌, ◌<◌, ◌≤◌, Bool, true, false, IsTrue, List, [], ◌∷◌, ◌++◌, Contains, cond, arith, rules, sym, subst, ap, ◌∙◌, refl, inl, inr, ⊎_elim, append-nil, append_assoc}
+-- Lists of pages with their owners, which grow page by page.
+use Rattle.std.proofs.Common.{◌≡◌, ◌⊎◌, ℕ, ◌+◌, ◌<◌, ◌≤◌, Bool, true, false, IsTrue, List, [], ◌∷◌, ◌++◌, Contains, cond, filter, length, map, slice_index, arith, rules, sym, subst, ap, ◌∙◌, refl, inl, inr, ⊎_elim, append-nil, append_assoc, Ordering}
+use Rattle.std.specs.Cmp.{IsTotalOrder}
+use Rattle.std.specs.List.{AllByRecursion, range_with_len}
 use Rattle.std.specs.List.Sorted.{IsStrictlySortedBy}
-use Rattle.std.specs.Ordering.{nat_cmp, ordering_then}
-use Rattle.std.specs.declared.cmp.Ordering.{Ordering}
+use Rattle.std.specs.Ordering.{nat_cmp, on, ordering_then}
 use Rattle.std.specs.declared.cmp.Ordering.TheVariants.{Less, Equal}
-use Rattle.std.proofs.lemmas.Cmp.{nat_cmp_total, tied_itself, ranked, by_ranked}
-use Rattle.std.proofs.lemmas.List.Elements.{Contains-push, Contains-push_cases, Contains-append_left}
+use Rattle.std.proofs.lemmas.Cmp.{nat_cmp_total, tied_itself, ranked, by_ranked, then_total, on_total}
+use Rattle.std.proofs.lemmas.List.{map-id, map-append}
+use Rattle.std.proofs.lemmas.List.Elements.{Contains-append_left, Contains-append_right, Contains-append_cases}
 use Rattle.std.proofs.lemmas.List.FromFn.{filter_of_map_range_with_len_more}
+use Rattle.std.proofs.lemmas.Map.Keys.{Less-from_sorted}
 use Rattle.ck_facts.specs.declared.map.AllocMap.{AllocMap}
 use Rattle.ck_facts.specs.declared.map.PageUse.{PageUse}
-use Rattle.ck_facts.specs.declared.owners.OwnedPage.{OwnedPage}
-use Rattle.spec_check.proofs.Members.{nothing_there, sorted_none, sorted_push}
-use Rattle.ck_facts.specs.Owners.{owned_cmp}
+use Rattle.spec_check.proofs.Members.{nothing_there, cons_here, cons_there, map_from, map_in, filter_from, filter_in, range_from, range_in, range_sorted, sorted_none, sorted_map}
+use Rattle.ck_facts.specs.MapOf.{ids_of}
+use Rattle.ck_facts.specs.Owners.{Owned, owned_cmp, StandById}
 use Rattle.ck_facts.specs.OwnedBy.{is_owned_by, owned_at, owners_of}
+use Rattle.ck_facts.specs.PageUses.{uses_between}
 
--- the page stands before page p, or is page p with an object before the i-th
-pub record IsPassed (n low p i : ℕ) (u : OwnedPage) : Type 0 where
-  pub from : low ≤ u.page.0
-  pub owner : u.owner < n
-  pub before : (u.page.0 < p) ⊎ ((u.page.0 ≡ p) × (u.owner < i))
+-- the i-th object owns page p, by the maps
+abbrev pub owns : AllocMap → ℕ → ℕ → Bool
+owns m p i = is_owned_by m (uses_between p (p + 1) m.uses.items) p i
 
--- all pages passed that an object owns
-pub record AreOwnersUpTo (owns : ℕ → ℕ → Bool) (n low p i : ℕ) (owned : List OwnedPage) : Type 0 where
-  pub sorted : IsStrictlySortedBy owned_cmp owned
-  pub sound : (u : OwnedPage) → Contains owned u → IsTrue (owns u.page.0 u.owner) × IsPassed n low p i u
-  pub complete : (u : OwnedPage) → IsPassed n low p i u → IsTrue (owns u.page.0 u.owner) → Contains owned u
+-- one of the map's first n objects owns a page from low up to p
+pub record IsOwned (m : AllocMap) (n low p : ℕ) (u : Owned) : Type 0 where
+  pub page : ℕ
+  pub place : ℕ
+  pub from : low ≤ page
+  pub before : page < p
+  pub object : place < n
+  pub owns : IsTrue (owns m page place)
+  pub is : owned_at m page place ≡ u
 
--- one page more at the end
+-- all of them, in order where the objects are
+pub record AreOwned (m : AllocMap) (n low p : ℕ) (owners : List Owned) : Type 0 where
+  pub sorted : StandById m → IsStrictlySortedBy owned_cmp owners
+  pub sound : (u : Owned) → Contains owners u → IsOwned m n low p u
+  pub complete : (u : Owned) → IsOwned m n low p u → Contains owners u
+
+-- what a filter keeps of a sorted list, and two sorted lists of which the second stands above
+all_step : {X : Type 0} (P : X → Type 0) (x : X) (kept : List X) (b : Bool) → P x → AllByRecursion P kept → AllByRecursion P (cond b (x ∷ kept) kept)
+all_step P x kept true here h = (here, h)
+all_step P x kept false here h = h
+
+kept_all : {X : Type 0} (P : X → Type 0) (f : X → Bool) (xs : List X) → AllByRecursion P xs → AllByRecursion P (filter f xs)
+kept_all P f [] h = tt
+kept_all P f (x ∷ xs) h = all_step P x (filter f xs) (f x) h.0 (kept_all P f xs h.1)
+
+sorted_step : {X : Type 0} (R : X → X → Ordering) (x : X) (kept : List X) (b : Bool) → AllByRecursion (λ y. R x y ≡ Less) kept → IsStrictlySortedBy R kept
+    → IsStrictlySortedBy R (cond b (x ∷ kept) kept)
+unfolding IsStrictlySortedBy
+sorted_step R x kept true here s = (here, s)
+sorted_step R x kept false here s = s
+
+sorted_filter : {X : Type 0} (R : X → X → Ordering) (f : X → Bool) (xs : List X) → IsStrictlySortedBy R xs → IsStrictlySortedBy R (filter f xs)
+unfolding IsStrictlySortedBy
+sorted_filter R f [] s = tt
+sorted_filter R f (x ∷ xs) s = sorted_step R x (filter f xs) (f x) (kept_all (λ y. R x y ≡ Less) f xs s.0) (sorted_filter R f xs s.1)
+
+all_both : {X : Type 0} (P : X → Type 0) (xs ys : List X) → AllByRecursion P xs → ((y : X) → Contains ys y → P y) → AllByRecursion P (xs ++ ys)
+all_both P [] [] h k = tt
+all_both P [] (y ∷ ys) h k = (k y (cons_here y ys), all_both P [] ys tt (λ z c. k z (cons_there y ys z c)))
+all_both P (x ∷ xs) ys h k = (h.0, all_both P xs ys h.1 k)
+
+sorted_both : {X : Type 0} (R : X → X → Ordering) (xs ys : List X) → IsStrictlySortedBy R xs → IsStrictlySortedBy R ys
+    → ((x y : X) → Contains xs x → Contains ys y → R x y ≡ Less) → IsStrictlySortedBy R (xs ++ ys)
+unfolding IsStrictlySortedBy
+sorted_both R [] ys s t above = t
+sorted_both R (x ∷ xs) ys s t above = (
+  all_both (λ y. R x y ≡ Less) xs ys s.0 (λ y c. above x y (cons_here x xs) c),
+  sorted_both R xs ys s.1 t (λ z y c d. above z y (cons_there x xs z c) d),
+)
+
+-- the order of owned pages
 less_of : (a b : ℕ) → a < b → nat_cmp a b ≡ Less
 less_of a b h = by_ranked (a < b) (a ≡ b) (b < a) (nat_cmp a b) (ranked a b (nat_cmp a b) refl)
     (λ is less. is) (λ is same. absurd (omega (arith, same, h))) (λ is more. absurd (omega (arith, more, h)))
@@ -37,118 +83,94 @@ less_first o r h = subst (λ t. ordering_then t r ≡ Less) (sym h) refl
 less_second : (o r : Ordering) → o ≡ Equal → r ≡ Less → ordering_then o r ≡ Less
 less_second o r tied h = subst (λ t. ordering_then t r ≡ Less) (sym tied) h
 
-below_next : (p i : ℕ) (u : OwnedPage) → (u.page.0 < p) ⊎ ((u.page.0 ≡ p) × (u.owner < i)) → owned_cmp u (owned_at p i) ≡ Less
-below_next p i u h = ⊎_elim (λ less. less_first (nat_cmp u.page.0 p) (nat_cmp u.owner i) (less_of u.page.0 p less))
-    (λ same. less_second (nat_cmp u.page.0 p) (nat_cmp u.owner i)
-    (subst (λ n. nat_cmp u.page.0 n ≡ Equal) same.0 (tied_itself nat_cmp_total u.page.0)) (less_of u.owner i same.1)) h
+owned_total : IsTotalOrder owned_cmp
+owned_total = then_total (on_total (λ u. u.0.0) nat_cmp_total) (on_total (λ u. u.1.0) nat_cmp_total)
+
+page_before : (u v : Owned) → u.0.0 < v.0.0 → owned_cmp u v ≡ Less
+page_before u v h = less_first (nat_cmp u.0.0 v.0.0) (nat_cmp u.1.0 v.1.0) (less_of u.0.0 v.0.0 h)
+
+-- the owners of one page
+on_page : (m : AllocMap) (uses : List PageUse) (p n : ℕ) (u : Owned) → Contains (owners_of m uses p n) u
+    → (i : ℕ) × (i < n) × IsTrue (is_owned_by m uses p i) × (owned_at m p i ≡ u)
+on_page m uses p n u c =
+    let at = map_from (owned_at m p) (filter (is_owned_by m uses p) (range_with_len 0 n)) u c in
+    let kept = filter_from (is_owned_by m uses p) (range_with_len 0 n) at.0 at.1 in
+    (at.0, range_from n at.0 kept.0, kept.1, at.2)
+
+of_page : (m : AllocMap) (uses : List PageUse) (p n i : ℕ) → i < n → IsTrue (is_owned_by m uses p i) → Contains (owners_of m uses p n) (owned_at m p i)
+of_page m uses p n i below owned =
+    map_in (owned_at m p) (filter (is_owned_by m uses p) (range_with_len 0 n)) i
+    (filter_in (is_owned_by m uses p) (range_with_len 0 n) i (range_in n i below) owned)
+
+page_sorted : (m : AllocMap) (uses : List PageUse) (p n : ℕ) → StandById m → n ≡ length (ids_of m.objects.items) → IsStrictlySortedBy owned_cmp (owners_of m uses p n)
+page_sorted m uses p n by many = sorted_map (owned_at m p) owned_cmp (filter (is_owned_by m uses p) (range_with_len 0 n))
+    (sorted_filter (on (owned_at m p) owned_cmp) (is_owned_by m uses p) (range_with_len 0 n)
+    (range_sorted (on (owned_at m p) owned_cmp) (on_total (owned_at m p) owned_total) n (λ k inside.
+    let ids = ids_of m.objects.items in
+    less_second (nat_cmp p p) (nat_cmp (slice_index ids k) (slice_index ids (k + 1))) (tied_itself nat_cmp_total p)
+    (Less-from_sorted nat_cmp ids k (k + 1) 0 by (omega arith) (omega (arith, inside, many))))))
+
+-- the owners of a page, one object more
+range_more : (f : ℕ → Bool) (n : ℕ) → filter f (range_with_len 0 (n + 1)) ≡ filter f (range_with_len 0 n) ++ cond (f n) (n ∷ []) []
+range_more f n =
+    let more = filter_of_map_range_with_len_more f (λ i. i) 0 n n (omega arith) in
+    subst (λ l. filter f l ≡ filter f (range_with_len 0 n) ++ cond (f n) (n ∷ []) []) (map-id (range_with_len 0 (n + 1)))
+    (subst (λ l. filter f (map (λ i. i) (range_with_len 0 (n + 1))) ≡ filter f l ++ cond (f n) (n ∷ []) []) (map-id (range_with_len 0 n)) more)
+
+owners_step : (m : AllocMap) (uses : List PageUse) (p i : ℕ) (b : Bool) → is_owned_by m uses p i ≡ b
+    → owners_of m uses p (i + 1) ≡ owners_of m uses p i ++ map (owned_at m p) (cond b (i ∷ []) [])
+owners_step m uses p i b told =
+    ap (map (owned_at m p)) (range_more (is_owned_by m uses p) i ∙ ap (λ (b : Bool). filter (is_owned_by m uses p) (range_with_len 0 i) ++ cond b (i ∷ []) []) told)
+    ∙ map-append (owned_at m p) (filter (is_owned_by m uses p) (range_with_len 0 i)) (cond b (i ∷ []) [])
+
+-- a list that has the owners by the first i objects, one object more
+pub owners_more : (m : AllocMap) (uses : List PageUse) (p i : ℕ) (old now next : List Owned) (u : Owned) → is_owned_by m uses p i ≡ true
+    → now ≡ old ++ owners_of m uses p i → next ≡ now ++ u ∷ [] → u ≡ owned_at m p i → next ≡ old ++ owners_of m uses p (i + 1)
+owners_more m uses p i old now next u told is pushed same =
+    pushed ∙ (ap (λ l. l ++ u ∷ []) is ∙ (append_assoc old (owners_of m uses p i) (u ∷ [])
+    ∙ (ap (λ v. old ++ (owners_of m uses p i ++ v ∷ [])) same ∙ ap (λ l. old ++ l) (sym (owners_step m uses p i true told)))))
+
+pub owners_skip : (m : AllocMap) (uses : List PageUse) (p i : ℕ) (old now : List Owned) → is_owned_by m uses p i ≡ false
+    → now ≡ old ++ owners_of m uses p i → now ≡ old ++ owners_of m uses p (i + 1)
+owners_skip m uses p i old now told is =
+    is ∙ ap (λ l. old ++ l) (sym (owners_step m uses p i false told ∙ append-nil (owners_of m uses p i)))
+
+-- no page is passed
+pub owned_none : (m : AllocMap) (n low : ℕ) → AreOwned m n low low []
+owned_none m n low = record {
+  sorted = λ by. sorted_none owned_cmp;
+  sound = λ u c. absurd (nothing_there u c);
+  complete = λ u h. let from = h.from in let before = h.before in absurd (omega (arith, from, before));
+}
+
+-- nobody owns a page
+pub owned_nowhere : (m : AllocMap) (n low p : ℕ) → ((q i : ℕ) → low ≤ q → q < p → IsTrue (owns m q i) → ⊥) → AreOwned m n low p []
+owned_nowhere m n low p never = record {
+  sorted = λ by. sorted_none owned_cmp;
+  sound = λ u c. absurd (nothing_there u c);
+  complete = λ u h. absurd (never h.page h.place h.from h.before h.owns);
+}
 
 upto : (a b : ℕ) → a < b + 1 → (a < b) ⊎ (a ≡ b)
 upto a b h = search (rules, arith)
 
--- no page is passed
-pub owners_none : (owns : ℕ → ℕ → Bool) (n low : ℕ) → AreOwnersUpTo owns n low low 0 []
-owners_none owns n low = record {
-  sorted = sorted_none owned_cmp;
-  sound = λ u c. absurd (nothing_there u c);
-  complete = λ u h. absurd (⊎_elim (λ less. let from = h.from in omega (arith, from, less)) (λ same. let none = same.1 in omega (arith, none)) h.before);
-}
-
--- nobody owns a page
-pub owners_nowhere : (owns : ℕ → ℕ → Bool) (n low p : ℕ) → ((q i : ℕ) → low ≤ q → q < p → IsTrue (owns q i) → ⊥) → AreOwnersUpTo owns n low p 0 []
-owners_nowhere owns n low p never = record {
-  sorted = sorted_none owned_cmp;
-  sound = λ u c. absurd (nothing_there u c);
-  complete = λ u h is. absurd (⊎_elim (λ less. never u.page.0 u.owner h.from less is) (λ same. let none = same.1 in omega (arith, none)) h.before);
-}
-
-wider : (n low p i : ℕ) (u : OwnedPage) → IsPassed n low p i u → IsPassed n low p (i + 1) u
-wider n low p i u h = record {
-  from = h.from;
-  owner = h.owner;
-  before = ⊎_elim (λ less. inl less) (λ same. let below = same.1 in inr (same.0, omega (arith, below))) h.before;
-}
-
--- passed before, or the next
-one_more : (n low p i : ℕ) (u : OwnedPage) → IsPassed n low p (i + 1) u → IsPassed n low p i u ⊎ (u ≡ owned_at p i)
-one_more n low p i u h = ⊎_elim (λ less. inl (record { from = h.from; owner = h.owner; before = inl less }))
-    (λ same. ⊎_elim (λ below. inl (record { from = h.from; owner = h.owner; before = inr (same.0, below) }))
-    (λ last. inr (named u same.0 last)) (upto u.owner i same.1)) h.before where
-      named : (u : OwnedPage) → u.page.0 ≡ p → u.owner ≡ i → u ≡ owned_at p i
-      named u page owner = ap (λ q. owned_at q u.owner) page ∙ ap (owned_at p) owner
-
-owners_push : (owns : ℕ → ℕ → Bool) (n low p i : ℕ) (xs : List OwnedPage) → low ≤ p → i < n → IsTrue (owns p i) → AreOwnersUpTo owns n low p i xs
-    → AreOwnersUpTo owns n low p (i + 1) (xs ++ owned_at p i ∷ [])
-owners_push owns n low p i xs from below is h = record {
-  sorted = sorted_push owned_cmp xs (owned_at p i) h.sorted (λ u c. below_next p i u (h.sound u c).1.before);
-  sound = λ u c. ⊎_elim (λ old. let s = h.sound u old in (s.0, wider n low p i u s.1))
-      (λ last. subst (λ (v : OwnedPage). IsTrue (owns v.page.0 v.owner) × IsPassed n low p (i + 1) v) last
-      (is, record { from = from; owner = below; before = inr (refl, omega arith) }))
-      (Contains-push_cases xs (owned_at p i) u c);
-  complete = λ u passed owned. ⊎_elim (λ old. Contains-append_left xs (owned_at p i ∷ []) u (h.complete u old owned))
-      (λ last. subst (Contains (xs ++ owned_at p i ∷ [])) (sym last) (Contains-push xs (owned_at p i))) (one_more n low p i u passed);
-}
-
-owners_pass : (owns : ℕ → ℕ → Bool) (n low p i : ℕ) (xs : List OwnedPage) → (IsTrue (owns p i) → ⊥) → AreOwnersUpTo owns n low p i xs
-    → AreOwnersUpTo owns n low p (i + 1) xs
-owners_pass owns n low p i xs never h = record {
-  sorted = h.sorted;
-  sound = λ u c. let s = h.sound u c in (s.0, wider n low p i u s.1);
-  complete = λ u passed owned. ⊎_elim (λ old. h.complete u old owned)
-      (λ last. absurd (never (subst (λ (v : OwnedPage). IsTrue (owns v.page.0 v.owner)) last owned))) (one_more n low p i u passed);
-}
-
--- the owners of a page, one object more
-pub owners_more : (m : AllocMap) (uses : List PageUse) (p i : ℕ) → is_owned_by m uses p i ≡ true
-    → owners_of m uses p (i + 1) ≡ owners_of m uses p i ++ owned_at p i ∷ []
-owners_more m uses p i owned = filter_of_map_range_with_len_more (λ (u : OwnedPage). is_owned_by m uses p u.owner) (owned_at p) 0 i i (omega arith)
-    ∙ ap (λ (b : Bool). owners_of m uses p i ++ cond b (owned_at p i ∷ []) []) owned
-
-pub owners_skip : (m : AllocMap) (uses : List PageUse) (p i : ℕ) → is_owned_by m uses p i ≡ false
-    → owners_of m uses p (i + 1) ≡ owners_of m uses p i
-owners_skip m uses p i owned = filter_of_map_range_with_len_more (λ (u : OwnedPage). is_owned_by m uses p u.owner) (owned_at p) 0 i i (omega arith)
-    ∙ (ap (λ (b : Bool). owners_of m uses p i ++ cond b (owned_at p i ∷ []) []) owned ∙ append-nil (owners_of m uses p i))
-
-owners_step : (owns : ℕ → ℕ → Bool) (n low p i : ℕ) (m : AllocMap) (uses : List PageUse) (old : List OwnedPage) (b : Bool)
-    → is_owned_by m uses p i ≡ b → owns p i ≡ b → low ≤ p → i < n → AreOwnersUpTo owns n low p i (old ++ owners_of m uses p i)
-    → AreOwnersUpTo owns n low p (i + 1) (old ++ owners_of m uses p (i + 1))
-owners_step owns n low p i m uses old true told is from below h =
-    let longer : (old ++ owners_of m uses p i) ++ owned_at p i ∷ [] ≡ old ++ owners_of m uses p (i + 1) =
-    append_assoc old (owners_of m uses p i) (owned_at p i ∷ []) ∙ ap (λ (l : List OwnedPage). old ++ l) (sym (owners_more m uses p i told)) in
-    subst (AreOwnersUpTo owns n low p (i + 1)) longer (owners_push owns n low p i (old ++ owners_of m uses p i) from below is h)
-owners_step owns n low p i m uses old false told is from below h =
-    subst (AreOwnersUpTo owns n low p (i + 1)) (ap (λ (l : List OwnedPage). old ++ l) (sym (owners_skip m uses p i told)))
-    (owners_pass owns n low p i (old ++ owners_of m uses p i) (λ yes_. let no_ : true ≡ false = sym yes_ ∙ is in cc) h)
-
-owners_upto : (owns : ℕ → ℕ → Bool) (n low p k : ℕ) (m : AllocMap) (uses : List PageUse) (old : List OwnedPage)
-    → ((i : ℕ) → is_owned_by m uses p i ≡ owns p i) → low ≤ p → k ≤ n → AreOwnersUpTo owns n low p 0 old
-    → AreOwnersUpTo owns n low p k (old ++ owners_of m uses p k)
-owners_upto owns n low p zero m uses old same from within h = subst (AreOwnersUpTo owns n low p 0) (sym (append-nil old)) h
-owners_upto owns n low p (suc k) m uses old same from within h =
-    let next : k + 1 ≡ suc k = omega arith in
-    subst (λ j. AreOwnersUpTo owns n low p j (old ++ owners_of m uses p j)) next
-    (owners_step owns n low p k m uses old (owns p k) (same k) refl from (omega (arith, within))
-    (owners_upto owns n low p k m uses old same from (omega (arith, within)) h))
-
 -- one page more
-pub owners_next : (owns : ℕ → ℕ → Bool) (n low p : ℕ) (m : AllocMap) (uses : List PageUse) (old : List OwnedPage)
-    → ((i : ℕ) → is_owned_by m uses p i ≡ owns p i) → low ≤ p → AreOwnersUpTo owns n low p 0 old
-    → AreOwnersUpTo owns n low (p + 1) 0 (old ++ owners_of m uses p n)
-owners_next owns n low p m uses old same from h =
-    let all = owners_upto owns n low p n m uses old same from (omega arith) h in
-    record {
-      sorted = all.sorted;
-      sound = λ u c. let s = all.sound u c in (
-        s.0,
-        record {
-          from = s.1.from;
-          owner = s.1.owner;
-          before = inl (⊎_elim (λ less. omega (arith, less)) (λ here. let is = here.0 in omega (arith, is)) s.1.before);
-        },
-      );
-      complete = λ u passed owned. all.complete u (record {
-        from = passed.from;
-        owner = passed.owner;
-        before = ⊎_elim (λ less. ⊎_elim (λ l. inl l) (λ e. inr (e, passed.owner)) (upto u.page.0 p less))
-            (λ here. let none = here.1 in absurd (omega (arith, none))) passed.before;
-      }) owned;
-    }
+pub owned_next : (m : AllocMap) (n low p : ℕ) (uses : List PageUse) (old new : List Owned) → uses ≡ uses_between p (p + 1) m.uses.items
+    → n ≡ length (ids_of m.objects.items) → low ≤ p → AreOwned m n low p old → new ≡ old ++ owners_of m uses p n → AreOwned m n low (p + 1) new
+owned_next m n low p uses old new of many from h is = subst (AreOwned m n low (p + 1)) (sym is) (record {
+  sorted = λ by. sorted_both owned_cmp old (owners_of m uses p n) (h.sorted by) (page_sorted m uses p n by many)
+      (λ u v c d. let s = h.sound u c in let t = on_page m uses p n v d in
+      let before = s.before in
+      page_before u v (subst (λ (w : Owned). u.0.0 < w.0.0) t.3 (subst (λ (w : Owned). w.0.0 < p) s.is before)));
+  sound = λ u c. ⊎_elim
+      (λ was. let s = h.sound u was in let before = s.before in record { page = s.page; place = s.place; from = s.from; before = omega (arith, before); object = s.object; owns = s.owns; is = s.is })
+      (λ now. let t = on_page m uses p n u now in
+      record { page = p; place = t.0; from = from; before = omega arith; object = t.1; owns = subst (λ l. IsTrue (is_owned_by m l p t.0)) of t.2; is = t.3 })
+      (Contains-append_cases old (owners_of m uses p n) u c);
+  complete = λ u s. ⊎_elim
+      (λ less. Contains-append_left old (owners_of m uses p n) u
+      (h.complete u (record { page = s.page; place = s.place; from = s.from; before = less; object = s.object; owns = s.owns; is = s.is })))
+      (λ same. Contains-append_right old (owners_of m uses p n) u (subst (Contains (owners_of m uses p n)) (ap (λ q. owned_at m q s.place) (sym same) ∙ s.is)
+      (of_page m uses p n s.place s.object (subst (λ l. IsTrue (is_owned_by m l p s.place)) (sym of) (subst (λ q. IsTrue (owns m q s.place)) same s.owns)))))
+      (upto s.page p s.before);
+})

@@ -1,11 +1,11 @@
 -- The errors and the facts of one page are those of the definitions.
-use Rattle.std.proofs.Common.{◌≡◌, ◌≢◌, ℕ, ◌+◌, ◌%◌, ◌<◌, ◌≤◌, nat_lt, true, false, Bool, List, [], ◌∷◌, ◌++◌, map, Contains, Some, None, if◌then◌else◌, arith, sym, subst, ap, ◌∙◌, refl, inl, inr, ⊎_elim}
+use Rattle.std.proofs.Common.{◌≡◌, ◌≢◌, ℕ, ◌+◌, ◌%◌, ◌<◌, ◌≤◌, nat_lt, true, false, Bool, IsTrue, List, [], ◌∷◌, ◌++◌, map, Contains, Some, None, if◌then◌else◌, arith, sym, subst, ap, ◌∙◌, refl, inl, inr, ⊎_elim}
 use Rattle.std.specs.List.{range_with_len}
 use Rattle.std.proofs.lemmas.Bool.{ltb-true, lt-ltb}
 use Rattle.std.proofs.lemmas.List.Elements.{Contains-push, Contains-push_cases}
 use Rattle.std.proofs.lemmas.List.FromFn.{map-range_with_len_more}
 use Rattle.spec_file.specs.CatalogRows.{CatalogRow}
-use Rattle.spec_file.specs.declared.data.Kind.TheVariants.{Clustered}
+use Rattle.spec_file.specs.Kinds.{is_clustered}
 use Rattle.spec_check.specs.declared.report.CheckError.{CheckError}
 use Rattle.spec_rows.specs.declared.fault.SlotFault.{SlotFault}
 use Rattle.spec_rows.specs.PageTest.{PassesTest, IsFirstFault}
@@ -47,7 +47,7 @@ passes_as : (row : CatalogRow) (t : TestedPage) → IsTestedOf row t → PassesT
 passes_as row t is = subst (λ n. PassesTest t.number.0 n row.kind (page_bytes t)) (sym is.id)
     (subst (λ k. PassesTest t.number.0 t.object.0 k (page_bytes t)) (sym is.kind) t.passes)
 
-order_there : (row : CatalogRow) (t : TestedPage) (x : CheckError) → IsTestedOf row t → row.kind ≡ Clustered → Falls t x → HasWrongOrder row t.number.0 (page_bytes t) x
+order_there : (row : CatalogRow) (t : TestedPage) (x : CheckError) → IsTestedOf row t → IsTrue (is_clustered row.kind) → Falls t x → HasWrongOrder row t.number.0 (page_bytes t) x
 order_there row t x is clustered h =
     let bytes = page_bytes t in
     let f = h.2 in
@@ -84,7 +84,7 @@ order_back row t x is h =
 
 shown_there : (row : CatalogRow) (t : TestedPage) (pfs : ℕ) (x : CheckError) → IsTestedOf row t → IsShownBy t pfs x
     → IsErrorOn row t.number.0 pfs (page_bytes t) x
-shown_there row t pfs x is h = inr (⊎_elim (λ o. inl (order_there row t x is (is.kind ∙ o.0) o.1))
+shown_there row t pfs x is h = inr (⊎_elim (λ o. inl (order_there row t x is (subst (λ k. IsTrue (is_clustered k)) (sym is.kind) o.0) o.1))
     (λ f. inr (record {
       passes = passes_as row t is;
       differs = subst (λ k. pfs % 8 ≢ fullness_in k (page_bytes t)) (sym is.kind) f.0;
@@ -95,7 +95,7 @@ shown_back : (row : CatalogRow) (t : TestedPage) (pfs : ℕ) (x : CheckError) �
     → IsShownBy t pfs x
 shown_back row t pfs x is h = ⊎_elim
     (λ f. absurd (no_fault t.number.0 row.id row.kind (page_bytes t) f.fault (passes_as row t is) f.first))
-    (λ s. ⊎_elim (λ o. inl (sym is.kind ∙ o.clustered, order_back row t x is o))
+    (λ s. ⊎_elim (λ o. inl (subst (λ k. IsTrue (is_clustered k)) is.kind o.clustered, order_back row t x is o))
     (λ f. inr (
       subst (λ k. pfs % 8 ≢ fullness_in k (page_bytes t)) is.kind f.differs,
       f.is ∙ ap (λ o. wrong_byte 8914 o t.number.0 pfs) is.id,

@@ -1,12 +1,17 @@
 -- The facts of one page, and what a list of facts says.
 use Rattle.std.specs.Prelude.{◌≡◌, ℕ, Bool, List, [], ◌∷◌, map, Contains, if◌then◌else◌}
 use Rattle.std.specs.List.{range_with_len}
+use Rattle.spec_file.specs.declared.geometry.Geometry.{Geometry}
+use Rattle.spec_file.specs.Image.{Image, page}
+use Rattle.spec_file.specs.CatalogRows.{CatalogRow}
+use Rattle.spec_chain.specs.Chains.{IsObject}
 use Rattle.spec_tree.specs.declared.known.Root.{Root}
 use Rattle.spec_tree.specs.declared.known.PageHead.{PageHead}
 use Rattle.spec_tree.specs.declared.known.Link.{Link}
 use Rattle.spec_tree.specs.Known.{Known}
 use Rattle.spec_tables.specs.Heads.{head_of, link_of, index_row, index_rows}
-use Rattle.spec_tables.specs.Seen.{rows_on}
+use Rattle.spec_tables.specs.Seen.{IsSeen, rows_on}
+use Rattle.ck_error.specs.Gathered.{Gathers}
 use Rattle.ck_facts.specs.declared.facts.Fact.{Fact}
 use Rattle.ck_facts.specs.declared.facts.Fact.TheVariants.{Seen, Child}
 
@@ -14,6 +19,18 @@ use Rattle.ck_facts.specs.declared.facts.Fact.TheVariants.{Seen, Child}
 abbrev pub page_facts : ℕ → ℕ → List ℕ → List Fact
 page_facts o p bytes =
     Seen (head_of o p bytes) ∷ map (λ i. Child (index_row o p bytes i)) (range_with_len 0 (index_rows bytes))
+
+-- a fact of a page of the image that is seen
+pub record IsFactOf (g : Geometry) (image : Image) (fact : Fact) : Type 0 where
+  pub row : CatalogRow
+  pub number : ℕ
+  pub object : IsObject image row
+  pub seen : IsSeen g image row number
+  pub is : Contains (page_facts row.id number (page image number)) fact
+
+-- the facts of all pages of the image that are seen, and no others, in whatever order, each once or more often
+abbrev pub AreFactsOf : Geometry → Image → List Fact → Type 0
+AreFactsOf g image facts = Gathers facts (IsFactOf g image)
 
 -- a page that isn't seen has none
 abbrev pub facts_on : Bool → ℕ → ℕ → List ℕ → List Fact

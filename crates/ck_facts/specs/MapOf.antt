@@ -10,7 +10,7 @@ use Rattle.ck_error.specs.Gathered.{Gathers}
 use Rattle.db_cat.specs.declared.rows.CatRow.{CatRow}
 use Rattle.ck_facts.specs.declared.map.AllocMap.{AllocMap}
 use Rattle.ck_facts.specs.declared.map.ExtentMap.{ExtentMap}
-use Rattle.ck_facts.specs.Maps.{AreAllUses, AreObjects, AreExtents, rows_of_objects}
+use Rattle.ck_facts.specs.Maps.{HasNoSystemErrors, AreAllUses, AreObjects, AreExtents, rows_of_objects}
 
 -- all that the maps keep where no system page is wrong
 pub record IsWholeMapOf (image : Image) (m : AllocMap) : Type 0 where
@@ -23,7 +23,7 @@ pub record IsWholeMapOf (image : Image) (m : AllocMap) : Type 0 where
 pub record IsMapOf (image : Image) (m : AllocMap) : Type 0 where
   pub pages : length image ≡ m.pages
   pub system : Lists m.system.items (IsSystemError m.geometry image)
-  pub whole : m.system.items ≡ [] → IsWholeMapOf image m
+  pub whole : HasNoSystemErrors m → IsWholeMapOf image m
 
 -- what stands for the map of an extent past the file's end
 abbrev pub no_extent : ExtentMap

@@ -4,9 +4,9 @@ use Rattle.std.specs.List.{list_any, range_with_len}
 use Rattle.spec_file.specs.Pfs.{is_allocated_byte}
 use Rattle.ck_facts.specs.declared.map.AllocMap.{AllocMap}
 use Rattle.ck_facts.specs.declared.map.PageUse.{PageUse}
-use Rattle.ck_facts.specs.declared.owners.OwnedPage.{OwnedPage}
 use Rattle.ck_facts.specs.Maps.{has_mark}
 use Rattle.ck_facts.specs.MapOf.{extent_at, ids_of}
+use Rattle.ck_facts.specs.Owners.{Owned, owned}
 
 -- the i-th object marks the extent of page p, and the page is allocated
 abbrev pub is_marked : AllocMap → ℕ → ℕ → Bool
@@ -24,12 +24,13 @@ is_held id uses = list_any (is_single id) uses
 abbrev pub is_owned_by : AllocMap → List PageUse → ℕ → ℕ → Bool
 is_owned_by m uses p i = is_marked m i p || is_held (slice_index (ids_of m.objects.items) i) uses
 
-abbrev pub owned_at : ℕ → ℕ → OwnedPage
-owned_at p i = record { page = record { 0 = p }; owner = i }
+-- page p, owned by the i-th object
+abbrev pub owned_at : AllocMap → ℕ → ℕ → Owned
+owned_at m p i = owned p (slice_index (ids_of m.objects.items) i)
 
 -- page p, which has these uses, with each of the first n objects that owns it
-abbrev pub owners_of : AllocMap → List PageUse → ℕ → ℕ → List OwnedPage
-owners_of m uses p n = filter (λ u. is_owned_by m uses p u.owner) (map (owned_at p) (range_with_len 0 n))
+abbrev pub owners_of : AllocMap → List PageUse → ℕ → ℕ → List Owned
+owners_of m uses p n = map (owned_at m p) (filter (is_owned_by m uses p) (range_with_len 0 n))
 
 -- an extent whose pages nobody uses, and that nobody marks
 pub record IsUnowned (m : AllocMap) (e : ℕ) (uses : List PageUse) : Type 0 where

@@ -1,6 +1,6 @@
 -- What a page that passed its test shows by itself, said by its rows alone.
-use Rattle.std.specs.Prelude.{◌≡◌, ◌≢◌, ◌⊎◌, ℕ, ◌+◌, ◌%◌, ◌≤◌, List}
-use Rattle.spec_file.specs.declared.data.Kind.TheVariants.{Clustered}
+use Rattle.std.specs.Prelude.{◌≡◌, ◌≢◌, ◌⊎◌, ℕ, ◌+◌, ◌%◌, ◌≤◌, IsTrue, List}
+use Rattle.spec_file.specs.Kinds.{is_clustered}
 use Rattle.spec_rows.specs.Rows.{row_key}
 use Rattle.spec_rows.specs.Slots.{slot_count, page_row}
 use Rattle.spec_check.specs.declared.report.CheckError.{CheckError}

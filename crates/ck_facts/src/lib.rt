@@ -13,6 +13,5 @@ mod tested;
 pub use db_cat::CatRow;
 pub use facts::{Fact, PageFacts, facts_of_page};
 pub use map::{AllocMap, ExtentMap, PageUse};
-pub use owners::OwnedPage;
 pub use runs::uses_between;
 pub use spec_check::{CheckError, CheckReport, TableLine};

@@ -5,12 +5,12 @@ ghost use Rattle.spec_file.specs.Places.{HasShape};
 ghost use Rattle.ck_facts.specs.Sizes.{HasSizes};
 
 use crate::CatRow;
-use pg_base::{ExtentNo, Geometry, PageNo};
+use pg_base::{Geometry, ObjId, PageNo};
 use pg_geom::is_ordinary;
 use spec_check::CheckError;
 
 /// A use of a page: by a single-page slot of an object, or as a page of its IAM chain.
-#[derive(Clone, Copy, Debug, PartialEq, Eq, PartialOrd, Ord)]
+#[derive(Clone, Copy, PartialEq, Eq, PartialOrd, Ord)]
 pub struct PageUse {
     pub page: u32,
     pub object: u32,
@@ -19,7 +19,7 @@ pub struct PageUse {
 }
 
 /// What the maps say of one extent.
-#[derive(Clone, Copy, Debug, PartialEq, Eq)]
+#[derive(Clone, Copy)]
 pub struct ExtentMap {
     /// Its GAM bit.
     pub free: bool,
@@ -66,6 +66,9 @@ impl ExtentMap {
 }
 
 impl AllocMap {
+    ghost use Rattle.std.specs.Prelude.{◌↔◌, ℕ, Some, IfSome};
+    ghost use Rattle.ck_facts.specs.Owners.{StandById, IsPlaceOf};
+
     /// The errors of system pages, in order.
     pub fn system_errors(&self) -> &[CheckError]
         ensures { result.now ≡ self.now.system.items }
@@ -78,6 +81,16 @@ impl AllocMap {
         ensures { result.now ≡ self.now.objects.items }
     {
         &self.objects
+    }
+
+    /// The place of an object among those of the catalog, which stand by id.
+    pub fn place_of(&self, object: ObjId) -> Option<usize>
+        ensures place { StandById self.now → (i : ℕ) → (result ≡ Some i) ↔ IsPlaceOf self.now i object.0 }
+        ensures inside { IfSome result (λ i. i < vec_len self.now.objects) }
+    {
+        self.objects
+            .binary_search_by_key(&object.0, |row| row.id.0)
+            .ok()
     }
 
     /// How many extents the file has.

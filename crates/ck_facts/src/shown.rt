@@ -7,7 +7,7 @@ ghost use Rattle.ck_facts.specs.Tested.{Falls, IsOutOfOrder, HasOtherFullness, I
 
 use crate::CheckError;
 use crate::page::TestedPage;
-use pg_base::{Kind, NoMemory, ObjId, PageNo};
+use pg_base::{NoMemory, ObjId, PageNo};
 use pg_slots::SlotFault;
 use smallvec::SmallVec;
 use std::alloc::Global;
@@ -89,10 +89,10 @@ fn push_order_errors(
 ) -> Result<(), NoMemory>
     ensures { OnOk result (Adds errors.old.items errors.new.items (IsOutOfOrder page.now)) }
 {
-    if let Kind::Clustered = page.kind {
-        push_falls(errors, page)?;
+    if !page.kind.is_clustered() {
+        return Ok(());
     }
-    Ok(())
+    push_falls(errors, page)
 }
 
 fn push_fullness_error(

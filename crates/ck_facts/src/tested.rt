@@ -10,7 +10,7 @@ ghost use Rattle.ck_facts.specs.Tested.{page_bytes, slot_key};
 
 use crate::page::TestedPage;
 use byteorder::{ByteOrder, LittleEndian};
-use pg_base::{Kind, PageNo, u32_at};
+use pg_base::{DATA_TYPE, INDEX_TYPE, PageNo, u32_at};
 use pg_pfs::fullness_of;
 use spec_tree::{IndexRow, PageHead};
 
@@ -70,7 +70,7 @@ impl TestedPage<'_> {
     fn has_index_rows(&self) -> bool
         ensures { result ≡ has_index_rows (page_bytes self.now) }
     {
-        self.header.page_type == 2
+        self.header.page_type == INDEX_TYPE
     }
 
     // The page that the row of a slot names.
@@ -156,7 +156,7 @@ impl TestedPage<'_> {
     pub fn data_rows(&self) -> u64
         ensures { result ≡ seen.rows_on (page_bytes self.now) }
     {
-        if self.header.page_type == 1 {
+        if self.header.page_type == DATA_TYPE {
             u64::from(self.header.slots)
         } else {
             0
@@ -167,9 +167,10 @@ impl TestedPage<'_> {
     pub fn fullness(&self) -> u8
         ensures { result ≡ rules_of.fullness_in self.now.kind (page_bytes self.now) }
     {
-        match self.kind {
-            Kind::Heap => fullness_of(self.header.free_count),
-            Kind::Clustered => 0,
+        if self.kind.is_clustered() {
+            0
+        } else {
+            fullness_of(self.header.free_count)
         }
     }
 }

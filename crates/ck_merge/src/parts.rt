@@ -38,22 +38,21 @@ fn empty_buckets(alloc: Global, count: u32) -> Result<Vec<Bucket>, NoMemory>
 }
 
 impl Parts {
-    ghost use Rattle.std.specs.Prelude.{◌++◌, [], List, OnOk};
-    ghost use Rattle.spec_check.specs.Errors.{Lists};
-    ghost use Rattle.spec_tree.specs.Trees.{IsTreeError};
+    ghost use Rattle.std.specs.Prelude.{◌++◌, [], List, OnOk, max};
     ghost use Rattle.ck_error.specs.Gathered.{Gathers, Each};
     ghost use Rattle.ck_facts.specs.declared.facts.Fact.{Fact};
-    ghost use Rattle.ck_facts.specs.Facts.{known_of};
+    ghost use Rattle.ck_facts.specs.Maps.{HasNoSystemErrors};
     ghost use Rattle.ck_merge.specs.Buckets.{AreSorted, BucketErrors};
-    ghost use Rattle.ck_merge.specs.Held.{Holds, roots_in, roots_of, count_of};
+    ghost use Rattle.ck_merge.specs.Held.{Holds, ListsTrees, roots_in, roots_of, count_of};
 
-    /// No facts yet, in so many parts.
+    /// No facts yet, in so many parts; 0 is served as 1.
     pub fn begin(alloc: Global, map: &AllocMap, count: u32) -> Result<Parts, NoMemory>
-        requires some { 0 < count }
+        requires { HasNoSystemErrors map.now }
         ensures holds { IfOk result (λ parts. Holds parts []) }
         ensures roots { IfOk result (λ parts. roots_in parts ≡ roots_of map.now.objects.items) }
-        ensures count { IfOk result (λ parts. count_of parts ≡ count) }
+        ensures count { IfOk result (λ parts. count_of parts ≡ max count 1) }
     {
+        let count = count.max(1);
         let roots = clustered_tables(alloc, map.objects())?;
         let buckets = empty_buckets(alloc, count)?;
         Ok(Parts {
@@ -96,8 +95,7 @@ impl Parts {
     /// The errors that the facts show, in order and each once, whatever the order and the pieces in which they
     /// were taken, and however many parts there are.
     pub fn finish(self) -> Result<Vec<CheckError>, NoMemory>
-        ensures errors { IfOk result (λ errors. (facts : List Fact) → Holds self facts
-            → Lists errors.items (IsTreeError (known_of (roots_in self) facts))) }
+        ensures { IfOk result (λ errors. ListsTrees self errors.items) }
     {
         let mut parts = self;
         parts.sort();

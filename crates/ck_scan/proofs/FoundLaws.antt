@@ -11,8 +11,9 @@ use Rattle.ck_error.specs.Gathered.{Gathers, Adds, Below}
 use Rattle.ck_error.proofs.GatheringLaws.{gathers_as, gathers_more}
 use Rattle.ck_facts.specs.declared.facts.Fact.{Fact}
 use Rattle.ck_facts.specs.declared.map.AllocMap.{AllocMap}
-use Rattle.ck_facts.specs.declared.owners.OwnedPage.{OwnedPage}
-use Rattle.ck_facts.specs.Owners.{IsOwnerIn, AreOwnersIn, owned_cmp}
+use Rattle.ck_facts.specs.Maps.{HasNoSystemErrors}
+use Rattle.ck_facts.specs.MapOf.{IsMapOf}
+use Rattle.ck_facts.specs.Owners.{Owned, IsOwnerIn, AreOwnersIn, owned_cmp}
 use Rattle.ck_scan.specs.declared.findings.Findings.{Findings}
 use Rattle.ck_scan.specs.Shown.{IsErrorAt, IsFactAt, Among, WithPage}
 use Rattle.ck_scan.specs.Found.{AreFound, AddsPage, IsBehind}
@@ -20,58 +21,58 @@ use Rattle.spec_check.proofs.Members.{nothing_there, cons_cases, below, rest_sor
 use Rattle.ck_scan.proofs.Counting.{less_from}
 use Rattle.ck_scan.proofs.CountLaws.{counts_more, counts_as}
 
-among_more : {Z : Type 0} (Met : OwnedPage → Type 0) (u : OwnedPage) (Shows : OwnedPage → Z → Type 0) (x : Z)
+among_more : {Z : Type 0} (Met : Owned → Type 0) (u : Owned) (Shows : Owned → Z → Type 0) (x : Z)
     → Among Met Shows x ⊎ Shows u x → Among (WithPage Met u) Shows x
 among_more {Z} Met u Shows x h = ⊎_elim (λ was. (was.0, inl was.1, was.2)) (λ now. (u, inr refl, now)) h
 
-among_less : {Z : Type 0} (Met : OwnedPage → Type 0) (u : OwnedPage) (Shows : OwnedPage → Z → Type 0) (x : Z)
+among_less : {Z : Type 0} (Met : Owned → Type 0) (u : Owned) (Shows : Owned → Z → Type 0) (x : Z)
     → Among (WithPage Met u) Shows x → Among Met Shows x ⊎ Shows u x
 among_less {Z} Met u Shows x h = ⊎_elim (λ was. inl (h.0, was, h.2)) (λ e. inr (subst (λ v. Shows v x) (sym e) h.2)) h.1
 
-among_as : {Z : Type 0} (Met Other : OwnedPage → Type 0) (Shows : OwnedPage → Z → Type 0) (xs : List Z) → ((v : OwnedPage) → Met v → Other v)
-    → ((v : OwnedPage) → Other v → Met v) → Gathers xs (Among Met Shows) → Gathers xs (Among Other Shows)
+among_as : {Z : Type 0} (Met Other : Owned → Type 0) (Shows : Owned → Z → Type 0) (xs : List Z) → ((v : Owned) → Met v → Other v)
+    → ((v : Owned) → Other v → Met v) → Gathers xs (Among Met Shows) → Gathers xs (Among Other Shows)
 among_as {Z} Met Other Shows xs there back h = gathers_as xs (Among Met Shows) (Among Other Shows)
     (λ x s. (s.0, there s.0 s.1, s.2)) (λ x s. (s.0, back s.0 s.1, s.2)) h
 
-errors_more : (image : Image) (m : AllocMap) (Met : OwnedPage → Type 0) (u : OwnedPage) (old new : List CheckError)
-    → Gathers old (Among Met (IsErrorAt image m)) → Adds old new (IsErrorAt image m u) → Gathers new (Among (WithPage Met u) (IsErrorAt image m))
-errors_more image m Met u old new h a = gathers_as new (λ x. Among Met (IsErrorAt image m) x ⊎ IsErrorAt image m u x)
-    (Among (WithPage Met u) (IsErrorAt image m)) (among_more Met u (IsErrorAt image m)) (among_less Met u (IsErrorAt image m))
-    (gathers_more old new (Among Met (IsErrorAt image m)) (IsErrorAt image m u) h a)
+errors_more : (image : Image) (m : AllocMap) (Met : Owned → Type 0) (u : Owned) (old new : List CheckError)
+    → Gathers old (Among Met (IsErrorAt m.geometry image)) → Adds old new (IsErrorAt m.geometry image u) → Gathers new (Among (WithPage Met u) (IsErrorAt m.geometry image))
+errors_more image m Met u old new h a = gathers_as new (λ x. Among Met (IsErrorAt m.geometry image) x ⊎ IsErrorAt m.geometry image u x)
+    (Among (WithPage Met u) (IsErrorAt m.geometry image)) (among_more Met u (IsErrorAt m.geometry image)) (among_less Met u (IsErrorAt m.geometry image))
+    (gathers_more old new (Among Met (IsErrorAt m.geometry image)) (IsErrorAt m.geometry image u) h a)
 
-facts_more : (image : Image) (m : AllocMap) (Met : OwnedPage → Type 0) (u : OwnedPage) (held more : List Fact)
-    → Gathers held (Among Met (IsFactAt image m)) → Gathers more (IsFactAt image m u) → Gathers (held ++ more) (Among (WithPage Met u) (IsFactAt image m))
+facts_more : (image : Image) (m : AllocMap) (Met : Owned → Type 0) (u : Owned) (held more : List Fact)
+    → Gathers held (Among Met (IsFactAt m.geometry image)) → Gathers more (IsFactAt m.geometry image u) → Gathers (held ++ more) (Among (WithPage Met u) (IsFactAt m.geometry image))
 facts_more image m Met u held more h a = record {
-  sound = λ x c. among_more Met u (IsFactAt image m) x (⊎_elim (λ was. inl (h.sound x was)) (λ now. inr (a.sound x now)) (Contains-append_cases held more x c));
+  sound = λ x c. among_more Met u (IsFactAt m.geometry image) x (⊎_elim (λ was. inl (h.sound x was)) (λ now. inr (a.sound x now)) (Contains-append_cases held more x c));
   complete = λ x s. ⊎_elim (λ was. Contains-append_left held more x (h.complete x was)) (λ now. Contains-append_right held more x (a.complete x now))
-      (among_less Met u (IsFactAt image m) x s);
+      (among_less Met u (IsFactAt m.geometry image) x s);
 }
 
-pub found_more : (image : Image) (m : AllocMap) (Met : OwnedPage → Type 0) (u : OwnedPage) (old new : Findings) → length image ≡ m.pages
+pub found_more : (image : Image) (m : AllocMap) (Met : Owned → Type 0) (u : Owned) (old new : Findings) → IsMapOf image m → HasNoSystemErrors m
     → IsBehind Met u → AreFound image m Met old → AddsPage image m u old new → AreFound image m (WithPage Met u) new
-found_more image m Met u old new pages behind h a = record {
+found_more image m Met u old new of sound behind h a = record {
   errors = errors_more image m Met u old.errors.items new.errors.items h.errors a.errors;
   facts = h.facts ++ a.more;
   held = a.held.holds h.facts h.held;
   each = facts_more image m Met u h.facts a.more h.each a.each;
-  lines = counts_more image m Met u old.lines.items new.lines.items pages behind h.lines a.lines;
+  lines = counts_more image m Met u old.lines.items new.lines.items of sound behind h.lines a.lines;
 }
 
-pub found_as : (image : Image) (m : AllocMap) (Met Other : OwnedPage → Type 0) (found : Findings) → ((v : OwnedPage) → Met v → Other v)
-    → ((v : OwnedPage) → Other v → Met v) → AreFound image m Met found → AreFound image m Other found
+pub found_as : (image : Image) (m : AllocMap) (Met Other : Owned → Type 0) (found : Findings) → ((v : Owned) → Met v → Other v)
+    → ((v : Owned) → Other v → Met v) → AreFound image m Met found → AreFound image m Other found
 found_as image m Met Other found there back h = record {
-  errors = among_as Met Other (IsErrorAt image m) found.errors.items there back h.errors;
+  errors = among_as Met Other (IsErrorAt m.geometry image) found.errors.items there back h.errors;
   facts = h.facts;
   held = h.held;
-  each = among_as Met Other (IsFactAt image m) h.facts there back h.each;
+  each = among_as Met Other (IsFactAt m.geometry image) h.facts there back h.each;
   lines = counts_as image m Met Other found.lines.items there back h.lines;
 }
 
 -- The pages of one extent, in their order.
 
 -- those before extent e, and the first k of its own
-abbrev pub IsReached : Image → AllocMap → ℕ → List OwnedPage → ℕ → OwnedPage → Type 0
-IsReached image m e owned k v = Below e (IsOwnerIn image m) v ⊎ Contains (take k owned) v
+abbrev pub IsReached : Image → AllocMap → ℕ → List Owned → ℕ → Owned → Type 0
+IsReached image m e owned k v = Below e (IsOwnerIn m.geometry image) v ⊎ Contains (take k owned) v
 
 less_than : {K : Type 0} (R : K → K → Ordering) (xs : List K) (k : ℕ) (d v : K) → IsStrictlySortedBy R xs → k < length xs → Contains (take k xs) v
     → R v (get_or xs k d) ≡ Less
@@ -87,23 +88,23 @@ then_cases Less p h = inl refl
 then_cases Equal p h = inr (refl, h)
 then_cases Greater p h = absurd (cc)
 
-page_before : (v u : OwnedPage) → owned_cmp v u ≡ Less → v.owner ≡ u.owner → v.page.0 < u.page.0
-page_before v u less same = ⊎_elim (λ before. less_from v.page.0 u.page.0 before)
-    (λ tied. let never = less_from v.owner u.owner tied.1 in absurd (omega (arith, never, same)))
-    (then_cases (nat_cmp v.page.0 u.page.0) (nat_cmp v.owner u.owner) less)
+page_before : (v u : Owned) → owned_cmp v u ≡ Less → v.1.0 ≡ u.1.0 → v.0.0 < u.0.0
+page_before v u less same = ⊎_elim (λ before. less_from v.0.0 u.0.0 before)
+    (λ tied. let never = less_from v.1.0 u.1.0 tied.1 in absurd (omega (arith, never, same)))
+    (then_cases (nat_cmp v.0.0 u.0.0) (nat_cmp v.1.0 u.1.0) less)
 
-pub reached_behind : (image : Image) (m : AllocMap) (e : ℕ) (owned : List OwnedPage) (k : ℕ) (d : OwnedPage) → AreOwnersIn image m e owned
+pub reached_behind : (image : Image) (m : AllocMap) (e : ℕ) (owned : List Owned) (k : ℕ) (d : Owned) → AreOwnersIn m.geometry image e owned
     → k < length owned → IsBehind (IsReached image m e owned k) (get_or owned k d)
 reached_behind image m e owned k d are low v met same = ⊎_elim
     (λ before. let here = (are.sound (get_or owned k d) (Contains-get_or owned k d low)).extent in
     let there = before.2.extent in
     let less = before.1 in
-    earlier v.page.0 (get_or owned k d).page.0 before.0 e there here less)
+    earlier v.0.0 (get_or owned k d).0.0 before.0 e there here less)
     (λ first. page_before v (get_or owned k d) (less_than owned_cmp owned k d v are.sorted low first) same) met where
       earlier : (p q a b : ℕ) → p / 8 ≡ a → q / 8 ≡ b → a < b → p < q
       earlier p q a b first second less = omega arith
 
-pub reached_next : (image : Image) (m : AllocMap) (e : ℕ) (owned : List OwnedPage) (k : ℕ) (d : OwnedPage) (found : Findings) → k < length owned
+pub reached_next : (image : Image) (m : AllocMap) (e : ℕ) (owned : List Owned) (k : ℕ) (d : Owned) (found : Findings) → k < length owned
     → AreFound image m (WithPage (IsReached image m e owned k) (get_or owned k d)) found → AreFound image m (IsReached image m e owned (k + 1)) found
 reached_next image m e owned k d found low h =
     let more : take (k + 1) owned ≡ take k owned ++ get_or owned k d ∷ [] = take_more owned k d low in
@@ -114,27 +115,27 @@ reached_next image m e owned k d found low h =
     (λ v met. ⊎_elim (λ before. inl (inl before))
     (λ now. ⊎_elim (λ first. inl (inr first)) (λ same. inr same) (Contains-push_cases (take k owned) (get_or owned k d) v (subst (λ l. Contains l v) more now))) met) h
 
-pub reached_first : (image : Image) (m : AllocMap) (e : ℕ) (owned : List OwnedPage) (found : Findings)
-    → AreFound image m (Below e (IsOwnerIn image m)) found → AreFound image m (IsReached image m e owned 0) found
-reached_first image m e owned found h = found_as image m (Below e (IsOwnerIn image m)) (IsReached image m e owned 0) found
+pub reached_first : (image : Image) (m : AllocMap) (e : ℕ) (owned : List Owned) (found : Findings)
+    → AreFound image m (Below e (IsOwnerIn m.geometry image)) found → AreFound image m (IsReached image m e owned 0) found
+reached_first image m e owned found h = found_as image m (Below e (IsOwnerIn m.geometry image)) (IsReached image m e owned 0) found
     (λ v met. inl met) (λ v met. ⊎_elim (λ before. before) (λ none. absurd (nothing_there v none)) met) h
 
-pub reached_last : (image : Image) (m : AllocMap) (e : ℕ) (owned : List OwnedPage) (k : ℕ) (found : Findings) → AreOwnersIn image m e owned
-    → take k owned ≡ owned → AreFound image m (IsReached image m e owned k) found → AreFound image m (Below (e + 1) (IsOwnerIn image m)) found
-reached_last image m e owned k found are all h = found_as image m (IsReached image m e owned k) (Below (e + 1) (IsOwnerIn image m)) found
+pub reached_last : (image : Image) (m : AllocMap) (e : ℕ) (owned : List Owned) (k : ℕ) (found : Findings) → AreOwnersIn m.geometry image e owned
+    → take k owned ≡ owned → AreFound image m (IsReached image m e owned k) found → AreFound image m (Below (e + 1) (IsOwnerIn m.geometry image)) found
+reached_last image m e owned k found are all h = found_as image m (IsReached image m e owned k) (Below (e + 1) (IsOwnerIn m.geometry image)) found
     (λ v met. ⊎_elim (λ before. let less = before.1 in (before.0, omega (arith, less), before.2))
     (λ here. (e, omega arith, are.sound v (subst (λ l. Contains l v) all here))) met)
     (λ v met. ⊎_elim (λ less. inl (met.0, less, met.2))
-    (λ same. inr (subst (λ l. Contains l v) (sym all) (are.complete v (subst (λ n. IsOwnerIn image m n v) same met.2)))) (upto met.0 e met.1)) h where
+    (λ same. inr (subst (λ l. Contains l v) (sym all) (are.complete v (subst (λ n. IsOwnerIn m.geometry image n v) same met.2)))) (upto met.0 e met.1)) h where
       upto : (i n : ℕ) → i < n + 1 → (i < n) ⊎ (i ≡ n)
       upto i n h = search (Rattle.std.proofs.Common.rules, arith)
 
-pub reached_step : (image : Image) (m : AllocMap) (e : ℕ) (owned : List OwnedPage) (k : ℕ) (d : OwnedPage) (old new : Findings)
-    → length image ≡ m.pages → AreOwnersIn image m e owned → k < length owned → AreFound image m (IsReached image m e owned k) old
+pub reached_step : (image : Image) (m : AllocMap) (e : ℕ) (owned : List Owned) (k : ℕ) (d : Owned) (old new : Findings)
+    → IsMapOf image m → HasNoSystemErrors m → AreOwnersIn m.geometry image e owned → k < length owned → AreFound image m (IsReached image m e owned k) old
     → AddsPage image m (get_or owned k d) old new → AreFound image m (IsReached image m e owned (k + 1)) new
-reached_step image m e owned k d old new pages are low was adds = reached_next image m e owned k d new low
-    (found_more image m (IsReached image m e owned k) (get_or owned k d) old new pages (reached_behind image m e owned k d are low) was adds)
+reached_step image m e owned k d old new of sound are low was adds = reached_next image m e owned k d new low
+    (found_more image m (IsReached image m e owned k) (get_or owned k d) old new of sound (reached_behind image m e owned k d are low) was adds)
 
-pub owner_at : (image : Image) (m : AllocMap) (e : ℕ) (owned : List OwnedPage) (k : ℕ) (d : OwnedPage) → AreOwnersIn image m e owned
-    → k < length owned → IsOwnerIn image m e (get_or owned k d)
+pub owner_at : (image : Image) (m : AllocMap) (e : ℕ) (owned : List Owned) (k : ℕ) (d : Owned) → AreOwnersIn m.geometry image e owned
+    → k < length owned → IsOwnerIn m.geometry image e (get_or owned k d)
 owner_at image m e owned k d are low = are.sound (get_or owned k d) (Contains-get_or owned k d low)

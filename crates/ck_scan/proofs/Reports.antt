@@ -16,21 +16,20 @@ use Rattle.spec_tables.specs.Written.{Stands, IsCheckOf}
 use Rattle.spec_check.specs.Allocation.{IsAllocationError}
 use Rattle.spec_chain.specs.Uses.{IsAllocatedTo}
 use Rattle.spec_tree.specs.Trees.{IsTreeError}
+use Rattle.spec_tables.specs.KnownPages.{known_of_image}
 use Rattle.spec_tables.specs.PageRules.{IsPageError}
 use Rattle.spec_tables.specs.Written.{IsRuleError}
 use Rattle.ck_error.specs.Gathered.{Gathers}
-use Rattle.ck_facts.specs.declared.facts.Fact.{Fact}
-use Rattle.ck_facts.specs.Facts.{known_of}
-use Rattle.ck_facts.specs.Maps.{rows_of_objects}
-use Rattle.ck_merge.specs.Held.{Holds, roots_of}
+use Rattle.ck_facts.specs.Maps.{HasNoSystemErrors}
+use Rattle.ck_facts.specs.Owners.{owned}
+use Rattle.ck_merge.specs.Held.{ListsTrees, roots_in, roots_of}
 use Rattle.ck_scan.specs.declared.findings.Findings.{Findings}
 use Rattle.ck_scan.specs.Shown.{IsErrorAt, Among}
-use Rattle.ck_scan.specs.Counted.{owned_by}
 use Rattle.ck_scan.specs.Found.{AreFound}
 use Rattle.ck_scan.specs.Lines.{IsReportOfRules}
 use Rattle.spec_check.proofs.Members.{nothing_there, cons_here}
-use Rattle.ck_scan.proofs.OwnerLaws.{Owned, owned_there, object_of_place, row_place, same_object}
-use Rattle.ck_scan.proofs.KnownLaws.{AreAllFacts, trees_from, trees_in}
+use Rattle.ck_scan.proofs.OwnerLaws.{OwnedAll, owned_there, one_row}
+use Rattle.ck_scan.proofs.KnownLaws.{parts_show_trees, facts_of_all}
 
 unsound_from : (g : Geometry) (image : Image) (x : CheckError) → IsSystemError g image x → IsSystemSound g image → ⊥
 unsound_from g image x h sound = sound h.0 h.1 h.2
@@ -83,7 +82,7 @@ empty_list [] none = refl
 empty_list (x ∷ xs) none = absurd (omega (arith, none))
 
 -- the answer of a check without system errors
-pub checked : (o : Option Image) (m : AllocMap) (r : Result CheckReport ReadStop) → m.system.items ≡ []
+pub checked : (o : Option Image) (m : AllocMap) (r : Result CheckReport ReadStop) → HasNoSystemErrors m
     → IfSome o (λ image. IsMapOf image m)
     → IfOk r (λ report. ForSome o (λ image. IsMapOf image m → IsReportOfRules m.geometry image report))
     → IfOk r (λ report. IfSome o (λ image. IsCheckOf m.geometry image report))
@@ -95,39 +94,40 @@ checked o m (Err stop) sound told h = tt
 pub record Joins (both first second : List CheckError) : Type 0 where
   pub joins : (x : CheckError) → Contains both x ↔ (Contains first x ⊎ Contains second x)
 
-page_error_from : (image : Image) (m : AllocMap) (x : CheckError) → IsMapOf image m → m.system.items ≡ []
-    → Among (Owned image m) (IsErrorAt image m) x → IsPageError m.geometry image x
+page_error_from : (image : Image) (m : AllocMap) (x : CheckError) → IsMapOf image m → HasNoSystemErrors m
+    → Among (OwnedAll image m) (IsErrorAt m.geometry image) x → IsPageError m.geometry image x
 page_error_from image m x of sound a =
     let owner = a.1.2 in
     let h = a.2 in
-    let same : owner.row ≡ h.row = same_object m a.0.owner a.0.owner h.row owner.row refl h.object owner.object in
+    let same : owner.row ≡ h.row = one_row image m a.0 owner.row h.row of sound (record { object = owner.object; id = owner.id }) h.of in
     record {
       row = h.row;
-      number = a.0.page.0;
-      object = object_of_place image m a.0.owner h.row (of.whole sound).objects h.object;
-      allocated = subst (λ r. IsAllocatedTo m.geometry image r a.0.page.0) same owner.allocated;
+      number = a.0.0.0;
+      object = h.of.object;
+      allocated = subst (λ r. IsAllocatedTo m.geometry image r a.0.0.0) same owner.allocated;
       is = h.is;
     }
 
-page_error_in : (image : Image) (m : AllocMap) (x : CheckError) → IsMapOf image m → m.system.items ≡ []
-    → IsPageError m.geometry image x → Among (Owned image m) (IsErrorAt image m) x
-page_error_in image m x of sound h =
-    let place = row_place (rows_of_objects m.objects.items) h.row (((of.whole sound).objects.same h.row).1 h.object) in
-    (owned_by place.0 h.number, owned_there image m place.0 h.number h.row of.pages place.1 h.allocated, record { row = h.row; object = place.1; is = h.is })
+page_error_in : (image : Image) (m : AllocMap) (x : CheckError) → IsMapOf image m → IsPageError m.geometry image x
+    → Among (OwnedAll image m) (IsErrorAt m.geometry image) x
+page_error_in image m x of h = (
+  owned h.number h.row.id,
+  owned_there image m h.number h.row of.pages h.object h.allocated,
+  record { row = h.row; of = record { object = h.object; id = refl }; is = h.is },
+)
 
 -- the errors of maps, pages and trees together
-pub rule_errors : (image : Image) (m : AllocMap) (found : Findings) (maps trees first all : List CheckError) → IsMapOf image m → m.system.items ≡ []
-    → AreFound image m (Owned image m) found → Lists maps (IsAllocationError m.geometry image)
-    → ((facts : List Fact) → Holds found.parts facts → Lists trees (IsTreeError (known_of (roots_of m.objects.items) facts)))
-    → Joins first maps found.errors.items → Joins all first trees → Gathers all (IsRuleError m.geometry image)
-rule_errors image m found maps trees first all of sound is of_maps of_trees one two =
-    let lists = of_trees is.facts is.held in
-    let known : AreAllFacts image m is.facts = record { of = of; sound = sound; each = is.each } in
+pub rule_errors : (image : Image) (m : AllocMap) (found : Findings) (maps trees first all : List CheckError) → IsMapOf image m → HasNoSystemErrors m
+    → roots_in found.parts ≡ roots_of m.objects.items → AreFound image m (OwnedAll image m) found → Lists maps (IsAllocationError m.geometry image)
+    → ListsTrees found.parts trees → Joins first maps found.errors.items → Joins all first trees → Gathers all (IsRuleError m.geometry image)
+rule_errors image m found maps trees first all of sound roots is of_maps of_trees one two =
+    let lists : Lists trees (IsTreeError (known_of_image m.geometry image)) =
+    parts_show_trees image m found.parts is.facts trees of sound (facts_of_all image m is.facts of is.each) is.held roots of_trees in
     record {
       sound = λ x c. ⊎_elim
           (λ early. ⊎_elim (λ a. inl (of_maps.sound x a)) (λ b. inr (inl (page_error_from image m x of sound (is.errors.sound x b)))) ((one.joins x).0 early))
-          (λ late. inr (inr (trees_from image m is.facts x known (lists.sound x late)))) ((two.joins x).0 c);
+          (λ late. inr (inr (lists.sound x late))) ((two.joins x).0 c);
       complete = λ x s. (two.joins x).1 (⊎_elim (λ a. inl ((one.joins x).1 (inl (of_maps.complete x a))))
-          (λ rest. ⊎_elim (λ b. inl ((one.joins x).1 (inr (is.errors.complete x (page_error_in image m x of sound b)))))
-          (λ t. inr (lists.complete x (trees_in image m is.facts x known t))) rest) s);
+          (λ rest. ⊎_elim (λ b. inl ((one.joins x).1 (inr (is.errors.complete x (page_error_in image m x of b)))))
+          (λ t. inr (lists.complete x t)) rest) s);
     }

@@ -3,14 +3,14 @@ use Rattle.std.specs.Prelude.{◌≡◌, ℕ, ◌+◌, ◌^◌, ◌<◌, List, l
 use Rattle.std.specs.List.{sum_by}
 use Rattle.std.specs.List.Sorted.{IsStrictlySortedBy}
 use Rattle.std.specs.Ordering.{nat_cmp}
+use Rattle.spec_file.specs.declared.geometry.Geometry.{Geometry}
 use Rattle.spec_file.specs.Image.{Image, page}
 use Rattle.spec_file.specs.CatalogRows.{CatalogRow}
 use Rattle.spec_check.specs.declared.report.TableLine.{TableLine}
 use Rattle.spec_tables.specs.Seen.{IsSeen, rows_on}
 use Rattle.ck_facts.specs.declared.map.AllocMap.{AllocMap}
-use Rattle.ck_facts.specs.declared.owners.OwnedPage.{OwnedPage}
-use Rattle.ck_facts.specs.Maps.{rows_of_objects}
-use Rattle.ck_facts.specs.Owners.{IsObjectAt}
+use Rattle.ck_facts.specs.MapOf.{ids_of}
+use Rattle.ck_facts.specs.Owners.{Owned, owned, IsObjectAt}
 
 -- there is a rising list of exactly the pages that are taken; the line has its length and its rows
 pub record IsCountOf (Taken : ℕ → Type 0) (rows_of : ℕ → ℕ) (line : TableLine) : Type 0 where
@@ -35,16 +35,12 @@ pub record CountsPage (old new : List TableLine) (i rows : ℕ) : Type 0 where
   pub more : IsOneMore before after rows
   pub is : new ≡ slice_set old i after
 
--- page p, owned by the i-th object
-abbrev pub owned_by : ℕ → ℕ → OwnedPage
-owned_by i p = record { page = record { 0 = p }; owner = i }
-
--- the i-th object's pages that are met and seen
-abbrev pub IsMetOf : Image → AllocMap → (OwnedPage → Type 0) → ℕ → CatalogRow → ℕ → Type 0
-IsMetOf image m Met i row p = Met (owned_by i p) × IsSeen m.geometry image row p
+-- the object's pages that are met and seen
+abbrev pub IsMetOf : Geometry → Image → (Owned → Type 0) → CatalogRow → ℕ → Type 0
+IsMetOf g image Met row p = Met (owned p row.id) × IsSeen g image row p
 
 -- each object's line, at its place, counts its pages that are met and seen
-pub record AreCounts (image : Image) (m : AllocMap) (Met : OwnedPage → Type 0) (lines : List TableLine) : Type 0 where
-  pub ids : map (λ line. line.object) lines ≡ map (λ row. row.id) (rows_of_objects m.objects.items)
+pub record AreCounts (image : Image) (m : AllocMap) (Met : Owned → Type 0) (lines : List TableLine) : Type 0 where
+  pub ids : map (λ line. line.object) lines ≡ ids_of m.objects.items
   pub each : (i : ℕ) (row : CatalogRow) (line : TableLine) → IsObjectAt m i row → slice_get lines i ≡ Some line
-      → IsCountOf (IsMetOf image m Met i row) (λ p. rows_on (page image p)) line
+      → IsCountOf (IsMetOf m.geometry image Met row) (λ p. rows_on (page image p)) line

@@ -7,36 +7,41 @@ use Rattle.ck_error.specs.Gathered.{Gathers, Adds}
 use Rattle.ck_facts.specs.declared.facts.Fact.{Fact}
 use Rattle.ck_facts.specs.declared.facts.PageFacts.{PageFacts}
 use Rattle.ck_facts.specs.declared.map.AllocMap.{AllocMap}
-use Rattle.ck_facts.specs.declared.owners.OwnedPage.{OwnedPage}
+use Rattle.ck_facts.specs.Owners.{Owned, IsPlaceOf}
 use Rattle.ck_merge.specs.Held.{Holds}
 use Rattle.ck_scan.specs.declared.findings.Findings.{Findings}
 use Rattle.ck_scan.specs.Shown.{IsErrorAt, IsSeenAt, IsFactAt, Among}
 use Rattle.ck_scan.specs.Counted.{CountsPage, AreCounts}
 
 -- what the pages that are met show: their errors, their facts, and the lines that count them
-pub record AreFound (image : Image) (m : AllocMap) (Met : OwnedPage → Type 0) (found : Findings) : Type 0 where
-  pub errors : Gathers found.errors.items (Among Met (IsErrorAt image m))
+pub record AreFound (image : Image) (m : AllocMap) (Met : Owned → Type 0) (found : Findings) : Type 0 where
+  pub errors : Gathers found.errors.items (Among Met (IsErrorAt m.geometry image))
   pub facts : List Fact
   pub held : Holds found.parts facts
-  pub each : Gathers facts (Among Met (IsFactAt image m))
+  pub each : Gathers facts (Among Met (IsFactAt m.geometry image))
   pub lines : AreCounts image m Met found.lines.items
 
+-- the page is seen of its object, whose line counts it, and the others stay
+pub record CountsIt (image : Image) (m : AllocMap) (u : Owned) (old new : List TableLine) : Type 0 where
+  pub place : ℕ
+  pub at : IsPlaceOf m place u.1.0
+  pub seen : IsSeenAt m.geometry image u
+  pub counts : CountsPage old new place (rows_on (page image u.0.0))
+
 -- lines that count the page where it is seen of its object, and stay else
-abbrev pub CountsSeen : Image → AllocMap → OwnedPage → List TableLine → List TableLine → Type 0
-CountsSeen image m u old new =
-    (IsSeenAt image m u × CountsPage old new u.owner (rows_on (page image u.page.0)))
-    ⊎ ((IsSeenAt image m u → ⊥) × (new ≡ old))
+abbrev pub CountsSeen : Image → AllocMap → Owned → List TableLine → List TableLine → Type 0
+CountsSeen image m u old new = CountsIt image m u old new ⊎ ((IsSeenAt m.geometry image u → ⊥) × (new ≡ old))
 
 -- parts that hold these facts more
 pub record HoldsMore (old new : Findings) (more : List Fact) : Type 0 where
   pub holds : (held : List Fact) → Holds old.parts held → Holds new.parts (held ++ more)
 
 -- what the page shows is found too
-pub record AddsPage (image : Image) (m : AllocMap) (u : OwnedPage) (old new : Findings) : Type 0 where
-  pub errors : Adds old.errors.items new.errors.items (IsErrorAt image m u)
+pub record AddsPage (image : Image) (m : AllocMap) (u : Owned) (old new : Findings) : Type 0 where
+  pub errors : Adds old.errors.items new.errors.items (IsErrorAt m.geometry image u)
   pub more : List Fact
   pub held : HoldsMore old new more
-  pub each : Gathers more (IsFactAt image m u)
+  pub each : Gathers more (IsFactAt m.geometry image u)
   pub lines : CountsSeen image m u old.lines.items new.lines.items
 
 -- lines that count a page with so many rows at place i where it is seen, and stay else
@@ -51,5 +56,5 @@ pub record Takes (shown : PageFacts) (i : ℕ) (old new : Findings) : Type 0 whe
   pub lines : CountsWhere shown.seen old.lines.items new.lines.items i shown.rows
 
 -- each page of the same object that is met stands before this one
-abbrev pub IsBehind : (OwnedPage → Type 0) → OwnedPage → Type 0
-IsBehind Met u = (v : OwnedPage) → Met v → v.owner ≡ u.owner → v.page.0 < u.page.0
+abbrev pub IsBehind : (Owned → Type 0) → Owned → Type 0
+IsBehind Met u = (v : Owned) → Met v → v.1.0 ≡ u.1.0 → v.0.0 < u.0.0

@@ -3,3 +3,4 @@ pub mod Counted
 pub mod Found
 pub mod Frames
 pub mod Lines
+pub mod PartsLaw

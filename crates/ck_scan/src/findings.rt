@@ -5,6 +5,8 @@ ghost use Rattle.spec_file.specs.Roles.{is_ordinary};
 ghost use Rattle.spec_check.specs.declared.report.CheckError.{CheckError};
 ghost use Rattle.spec_tables.specs.PageRules as spec;
 ghost use Rattle.ck_error.specs.Gathered.{Adds, Below};
+ghost use Rattle.ck_facts.specs.declared.map.AllocMap.{AllocMap};
+ghost use Rattle.ck_facts.specs.Maps.{HasNoSystemErrors};
 ghost use Rattle.ck_facts.specs.MapOf.{IsMapOf};
 ghost use Rattle.ck_facts.specs.Owners.{IsOwnerIn};
 ghost use Rattle.ck_merge.specs.Held.{roots_in, roots_of};
@@ -12,9 +14,9 @@ ghost use Rattle.ck_scan.specs.Counted.{IsOneMore};
 ghost use Rattle.ck_scan.specs.Found.{AreFound, AddsPage, CountsWhere, Takes};
 
 use ck_error::CheckError;
-use ck_facts::{AllocMap, CatRow, OwnedPage, PageFacts, TableLine, facts_of_page};
+use ck_facts::{AllocMap, CatRow, PageFacts, TableLine, facts_of_page};
 use ck_merge::Parts;
-use pg_base::{NoMemory, Page, PageNo};
+use pg_base::{NoMemory, ObjId, Page, PageNo};
 use std::alloc::Global;
 
 /// What the pages that were met show: their errors, what they show for the rules of trees, and a line for
@@ -27,12 +29,12 @@ pub struct Findings {
 }
 
 // The error of a page that no object may own.
-fn not_ordinary(row: &CatRow, p: PageNo) -> CheckError
-    ensures { result ≡ spec.not_ordinary row.now.id.0 p.0 }
+fn not_ordinary(p: PageNo, object: ObjId) -> CheckError
+    ensures { result ≡ spec.not_ordinary object.0 p.0 }
 {
     CheckError {
         number: 8928,
-        object: row.id.0,
+        object: object.0,
         page: p.0,
         other: 0,
         slot: 0,
@@ -88,8 +90,8 @@ fn add_errors(errors: &mut Vec<CheckError>, more: &[CheckError]) -> Result<(), N
 impl Findings {
     /// Nothing is found before the first page.
     pub fn begin(alloc: Global, map: &AllocMap) -> Result<Findings, NoMemory>
-        requires sound { map.now.system.items ≡ [] }
-        ensures found { IfOk result (λ found. (image : Image) → AreFound image map.now (Below 0 (IsOwnerIn image map.now)) found) }
+        requires { HasNoSystemErrors map.now }
+        ensures found { IfOk result (λ found. (image : Image) → AreFound image map.now (Below 0 (IsOwnerIn map.now.geometry image)) found) }
         ensures lines { IfOk result (λ found. vec_len found.lines ≡ vec_len map.now.objects) }
         ensures roots { IfOk result (λ found. roots_in found.parts ≡ roots_of map.now.objects.items) }
     {
@@ -118,35 +120,34 @@ impl Findings {
         &mut self,
         alloc: Global,
         map: &AllocMap,
-        owned: &OwnedPage,
+        owned: (PageNo, ObjId),
         page: &Page,
     ) -> Result<(), NoMemory>
-        requires sound { map.now.system.items ≡ [] }
-        requires inside { owned.now.page.0 < map.now.pages }
-        requires object { owned.now.owner < vec_len map.now.objects }
+        requires inside { owned.0.0 < map.now.pages }
         requires lines { vec_len self.old.lines ≡ vec_len map.now.objects }
-        ensures adds { OnOk result ((image : Image) (e : ℕ) → IsMapOf image map.now → IsOwnerIn image map.now e owned.now
-            → is_ordinary map.now.geometry owned.now.page.0 ≡ true → page.now.bytes ≡ image_page image owned.now.page.0
-            → AddsPage image map.now owned.now self.old self.new) }
+        ensures adds { OnOk result ((image : Image) (e : ℕ) → IsMapOf image map.now → HasNoSystemErrors map.now
+            → IsOwnerIn map.now.geometry image e owned → is_ordinary map.now.geometry owned.0.0 ≡ true
+            → page.now.bytes ≡ image_page image owned.0.0 → AddsPage image map.now owned self.old self.new) }
         ensures lines { OnOk result (vec_len self.new.lines ≡ vec_len self.old.lines) }
         ensures roots { roots_in self.new.parts ≡ roots_in self.old.parts }
     {
-        let row = &map.objects[owned.owner];
-        let shown = facts_of_page(alloc, page, owned.page, row, map.pfs(owned.page))?;
-        self.take(owned.owner, &shown)?;
+        let Some(place) = map.place_of(owned.1) else {
+            return Ok(());
+        };
+        let row = &map.objects[place];
+        let shown = facts_of_page(alloc, page, owned.0, row, map.pfs(owned.0))?;
+        self.take(place, &shown)?;
         Ok(())
     }
 
     /// Takes that no object may own the page.
-    pub fn add_not_ordinary(&mut self, map: &AllocMap, owned: &OwnedPage) -> Result<(), NoMemory>
-        requires object { owned.now.owner < vec_len map.now.objects }
-        ensures adds { OnOk result ((image : Image) → is_ordinary map.now.geometry owned.now.page.0 ≡ false
-            → AddsPage image map.now owned.now self.old self.new) }
+    pub fn add_not_ordinary(&mut self, owned: (PageNo, ObjId)) -> Result<(), NoMemory>
+        ensures adds { OnOk result ((image : Image) (m : AllocMap) (e : ℕ) → IsOwnerIn m.geometry image e owned
+            → is_ordinary m.geometry owned.0.0 ≡ false → AddsPage image m owned self.old self.new) }
         ensures lines { OnOk result (vec_len self.new.lines ≡ vec_len self.old.lines) }
         ensures roots { roots_in self.new.parts ≡ roots_in self.old.parts }
     {
-        let row = &map.objects[owned.owner];
-        self.errors.push(not_ordinary(row, owned.page))?;
+        self.errors.push(not_ordinary(owned.0, owned.1))?;
         Ok(())
     }
 }

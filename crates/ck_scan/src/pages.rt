@@ -1,8 +1,10 @@
 // The pass over the pages that objects own, extent by extent, rising.
 ghost use Rattle.std.specs.Prelude.{◌≡◌, ℕ, ◌+◌, ◌/◌, ◌<◌, ◌≤◌, [], IfOk, OnOk, IsTrue, vec_len};
 ghost use Rattle.std.specs.Option.{ForSome};
-ghost use Rattle.pg_base.specs.Reading.{StopHasCause};
+ghost use Rattle.pg_base.specs.Stops.{stop_of};
+ghost use Rattle.pg_base.specs.Reading.{OnlyReads};
 ghost use Rattle.ck_error.specs.Gathered.{Below};
+ghost use Rattle.ck_facts.specs.Maps.{HasNoSystemErrors};
 ghost use Rattle.ck_facts.specs.MapOf.{IsMapOf};
 ghost use Rattle.ck_facts.specs.Owners.{IsOwnerIn};
 ghost use Rattle.ck_merge.specs.Held.{roots_in, roots_of};
@@ -11,8 +13,8 @@ ghost use Rattle.ck_scan.specs.Frames.{IsFrameOf};
 
 use crate::findings::Findings;
 use crate::frame::Frame;
-use ck_facts::{AllocMap, OwnedPage};
-use pg_base::{ExtentNo, ReadStop, SnapReader};
+use ck_facts::AllocMap;
+use pg_base::{ExtentNo, ObjId, PageNo, ReadStop, SnapReader};
 use std::alloc::Global;
 
 // Takes what a page shows for an object that owns it.
@@ -20,31 +22,25 @@ fn find_on_page<R: SnapReader>(
     alloc: Global,
     reader: &mut R,
     map: &AllocMap,
-    owned: &OwnedPage,
+    owned: (PageNo, ObjId),
     frame: &mut Frame,
     found: &mut Findings,
 ) -> Result<(), ReadStop>
     requires count { R.pages reader.old ≡ map.now.pages }
-    requires sound { map.now.system.items ≡ [] }
-    requires inside { owned.now.page.0 < map.now.pages }
-    requires object { owned.now.owner < vec_len map.now.objects }
+    requires inside { owned.0.0 < map.now.pages }
     requires lines { vec_len found.old.lines ≡ vec_len map.now.objects }
-    ensures adds { OnOk result (ForSome (R.image reader.old) (λ image. (e : ℕ) → IsMapOf image map.now → IsOwnerIn image map.now e owned.now
-        → IsFrameOf image frame.old → AddsPage image map.now owned.now found.old found.new × IsFrameOf image frame.new)) }
+    ensures adds { OnOk result (ForSome (R.image reader.old) (λ image. (e : ℕ) → IsMapOf image map.now → HasNoSystemErrors map.now
+        → IsOwnerIn map.now.geometry image e owned → IsFrameOf image frame.old
+        → AddsPage image map.now owned found.old found.new × IsFrameOf image frame.new)) }
     ensures lines { OnOk result (vec_len found.new.lines ≡ vec_len found.old.lines) }
     ensures roots { roots_in found.new.parts ≡ roots_in found.old.parts }
-    ensures cause { StopHasCause (R.faults reader.old) (R.faults reader.new) (R.failed reader.new) (R.ended reader.new) result }
-    ensures ended { IsTrue (R.ended reader.old) → IsTrue (R.ended reader.new) }
-    ensures faults { R.faults reader.old ≤ R.faults reader.new }
-    ensures pages { R.pages reader.new ≡ R.pages reader.old }
-    ensures image { R.image reader.new ≡ R.image reader.old }
-    ensures bound { R.bound reader.new ≡ R.bound reader.old }
+    ensures reads { OnlyReads R.SnapReader reader.old reader.new (stop_of result) }
 {
-    if !map.ordinary(owned.page) {
-        found.add_not_ordinary(map, owned)?;
+    if !map.ordinary(owned.0) {
+        found.add_not_ordinary(owned)?;
         return Ok(());
     }
-    frame.bring(reader, owned.page)?;
+    frame.bring(reader, owned.0)?;
     found.add_page(alloc, map, owned, &frame.page)?;
     Ok(())
 }
@@ -59,24 +55,19 @@ fn find_in_extent<R: SnapReader>(
     found: &mut Findings,
 ) -> Result<(), ReadStop>
     requires count { R.pages reader.old ≡ map.now.pages }
-    requires sound { map.now.system.items ≡ [] }
+    requires sound { HasNoSystemErrors map.now }
     requires inside { e < map.now.pages / 8 }
     requires lines { vec_len found.old.lines ≡ vec_len map.now.objects }
     ensures found { OnOk result (ForSome (R.image reader.old) (λ image. IsMapOf image map.now → IsFrameOf image frame.old
-        → AreFound image map.now (Below e (IsOwnerIn image map.now)) found.old
-        → AreFound image map.now (Below (e + 1) (IsOwnerIn image map.now)) found.new × IsFrameOf image frame.new)) }
+        → AreFound image map.now (Below e (IsOwnerIn map.now.geometry image)) found.old
+        → AreFound image map.now (Below (e + 1) (IsOwnerIn map.now.geometry image)) found.new × IsFrameOf image frame.new)) }
     ensures lines { OnOk result (vec_len found.new.lines ≡ vec_len found.old.lines) }
     ensures roots { roots_in found.new.parts ≡ roots_in found.old.parts }
-    ensures cause { StopHasCause (R.faults reader.old) (R.faults reader.new) (R.failed reader.new) (R.ended reader.new) result }
-    ensures ended { IsTrue (R.ended reader.old) → IsTrue (R.ended reader.new) }
-    ensures faults { R.faults reader.old ≤ R.faults reader.new }
-    ensures pages { R.pages reader.new ≡ R.pages reader.old }
-    ensures image { R.image reader.new ≡ R.image reader.old }
-    ensures bound { R.bound reader.new ≡ R.bound reader.old }
+    ensures reads { OnlyReads R.SnapReader reader.old reader.new (stop_of result) }
 {
     let pages = map.pages_in(alloc, ExtentNo(e))?;
     for owned in &pages {
-        find_on_page(alloc, reader, map, owned, frame, found)?;
+        find_on_page(alloc, reader, map, *owned, frame, found)?;
     }
     Ok(())
 }
@@ -88,16 +79,11 @@ pub fn find_all<R: SnapReader>(
     map: &AllocMap,
 ) -> Result<Findings, ReadStop>
     requires count { R.pages reader.old ≡ map.now.pages }
-    requires sound { map.now.system.items ≡ [] }
+    requires sound { HasNoSystemErrors map.now }
     ensures found { IfOk result (λ found. ForSome (R.image reader.old) (λ image. IsMapOf image map.now
-        → AreFound image map.now (Below (map.now.pages / 8) (IsOwnerIn image map.now)) found)) }
+        → AreFound image map.now (Below (map.now.pages / 8) (IsOwnerIn map.now.geometry image)) found)) }
     ensures roots { IfOk result (λ found. roots_in found.parts ≡ roots_of map.now.objects.items) }
-    ensures cause { StopHasCause (R.faults reader.old) (R.faults reader.new) (R.failed reader.new) (R.ended reader.new) result }
-    ensures ended { IsTrue (R.ended reader.old) → IsTrue (R.ended reader.new) }
-    ensures faults { R.faults reader.old ≤ R.faults reader.new }
-    ensures pages { R.pages reader.new ≡ R.pages reader.old }
-    ensures image { R.image reader.new ≡ R.image reader.old }
-    ensures bound { R.bound reader.new ≡ R.bound reader.old }
+    ensures reads { OnlyReads R.SnapReader reader.old reader.new (stop_of result) }
 {
     let mut frame = Frame::begin(alloc)?;
     let mut found = Findings::begin(alloc, map)?;

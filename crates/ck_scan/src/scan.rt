@@ -3,8 +3,10 @@ ghost use Rattle.std.specs.Prelude.{◌≡◌, ◌↔◌, ◌≤◌, ◌/◌, �
 ghost use Rattle.std.specs.Option.{ForSome};
 ghost use Rattle.spec_file.specs.Image.{Image};
 ghost use Rattle.spec_check.specs.declared.report.CheckError.{CheckError};
-ghost use Rattle.pg_base.specs.Reading.{StopHasCause};
+ghost use Rattle.pg_base.specs.Stops.{stop_of};
+ghost use Rattle.pg_base.specs.Reading.{OnlyReads};
 ghost use Rattle.ck_error.specs.Gathered.{Below};
+ghost use Rattle.ck_facts.specs.Maps.{HasNoSystemErrors};
 ghost use Rattle.ck_facts.specs.MapOf.{IsMapOf};
 ghost use Rattle.ck_facts.specs.Owners.{IsOwnerIn};
 ghost use Rattle.ck_merge.specs.Held.{roots_in, roots_of};
@@ -43,10 +45,10 @@ fn joined(first: Vec<CheckError>, second: Vec<CheckError>) -> Result<Vec<CheckEr
 
 // The report of a file without system errors, of whose pages all is found.
 fn report_of(alloc: Global, map: &AllocMap, found: Findings) -> Result<CheckReport, NoMemory>
-    requires sound { map.now.system.items ≡ [] }
+    requires sound { HasNoSystemErrors map.now }
     requires roots { roots_in found.parts ≡ roots_of map.now.objects.items }
     ensures report { IfOk result (λ report. (image : Image) → IsMapOf image map.now
-        → AreFound image map.now (Below (map.now.pages / 8) (IsOwnerIn image map.now)) found → IsReportOfRules map.now.geometry image report) }
+        → AreFound image map.now (Below (map.now.pages / 8) (IsOwnerIn map.now.geometry image)) found → IsReportOfRules map.now.geometry image report) }
 {
     let of_pages = joined(alloc_errors(alloc, map)?, found.errors)?;
     let of_trees = found.parts.finish()?;
@@ -65,15 +67,10 @@ fn rules_report<R: SnapReader>(
     map: &AllocMap,
 ) -> Result<CheckReport, ReadStop>
     requires count { R.pages reader.old ≡ map.now.pages }
-    requires sound { map.now.system.items ≡ [] }
+    requires sound { HasNoSystemErrors map.now }
     ensures report { IfOk result (λ report. ForSome (R.image reader.old) (λ image. IsMapOf image map.now
         → IsReportOfRules map.now.geometry image report)) }
-    ensures cause { StopHasCause (R.faults reader.old) (R.faults reader.new) (R.failed reader.new) (R.ended reader.new) result }
-    ensures ended { IsTrue (R.ended reader.old) → IsTrue (R.ended reader.new) }
-    ensures faults { R.faults reader.old ≤ R.faults reader.new }
-    ensures pages { R.pages reader.new ≡ R.pages reader.old }
-    ensures image { R.image reader.new ≡ R.image reader.old }
-    ensures bound { R.bound reader.new ≡ R.bound reader.old }
+    ensures reads { OnlyReads R.SnapReader reader.old reader.new (stop_of result) }
 {
     let found = find_all(alloc, reader, map)?;
     Ok(report_of(alloc, map, found)?)
@@ -89,12 +86,7 @@ pub fn scan_one<R: SnapReader>(
     requires pages { R.pages reader.old ≡ map.now.pages }
     requires map { IfSome (R.image reader.old) (λ image. IsMapOf image map.now) }
     ensures report { IfOk result (λ report. IfSome (R.image reader.old) (λ image. IsCheckOf map.now.geometry image report)) }
-    ensures cause { StopHasCause (R.faults reader.old) (R.faults reader.new) (R.failed reader.new) (R.ended reader.new) result }
-    ensures ended { IsTrue (R.ended reader.old) → IsTrue (R.ended reader.new) }
-    ensures faults { R.faults reader.old ≤ R.faults reader.new }
-    ensures pages { R.pages reader.new ≡ R.pages reader.old }
-    ensures image { R.image reader.new ≡ R.image reader.old }
-    ensures bound { R.bound reader.new ≡ R.bound reader.old }
+    ensures reads { OnlyReads R.SnapReader reader.old reader.new (stop_of result) }
 {
     if !map.system_errors().is_empty() {
         return Ok(system_report(alloc, map)?);

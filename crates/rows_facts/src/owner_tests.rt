@@ -2,8 +2,8 @@
 ghost use Rattle.std.specs.Prelude.{◌≡◌, [], IfOk};
 
 use crate::made::{extent, object, used};
-use ck_facts::{AllocMap, OwnedPage};
-use pg_base::{ExtentNo, Geometry, Kind, NoMemory, PageNo};
+use ck_facts::AllocMap;
+use pg_base::{ExtentNo, Geometry, Kind, NoMemory, ObjId, PageNo};
 use std::alloc::Global;
 use std::test::Fail;
 
@@ -45,22 +45,19 @@ fn mapped(alloc: Global) -> Result<AllocMap, NoMemory>
     })
 }
 
-fn owned(page: u32, owner: usize) -> OwnedPage {
-    OwnedPage {
-        page: PageNo(page),
-        owner,
-    }
+fn owned(page: u32, object: u32) -> (PageNo, ObjId) {
+    (PageNo(page), ObjId(object))
 }
 
 #[test]
 fn each_page_stands_with_each_of_its_owners(rt: HostRuntime) -> Result<(), Fail> {
     let map = mapped(rt.alloc())?;
     let single = map.pages_in(rt.alloc(), ExtentNo(1))?;
-    assert_eq!(rt; single[..], [owned(10, 0), owned(10, 1), owned(12, 1)][..]);
+    assert_eq!(rt; single[..], [owned(10, 3), owned(10, 7), owned(12, 7)][..]);
     let marked = map.pages_in(rt.alloc(), ExtentNo(2))?;
     assert_eq!(rt;
         marked[..],
-        [owned(16, 0), owned(16, 1), owned(18, 0), owned(18, 1)][..]
+        [owned(16, 3), owned(16, 7), owned(18, 3), owned(18, 7)][..]
     );
     assert!(rt; map.pages_in(rt.alloc(), ExtentNo(0))?.is_empty());
     Ok(())

@@ -2,7 +2,7 @@
 use spec_file::{ObjId, PageNo};
 
 /// A clustered table of the catalog, and the root of its tree.
-#[derive(Clone, Copy, Debug, PartialEq, Eq)]
+#[derive(Clone, Copy)]
 pub struct Root {
     pub object: ObjId,
     pub page: PageNo,
@@ -25,7 +25,7 @@ pub struct PageHead {
 }
 
 /// A page of an object, and the page that it names as next.
-#[derive(Clone, Copy, Debug, PartialEq, Eq)]
+#[derive(Clone, Copy)]
 pub struct Link {
     pub object: ObjId,
     pub page: PageNo,
@@ -33,7 +33,7 @@ pub struct Link {
 }
 
 /// The place of a row: its page and its slot.
-#[derive(Clone, Copy, Debug, PartialEq, Eq, PartialOrd, Ord)]
+#[derive(Clone, Copy, PartialEq, Eq, PartialOrd, Ord)]
 pub struct RowPlace {
     pub page: PageNo,
     pub slot: u16,

@@ -1,6 +1,9 @@
-use Rattle.ck_error.proofs.GatheringLaws.{adds_given}
+use Rattle.std.proofs.Common.{◌∙◌, sym, IsTrue}
+use Rattle.spec_file.specs.Kinds.{is_clustered}
 use Rattle.ck_facts.specs.Tested.{Falls}
+use Rattle.ck_facts.proofs.Orders.{given_on_ok}
 use Rattle.ck_facts.proofs.shown.push_order_errors.Goals as goal
 
-pub returns-in_ok-push_falls : goal.returns-in_ok-push_falls
-returns-in_ok-push_falls c = adds_given _ _ _ (Falls c.args.page.now) c.in-Clustered.is c.in_ok-push_falls.ensures
+pub returns : goal.returns
+returns c = given_on_ok c.push_falls.result _ _ (IsTrue (is_clustered c.args.page.now.kind)) (Falls c.args.page.now)
+    (sym c.is_clustered.ensures ∙ c.if-not-is_clustered.false) c.push_falls.ensures

@@ -1,5 +1,6 @@
-use Rattle.std.proofs.Common.{◌≡◌, ◌≤◌, IsTrue, vec_len}
+use Rattle.std.proofs.Common.{◌≡◌, None, vec_len}
 use Rattle.std.specs.Option.{ForSome}
+use Rattle.pg_base.specs.Reading.{OnlyReads}
 use Rattle.ck_error.specs.Gathered.{Below}
 use Rattle.ck_facts.specs.MapOf.{IsMapOf}
 use Rattle.ck_facts.specs.Owners.{IsOwnerIn}
@@ -12,13 +13,9 @@ use Rattle.ck_scan.proofs.pages.find_in_extent.Given as goal
 abbrev pub invariant-loop-owned : goal.invariant-loop-owned
 invariant-loop-owned g l = record {
   found : ForSome (g.R.SnapReader.image l.initial.reader) (λ image. IsMapOf image l.map → IsFrameOf image l.initial.frame
-      → AreFound image l.map (Below l.e (IsOwnerIn image l.map)) l.initial.found
+      → AreFound image l.map (Below l.e (IsOwnerIn l.map.geometry image)) l.initial.found
       → AreFound image l.map (IsReached image l.map l.e l.owned-items l.owned-index) l.found × IsFrameOf image l.frame);
   lines : vec_len l.found.lines ≡ vec_len l.initial.found.lines;
   roots : roots_in l.found.parts ≡ roots_in l.initial.found.parts;
-  ended : IsTrue (g.R.SnapReader.ended l.initial.reader) → IsTrue (g.R.SnapReader.ended l.reader);
-  faults : g.R.SnapReader.faults l.initial.reader ≤ g.R.SnapReader.faults l.reader;
-  pages : g.R.SnapReader.pages l.reader ≡ g.R.SnapReader.pages l.initial.reader;
-  image : g.R.SnapReader.image l.reader ≡ g.R.SnapReader.image l.initial.reader;
-  bound : g.R.SnapReader.bound l.reader ≡ g.R.SnapReader.bound l.initial.reader;
+  reads : OnlyReads g.R.SnapReader l.initial.reader l.reader None;
 }

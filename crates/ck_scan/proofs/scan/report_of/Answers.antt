@@ -2,9 +2,7 @@ use Rattle.std.proofs.Common.{subst, sym}
 use Rattle.spec_check.specs.Errors.{Lists}
 use Rattle.spec_tables.specs.Lines.{AreTables}
 use Rattle.spec_tables.specs.Written.{IsRuleError}
-use Rattle.spec_tree.specs.Trees.{IsTreeError}
 use Rattle.ck_error.proofs.GatheringLaws.{lists_in_order}
-use Rattle.ck_facts.specs.Facts.{known_of}
 use Rattle.ck_scan.proofs.Reports.{Joins, rule_errors}
 use Rattle.ck_scan.proofs.TableLaws.{tables_found}
 use Rattle.ck_scan.proofs.scan.report_of.Goals as goal
@@ -14,13 +12,11 @@ returns c = record {
   report = λ image of is.
       let m = c.args.map.now in
       let sound = c.requires.sound in
-      let roots = c.requires.roots in
       let first = c.in_ok-of_pages.of_pages.items in
       let one : Joins first c.in_ok-alloc_errors.field-0.items c.args.found.errors.items = record { joins = c.in_ok-of_pages.ensures } in
       let two : Joins c.in_ok-errors.errors.items first c.in_ok-of_trees.of_trees.items = record { joins = c.in_ok-errors.ensures } in
-      let all = rule_errors image m c.args.found c.in_ok-alloc_errors.field-0.items c.in_ok-of_trees.of_trees.items first c.in_ok-errors.errors.items of sound is
-      (c.in_ok-alloc_errors.ensures image of)
-      (λ facts holds. subst (λ r. Lists c.in_ok-of_trees.of_trees.items (IsTreeError (known_of r facts))) roots (c.in_ok-of_trees.ensures.errors facts holds)) one two in
+      let all = rule_errors image m c.args.found c.in_ok-alloc_errors.field-0.items c.in_ok-of_trees.of_trees.items first c.in_ok-errors.errors.items of sound c.requires.roots is
+      (c.in_ok-alloc_errors.ensures image of) c.in_ok-of_trees.ensures one two in
       record {
         errors = subst (λ l. Lists l (IsRuleError m.geometry image)) (sym c.from_vec.ensures)
             (lists_in_order c.in_ok-errors.errors.items c.in_order.result.items (IsRuleError m.geometry image) c.in_order.ensures.sorted c.in_order.ensures.same all);

@@ -3,3 +3,7 @@ pub mod Listings
 pub mod Sorting
 pub mod Chains
 pub mod Uses
+pub mod System
+pub mod ChainRules
+pub mod Extents
+pub mod Pages

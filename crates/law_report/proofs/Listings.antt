@@ -63,6 +63,13 @@ pub such : {X : Type 0} {P Q : X → Type 0} → Listing P → ((x : X) → P x 
 such {X} {P} {Q} a each = like (among a (λ y h. when (each y h) (one y)))
     (λ x h. let same = sym h.2.1 in (subst P same h.1, subst Q same h.2.0)) (λ x h. (x, h.0, (h.1, refl)))
 
+-- pairs of a thing of a list and of one of its own list
+pub beside : {A B : Type 0} {P : A → Type 0} {K : A → B → Type 0} → Listing P → ((a : A) → P a → Listing (K a))
+    → Listing (λ (t : A × B). P t.0 × K t.0 t.1)
+beside {A} {B} {P} {K} a each = like (among a (λ i h. among (each i h) (λ b k. one (i, b)))) to (λ t h. (t.0, h.0, (t.1, h.1, refl))) where
+  to : (t : A × B) → (i : A) × P i × ((b : B) × K i b × (t ≡ (i, b))) → P t.0 × K t.0 t.1
+  to t h = subst (λ (s : A × B). P s.0 × K s.0 s.1) (sym h.2.2) (h.1, h.2.1)
+
 pub numbers : (n : ℕ) → Listing (λ k. k < n)
 numbers n = record { members = range_with_len 0 n; sound = range_from n; complete = range_in n }
 
@@ -73,6 +80,13 @@ listed xs = record { members = xs; sound = λ x h. h; complete = λ x h. h }
 pub there_may_be : {X : Type 0} (o : Option X) → Listing (λ x. o ≡ Some x)
 there_may_be None = nothing (λ x h. cc)
 there_may_be (Some y) = only y refl (λ x h. cc)
+
+-- what the first two of a list give, where it has two or more
+pub two_or_more : {X Y : Type 0} (f : X → X → Y) (list : List X)
+    → Listing (λ y. (first second : X) × (rest : List X) × (list ≡ first ∷ second ∷ rest) × (y ≡ f first second))
+two_or_more f [] = nothing (λ y h. let none = h.3 in cc)
+two_or_more f (a ∷ []) = nothing (λ y h. let alone = h.3 in cc)
+two_or_more f (a ∷ b ∷ rest) = only (f a b) (a, b, rest, refl, refl) (λ y h. let these = h.3 in let is = h.4 in cc)
 
 -- whether some thing is listed
 some_of : {X : Type 0} (xs : List X) → Dec ((x : X) × Contains xs x)

@@ -7,3 +7,6 @@ pub mod System
 pub mod ChainRules
 pub mod Extents
 pub mod Pages
+pub mod PageTests
+pub mod PageRules
+pub mod KnownPages

@@ -1,5 +1,5 @@
 -- A chain of an image has a length, whatever the image: it never has more pages than the image.
-use Rattle.std.proofs.Common.{◌≡◌, ◌⊎◌, ℕ, zero, suc, ◌<◌, length, List, Contains, arith, sym, subst, inl, inr, ⊎_elim}
+use Rattle.std.proofs.Common.{◌⊎◌, ℕ, zero, suc, length, arith, sym, subst, inl, inr, ⊎_elim}
 use Rattle.std.proofs.lemmas.Bool.{cases_eq}
 use Rattle.spec_file.specs.declared.geometry.Geometry.{Geometry}
 use Rattle.spec_file.specs.Image.{Image, page}

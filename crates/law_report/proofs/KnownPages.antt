@@ -1,5 +1,4 @@
 -- What is known of the pages of an image can be listed.
-use Rattle.std.proofs.Common.{◌≡◌, ℕ, ◌<◌}
 use Rattle.spec_file.specs.declared.geometry.Geometry.{Geometry}
 use Rattle.spec_file.specs.Image.{Image, page}
 use Rattle.spec_file.specs.Kinds.{is_clustered}

@@ -10,3 +10,9 @@ pub mod Pages
 pub mod PageTests
 pub mod PageRules
 pub mod KnownPages
+pub mod TreeLists
+pub mod ParentErrors
+pub mod NeighbourErrors
+pub mod Trees
+pub mod Tables
+pub mod Report

@@ -1,7 +1,7 @@
 -- A statement about things can be listed where a list has just those things of which it holds. Most rules
 -- ask for witnesses out of a list, for decided conditions, and say what the thing is: such a rule can be
 -- listed too.
-use Rattle.std.proofs.Common.{◌≡◌, ◌⊎◌, ℕ, ◌<◌, List, [], ◌∷◌, ◌++◌, Contains, Option, Some, None, refl, sym, subst, ap, inl, inr, ⊎_elim}
+use Rattle.std.proofs.Common.{◌≡◌, ◌⊎◌, ℕ, ◌<◌, List, [], ◌∷◌, ◌++◌, Contains, Option, Some, None, refl, sym, subst, inl, inr, ⊎_elim}
 use Rattle.std.specs.List.{range_with_len}
 use Rattle.std.proofs.lemmas.List.Elements.{Contains-append_left, Contains-append_right, Contains-append_cases}
 use Rattle.spec_check.proofs.Members.{nothing_there, cons_cases, cons_here, cons_there, range_in, range_from}
@@ -49,6 +49,7 @@ gather {I} {X} R (i ∷ is) each = like (either (each i (cons_here i is)) (gathe
   to : (x : X) → (R i x ⊎ ((j : I) × Contains is j × R j x)) → (j : I) × Contains (i ∷ is) j × R j x
   to x (inl here) = (i, cons_here i is, here)
   to x (inr there) = (there.0, cons_there i is there.0 there.1, there.2)
+
   from : (x : X) → ((j : I) × Contains (i ∷ is) j × R j x) → R i x ⊎ ((j : I) × Contains is j × R j x)
   from x h = ⊎_elim (λ same. inl (subst (λ j. R j x) (sym same) h.2)) (λ there. inr (h.0, there, h.2)) (cons_cases i is h.0 h.1)
 

@@ -1,5 +1,5 @@
 -- Whether a page passes its test can be decided, and its first fault can be listed.
-use Rattle.std.proofs.Common.{◌≡◌, ◌⊎◌, ℕ, ◌<◌, ◌≤◌, List, None, false, inl, inr}
+use Rattle.std.proofs.Common.{ℕ, ◌≤◌, List, inl, inr}
 use Rattle.spec_file.specs.declared.data.Kind.{Kind}
 use Rattle.spec_file.specs.Header.{header_of, header_version}
 use Rattle.spec_rows.specs.Slots.{slot_count, slot_at, row_end}

@@ -1,5 +1,5 @@
 -- The errors of uses and of PFS bytes can be listed.
-use Rattle.std.proofs.Common.{◌≡◌, ◌≢◌, ◌⊎◌, ℕ, ◌/◌, ◌%◌, ◌<◌, length, List, IsTrue, false, refl, sym, subst, ap, inl, inr}
+use Rattle.std.proofs.Common.{◌≡◌, ℕ, ◌/◌, ◌%◌, length, IsTrue, refl, sym, subst, inl, inr}
 use Rattle.spec_file.specs.declared.geometry.Geometry.{Geometry}
 use Rattle.spec_file.specs.declared.pfs.PfsKind.{PfsKind}
 use Rattle.spec_file.specs.declared.pfs.PfsKind.TheVariants as kinds
@@ -10,7 +10,7 @@ use Rattle.spec_file.specs.Iam.{single_slot_count}
 use Rattle.spec_chain.specs.Uses.{Use, IsUse, pfs_byte, is_allocated}
 use Rattle.spec_check.specs.Pages.{lost_page, IsUnowned, IsLostPage, two_uses, HasTwoUses, kind_of_role, IsKindOfUse, IsKindOfMark, IsTestedByRole, IsTestedByUse, IsTestedByMark, IsTestedAlone, IsTestedAs, wrong_byte, HasWrongFlags, MayHoldRows, HasWrongFullness}
 use Rattle.spec_check.specs.Allocation.{IsUseError, IsAllocationError}
-use Rattle.law_report.proofs.Decisions.{dec_like, dec_not, dec_and, dec_and3, dec_or, dec_true, dec_false, dec_eq, dec_ne, dec_lt}
+use Rattle.law_report.proofs.Decisions.{dec_not, dec_and, dec_and3, dec_true, dec_false, dec_eq, dec_ne, dec_lt}
 use Rattle.law_report.proofs.Listings.{Listing, like, one, either, when, among, beside, numbers, there_may_be, two_or_more}
 use Rattle.law_report.proofs.Uses.{markers, uses, use_lists, dec_has_marker, dec_has_use}
 use Rattle.law_report.proofs.ChainRules.{chain_errors}
@@ -45,9 +45,9 @@ by_use : (g : Geometry) (image : Image) (p : ℕ) → Listing (λ (t : Tested). 
 by_use g image p = like
     (when (dec_true (is_ordinary g p)) (among (uses g image p) (λ u is. among (kinds_of_use u.place) (λ kind of. one (u.object, kind))))) to
     (λ t h. (h.0, (record { object = t.0; place = h.1 }, h.2, (t.1, h.3, refl)))) where
-  to : (t : Tested) → IsTrue (is_ordinary g p) × ((u : Use) × IsUse g image p u × ((kind : PfsKind) × IsKindOfUse u.place kind × (t ≡ (u.object, kind))))
-      → IsTestedByUse g image p t.0 t.1
-  to t h = subst (λ (s : Tested). IsTestedByUse g image p s.0 s.1) (sym h.1.2.2) (h.0, h.1.0.place, h.1.1, h.1.2.1)
+      to : (t : Tested) → IsTrue (is_ordinary g p) × ((u : Use) × IsUse g image p u × ((kind : PfsKind) × IsKindOfUse u.place kind × (t ≡ (u.object, kind))))
+          → IsTestedByUse g image p t.0 t.1
+      to t h = subst (λ (s : Tested). IsTestedByUse g image p s.0 s.1) (sym h.1.2.2) (h.0, h.1.0.place, h.1.1, h.1.2.1)
 
 kinds_of_mark : (g : Geometry) (image : Image) (p : ℕ) → Listing (IsKindOfMark g image p)
 kinds_of_mark g image p = either (when (dec_true (is_allocated g image p)) (one kinds.Uniform)) (when (dec_false (is_allocated g image p)) (one kinds.Unused))

@@ -1,13 +1,13 @@
 -- What can be listed can be listed in strict order.
-use Rattle.std.proofs.Common.{◌≡◌, ◌⊎◌, ◌↔◌, ℕ, List, [], ◌∷◌, Contains, Ordering, refl, sym, subst, ap, ◌∙◌, inl, inr, ⊎_elim}
+use Rattle.std.proofs.Common.{◌≡◌, ◌⊎◌, List, [], ◌∷◌, Contains, Ordering, refl, sym, subst, ap, ◌∙◌, inl, inr, ⊎_elim}
 use Rattle.std.specs.Cmp.{IsTotalOrder}
 use Rattle.std.specs.List.Sorted.{IsStrictlySortedBy}
-use Rattle.std.specs.Ordering.{nat_cmp, on, then_cmp, ordering_then, ordering_reverse}
+use Rattle.std.specs.Ordering.{nat_cmp, then_cmp, ordering_then, ordering_reverse}
 use Rattle.std.specs.declared.cmp.Ordering.TheVariants.{Less, Equal, Greater}
 use Rattle.std.proofs.lemmas.List.Elements.{recursion_from_All, All-contains_itself, All-weaker}
-use Rattle.std.proofs.lemmas.Cmp.{ranked, tied_itself}
+use Rattle.std.proofs.lemmas.Cmp.{ranked}
 use Rattle.spec_check.proofs.Members.{nothing_there, cons_cases, cons_here, cons_there, below, rest_sorted, sorted_none, sorted_same}
-use Rattle.law_report.proofs.Listings.{Listing, only}
+use Rattle.law_report.proofs.Listings.{Listing}
 
 pub record Ordered {X : Type 0} (R : X → X → Ordering) (P : X → Type 0) : Type 0 where
   pub members : List X

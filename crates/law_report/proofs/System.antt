@@ -1,12 +1,12 @@
 -- System errors can be listed, and whether the system pages are sound can be decided.
-use Rattle.std.proofs.Common.{◌≡◌, ◌≢◌, ◌⊎◌, ℕ, ◌<◌, length, List, [], ◌∷◌, IsTrue, refl}
+use Rattle.std.proofs.Common.{◌≡◌, ◌≢◌, ℕ, ◌<◌, length, List, [], ◌∷◌, refl}
 use Rattle.spec_file.specs.declared.geometry.Geometry.{Geometry}
 use Rattle.spec_file.specs.Image.{Image, page}
 use Rattle.spec_file.specs.Header.{page_type, says}
 use Rattle.spec_file.specs.Places.{interval_of_page}
 use Rattle.spec_file.specs.Roles.{role_of, system_type}
 use Rattle.spec_file.specs.Catalog.{PassesCatalog, IsUsed, entry_count, entry_at, entry_id, entry_name, is_row, is_zeros}
-use Rattle.spec_check.specs.System.{HasWrongHeader, IsWrong, IsSystemError, IsSystemSound, wrong_page, wrong_interval}
+use Rattle.spec_check.specs.System.{IsWrong, IsSystemError, IsSystemSound, wrong_page, wrong_interval}
 use Rattle.law_report.proofs.Decisions.{dec_like, dec_not, dec_and, dec_and3, dec_or, dec_if, dec_true, dec_false, dec_eq}
 use Rattle.law_report.proofs.Listings.{Listing, like, one, either, when, among, numbers, there_may_be, dec_exists, dec_every}
 

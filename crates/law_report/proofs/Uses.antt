@@ -1,6 +1,6 @@
 -- What objects mark and use, and what is allocated to them, can be listed in any image.
-use Rattle.std.proofs.Common.{◌≡◌, ◌⊎◌, ℕ, zero, ◌<◌, ◌/◌, ◌%◌, length, List, IsTrue, arith, sym, subst, refl, ap, ◌∙◌, inl, inr, ⊎_elim}
-use Rattle.std.specs.Ordering.{nat_cmp, on, then_cmp}
+use Rattle.std.proofs.Common.{ℕ, zero, ◌<◌, ◌/◌, ◌%◌, length, sym, subst, ap, ◌∙◌, inl, inr, ⊎_elim}
+use Rattle.std.specs.Ordering.{nat_cmp, on}
 use Rattle.std.proofs.lemmas.Cmp.{nat_cmp_total, then_total, on_total}
 use Rattle.std.specs.Cmp.{IsTotalOrder}
 use Rattle.spec_file.specs.declared.geometry.Geometry.{Geometry}
@@ -8,13 +8,13 @@ use Rattle.spec_file.specs.Image.{Image, page}
 use Rattle.spec_file.specs.Places.{interval_size, is_inside}
 use Rattle.spec_file.specs.CatalogRows.{CatalogRow}
 use Rattle.spec_file.specs.Iam.{iam_interval, iam_mark, iam_slot, single_slot_count}
-use Rattle.spec_chain.specs.Chains.{IsObject, pointer, IsChainPage, IsInChain}
+use Rattle.spec_chain.specs.Chains.{pointer}
 use Rattle.spec_chain.specs.Marks.{IsMarked, IsMarker, AreMarkers, HasMarker}
 use Rattle.spec_chain.specs.Pointers.{inside_below}
 use Rattle.spec_chain.specs.Uses.{IsSlot, HoldsPage, Use, use_cmp, IsUseBy, IsUse, AreUses, HasUse, is_allocated, IsAllocatedTo}
-use Rattle.law_report.proofs.Decisions.{dec_like, dec_not, dec_and, dec_and3, dec_or, dec_true, dec_eq, dec_lt}
+use Rattle.law_report.proofs.Decisions.{dec_like, dec_and, dec_and3, dec_or, dec_true, dec_eq, dec_lt}
 use Rattle.law_report.proofs.Listings.{Listing, like, only, one, either, when, among, such, numbers, dec_some, dec_exists}
-use Rattle.law_report.proofs.Sorting.{Ordered, ordered, one_ordered, Apart, numbers_apart, both_ranks}
+use Rattle.law_report.proofs.Sorting.{ordered, one_ordered, Apart, numbers_apart, both_ranks}
 use Rattle.law_report.proofs.Chains.{objects, chain_pages, dec_chain_page, dec_in_chain}
 
 pub dec_marked : (g : Geometry) (image : Image) (row : CatalogRow) (e : ℕ) → Dec (IsMarked g image row e)

@@ -6,6 +6,3 @@ mod names;
 
 pub use command::{Command, WordStop, read_words};
 pub use names::{Names, names_of};
-
-#[cfg(test)]
-mod tests;

@@ -4,7 +4,7 @@ use Rattle.std.specs.Option.{ForSome}
 use Rattle.std.specs.List.{list_any}
 use Rattle.std.proofs.lemmas.List.{reverse-reverse}
 use Rattle.spec_file.specs.Image.{Image, page_size}
-use Rattle.spec_file.specs.ImageLaws.{bytes_of}
+use Rattle.spec_file.specs.Image.{bytes_of}
 use Rattle.spec_log.specs.declared.item.Record.{Record}
 use Rattle.spec_log.specs.Images.{final_image}
 use Rattle.spec_script.specs.declared.reply.Reply.{Reply}
@@ -22,7 +22,8 @@ use Rattle.checkdb_top.specs.declared.status.Device.{Device}
 use Rattle.checkdb_top.specs.declared.status.Status.{Status}
 use Rattle.checkdb_top.specs.declared.status.Status.TheVariants as status
 use Rattle.checkdb_top.specs.Answers.{IsDevice, ended}
-use Rattle.db_core.specs.Reports.{is_terminated, any_reverse}
+use Rattle.db_core.specs.Reports.{is_terminated}
+use Rattle.db_core.proofs.Reports.{any_reverse}
 use Rattle.checkdb_top.specs.Runs.{ends_short, has_errors, ended_as, replies_to, AreAllAnswered, last_of, MarkChanged, Closes}
 use Rattle.checkdb_top.specs.Writes.{Writes}
 

@@ -10,7 +10,8 @@ use Rattle.spec_script.specs.declared.stop.ScriptWhy.{ScriptWhy}
 use Rattle.spec_script.specs.Replies.{text_of}
 use Rattle.spec_run.specs.Begun.{Setting}
 use Rattle.spec_run.specs.Entries.{Entry, items_of}
-use Rattle.db_core.specs.Reports.{is_terminated, none_terminated}
+use Rattle.db_core.specs.Reports.{is_terminated}
+use Rattle.db_core.proofs.Reports.{none_terminated}
 use Rattle.run_file.specs.Log.{longest_log}
 use Rattle.run_file.specs.Opening.{IsRunFile}
 use Rattle.run_file.proofs.OpeningLaws.{not_refused, one_refusal, run_file}

@@ -4,7 +4,7 @@ use Rattle.std.specs.Option.{ForSome}
 use Rattle.std.proofs.Common.{arith, sym, ◌∙◌, ap}
 use Rattle.std.proofs.lemmas.Option.{same_Some}
 use Rattle.spec_file.specs.Image.{page_at, pages_of, page}
-use Rattle.spec_file.specs.ImageLaws.{length-pages_of, page-pages_of, same_bytes}
+use Rattle.spec_file.proofs.ImageLaws.{length-pages_of, page-pages_of, same_bytes}
 
 whole_pages : (bytes : List ℕ) (pages : ℕ) → length bytes ≡ 8192 * pages → length bytes / 8192 ≡ pages
 whole_pages bytes pages size = omega (arith, size)

@@ -2,7 +2,7 @@
 use Rattle.std.specs.Prelude.{◌≡◌, ℕ, Bool, List, Option, option_map}
 use Rattle.std.specs.Io.KnownBytes.{append_known}
 use Rattle.spec_file.specs.Image.{Image}
-use Rattle.spec_file.specs.ImageLaws.{bytes_of}
+use Rattle.spec_file.specs.Image.{bytes_of}
 use Rattle.vol_dev.specs.Devices.{WroteFront}
 use Rattle.vol_pool.specs.Writing.{StopsWriting}
 use Rattle.checkdb_top.specs.declared.status.Device.TheVariants as device

@@ -17,8 +17,3 @@ mod wrong;
 pub use errors::alloc_errors;
 pub use read::read_maps;
 pub use spec_check::{CheckError, CheckReport, TableLine};
-
-#[cfg(test)]
-mod object_tests;
-#[cfg(test)]
-mod rule_tests;

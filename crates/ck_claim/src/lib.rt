@@ -9,8 +9,6 @@ ghost use Rattle.std.specs.Prelude.{◌≡◌, ◌≢◌, ◌≤◌, ◌<◌, �
 ghost use Rattle.ck_claim.specs.Shown.{IsOf, first_seat, with_draw, with_all_known, with_seat, IsEachBelow};
 
 mod rule;
-#[cfg(test)]
-mod tests;
 
 use atomic_table::{Seat, Table};
 use rule::{Both, Bounds, Draw, EachOnce, Look, OnePart, SeatView};

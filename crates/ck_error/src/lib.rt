@@ -7,6 +7,3 @@ mod order;
 pub use grow::{push_if, push_some};
 pub use order::in_order;
 pub use spec_check::{CheckError, CheckReport, TableLine};
-
-#[cfg(test)]
-mod tests;

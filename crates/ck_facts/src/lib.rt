@@ -16,8 +16,3 @@ pub use map::{AllocMap, ExtentMap, PageUse};
 pub use owners::OwnedPage;
 pub use runs::uses_between;
 pub use spec_check::{CheckError, CheckReport, TableLine};
-
-#[cfg(test)]
-mod owner_tests;
-#[cfg(test)]
-mod page_tests;

@@ -21,6 +21,3 @@ mod tables;
 
 pub use parts::Parts;
 use spec_file::ObjId;
-
-#[cfg(test)]
-mod tests;

@@ -8,6 +8,3 @@ mod pages;
 mod scan;
 
 pub use scan::scan_one;
-
-#[cfg(test)]
-mod tests;

@@ -11,6 +11,3 @@ mod report;
 pub use page::write_page;
 pub use reply::write_reply;
 pub use report::write_report;
-
-#[cfg(test)]
-mod tests;

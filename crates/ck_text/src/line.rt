@@ -1,9 +1,7 @@
 // One line of output, which has its own place in memory.
-ghost use Rattle.std.specs.Prelude.{◌≡◌, ◌≤◌, ◌+◌, ◌++◌, length, decimal, OnOk, OnErr};
-ghost use Rattle.std.specs.Io.KnownBytes.{append_known};
+ghost use Rattle.std.specs.Prelude.{◌≡◌, ◌≤◌, ◌+◌, ◌++◌, length, decimal, is_err};
 ghost use Rattle.arrayvec.specs.ArrayString.{array_string_len};
-ghost use Rattle.pg_base.specs.Faults.{Rose};
-ghost use Rattle.vol_dev.specs.Devices.{WroteFront};
+ghost use Rattle.vol_dev.specs.Output.{Wrote};
 
 use arrayvec::ArrayString;
 use itoa::Buffer;
@@ -36,20 +34,14 @@ pub(crate) fn push_field(line: &mut Line, name: &str, n: u64)
 
 /// Writes bytes to the output.
 pub(crate) fn write_bytes<K: Sink>(bytes: &[u8], out: &mut K) -> Result<(), DeviceFailed>
-    ensures ok { OnOk result (K.contents out.new ≡ append_known (K.contents out.old) bytes.now) }
-    ensures err { OnErr result (WroteFront (K.contents out.old) (K.contents out.new) bytes.now) }
-    ensures fault { OnErr result (Rose (K.faults out.old) (K.faults out.new)) }
-    ensures faults { K.faults out.old ≤ K.faults out.new }
+    ensures { Wrote K.Sink out.old out.new bytes.now (is_err result) }
 {
     out.write(bytes)
 }
 
 /// Writes a line to the output.
 pub(crate) fn write_line<K: Sink>(line: &Line, out: &mut K) -> Result<(), DeviceFailed>
-    ensures ok { OnOk result (K.contents out.new ≡ append_known (K.contents out.old) line.now.bytes) }
-    ensures err { OnErr result (WroteFront (K.contents out.old) (K.contents out.new) line.now.bytes) }
-    ensures fault { OnErr result (Rose (K.faults out.old) (K.faults out.new)) }
-    ensures faults { K.faults out.old ≤ K.faults out.new }
+    ensures { Wrote K.Sink out.old out.new line.now.bytes (is_err result) }
 {
     out.write(line.as_str().as_bytes())
 }

@@ -1,9 +1,7 @@
 // The header and the slots of a page.
-ghost use Rattle.std.specs.Prelude.{◌≡◌, ◌≤◌, ◌<◌, flat_map, OnOk, OnErr};
+ghost use Rattle.std.specs.Prelude.{◌≡◌, ◌<◌, ◌≤◌, flat_map, is_err};
 ghost use Rattle.std.specs.List.{range_with_len};
-ghost use Rattle.std.specs.Io.KnownBytes.{append_known};
-ghost use Rattle.pg_base.specs.Faults.{Rose};
-ghost use Rattle.vol_dev.specs.Devices.{WroteFront};
+ghost use Rattle.vol_dev.specs.Output.{Wrote};
 ghost use Rattle.spec_script.specs.PageText as spec;
 
 use crate::line::{Line, push_field, write_line};
@@ -44,10 +42,7 @@ fn slot_text(page: &Page, i: usize) -> Line
 
 fn write_slots<K: Sink>(page: &Page, count: usize, out: &mut K) -> Result<(), DeviceFailed>
     requires { count ≤ 4048 }
-    ensures ok { OnOk result (K.contents out.new ≡ append_known (K.contents out.old) (flat_map (spec.slot_line page.now.bytes) (range_with_len 0 count))) }
-    ensures err { OnErr result (WroteFront (K.contents out.old) (K.contents out.new) (flat_map (spec.slot_line page.now.bytes) (range_with_len 0 count))) }
-    ensures fault { OnErr result (Rose (K.faults out.old) (K.faults out.new)) }
-    ensures faults { K.faults out.old ≤ K.faults out.new }
+    ensures { Wrote K.Sink out.old out.new (flat_map (spec.slot_line page.now.bytes) (range_with_len 0 count)) (is_err result) }
 {
     for i in 0..count {
         write_line(&slot_text(page, i), out)?;
@@ -58,10 +53,7 @@ fn write_slots<K: Sink>(page: &Page, count: usize, out: &mut K) -> Result<(), De
 /// Writes the header of page `p` and its slots, as far as a page can have slots. After a failure of the
 /// sink a front of these bytes stands there.
 pub fn write_page<K: Sink>(page: &Page, p: PageNo, out: &mut K) -> Result<(), DeviceFailed>
-    ensures ok { OnOk result (K.contents out.new ≡ append_known (K.contents out.old) (spec.page_text p.0 page.now.bytes)) }
-    ensures err { OnErr result (WroteFront (K.contents out.old) (K.contents out.new) (spec.page_text p.0 page.now.bytes)) }
-    ensures fault { OnErr result (Rose (K.faults out.old) (K.faults out.new)) }
-    ensures faults { K.faults out.old ≤ K.faults out.new }
+    ensures { Wrote K.Sink out.old out.new (spec.page_text p.0 page.now.bytes) (is_err result) }
 {
     let header = read_header(page);
     write_line(&header_text(p, &header), out)?;

@@ -1,9 +1,7 @@
 // The payloads of rows.
-ghost use Rattle.std.specs.Prelude.{◌≡◌, ◌≤◌, flat_map, OnOk, OnErr};
+ghost use Rattle.std.specs.Prelude.{◌≡◌, ◌≤◌, flat_map, is_err};
 ghost use Rattle.std.specs.List.{list_all};
-ghost use Rattle.std.specs.Io.KnownBytes.{append_known};
-ghost use Rattle.pg_base.specs.Faults.{Rose};
-ghost use Rattle.vol_dev.specs.Devices.{WroteFront};
+ghost use Rattle.vol_dev.specs.Output.{Wrote};
 ghost use Rattle.spec_script.specs.Replies as spec;
 
 use crate::line::write_bytes;
@@ -46,10 +44,7 @@ fn shown(b: u8) -> ArrayVec<u8, 3>
 
 // The bytes of a payload one by one.
 fn write_shown<K: Sink>(payload: &[u8], out: &mut K) -> Result<(), DeviceFailed>
-    ensures ok { OnOk result (K.contents out.new ≡ append_known (K.contents out.old) (flat_map spec.shown_byte payload.now)) }
-    ensures err { OnErr result (WroteFront (K.contents out.old) (K.contents out.new) (flat_map spec.shown_byte payload.now)) }
-    ensures fault { OnErr result (Rose (K.faults out.old) (K.faults out.new)) }
-    ensures faults { K.faults out.old ≤ K.faults out.new }
+    ensures { Wrote K.Sink out.old out.new (flat_map spec.shown_byte payload.now) (is_err result) }
 {
     for b in payload {
         write_bytes(shown(*b).as_slice(), out)?;
@@ -59,10 +54,7 @@ fn write_shown<K: Sink>(payload: &[u8], out: &mut K) -> Result<(), DeviceFailed>
 
 // A payload; plain ones, as all of a script are, in one write.
 fn write_payload<K: Sink>(payload: &[u8], out: &mut K) -> Result<(), DeviceFailed>
-    ensures ok { OnOk result (K.contents out.new ≡ append_known (K.contents out.old) (flat_map spec.shown_byte payload.now)) }
-    ensures err { OnErr result (WroteFront (K.contents out.old) (K.contents out.new) (flat_map spec.shown_byte payload.now)) }
-    ensures fault { OnErr result (Rose (K.faults out.old) (K.faults out.new)) }
-    ensures faults { K.faults out.old ≤ K.faults out.new }
+    ensures { Wrote K.Sink out.old out.new (flat_map spec.shown_byte payload.now) (is_err result) }
 {
     if are_plain(payload) {
         write_bytes(payload, out)
@@ -72,10 +64,7 @@ fn write_payload<K: Sink>(payload: &[u8], out: &mut K) -> Result<(), DeviceFaile
 }
 
 fn write_payload_line<K: Sink>(payload: &Values<u8>, out: &mut K) -> Result<(), DeviceFailed>
-    ensures ok { OnOk result (K.contents out.new ≡ append_known (K.contents out.old) (spec.payload_line payload.now)) }
-    ensures err { OnErr result (WroteFront (K.contents out.old) (K.contents out.new) (spec.payload_line payload.now)) }
-    ensures fault { OnErr result (Rose (K.faults out.old) (K.faults out.new)) }
-    ensures faults { K.faults out.old ≤ K.faults out.new }
+    ensures { Wrote K.Sink out.old out.new (spec.payload_line payload.now) (is_err result) }
 {
     write_bytes(b"  '", out)?;
     write_payload(payload.as_slice(), out)?;
@@ -87,10 +76,7 @@ pub(crate) fn write_payloads<K: Sink>(
     payloads: &[Values<u8>],
     out: &mut K,
 ) -> Result<(), DeviceFailed>
-    ensures ok { OnOk result (K.contents out.new ≡ append_known (K.contents out.old) (flat_map spec.payload_line payloads.now)) }
-    ensures err { OnErr result (WroteFront (K.contents out.old) (K.contents out.new) (flat_map spec.payload_line payloads.now)) }
-    ensures fault { OnErr result (Rose (K.faults out.old) (K.faults out.new)) }
-    ensures faults { K.faults out.old ≤ K.faults out.new }
+    ensures { Wrote K.Sink out.old out.new (flat_map spec.payload_line payloads.now) (is_err result) }
 {
     for payload in payloads {
         write_payload_line(payload, out)?;

@@ -1,9 +1,7 @@
 // The bytes of replies.
-ghost use Rattle.std.specs.Prelude.{◌≡◌, ◌+◌, ◌≤◌, ◌++◌, flat_map, codes, decimal, false, OnOk, OnErr};
-ghost use Rattle.std.specs.Io.KnownBytes.{append_known};
+ghost use Rattle.std.specs.Prelude.{◌≡◌, ◌+◌, ◌≤◌, ◌++◌, flat_map, codes, decimal, false, is_err};
 ghost use Rattle.arrayvec.specs.ArrayString.{array_string_len};
-ghost use Rattle.pg_base.specs.Faults.{Rose};
-ghost use Rattle.vol_dev.specs.Devices.{WroteFront};
+ghost use Rattle.vol_dev.specs.Output.{Wrote};
 ghost use Rattle.spec_check.specs.Text.{report_text};
 ghost use Rattle.spec_script.specs.Replies as spec;
 
@@ -13,7 +11,9 @@ use crate::report::write_report;
 use pg_base::{Lsn, Resource, Tran};
 use spec_check::CheckReport;
 use spec_log::Values;
-use spec_script::{Cause, Refusal, Reply};
+use spec_script::{
+    BAD_PAGE, Cause, HELD, NO_TABLE, READ_FAULT, Refusal, Reply, SAME_KEY, SAME_NAME,
+};
 use vol_dev::{DeviceFailed, Sink};
 
 #[tactic(auto, unfolding(spec_script::specs::Replies::place_of_reply))]
@@ -92,9 +92,9 @@ fn push_place(line: &mut Line, refusal: &Refusal)
     ensures len { array_string_len line.new ≤ array_string_len line.old + 60 }
 {
     match refusal.number {
-        2627 => push_field(line, " ", refusal.key),
-        1222 => push_holder(line, refusal.resource, refusal.by),
-        823 | 824 => push_field(line, " PAGE ", u64::from(refusal.page.0)),
+        SAME_KEY => push_field(line, " ", refusal.key),
+        HELD => push_holder(line, refusal.resource, refusal.by),
+        READ_FAULT | BAD_PAGE => push_field(line, " PAGE ", u64::from(refusal.page.0)),
         _ => {}
     }
 }
@@ -102,7 +102,7 @@ fn push_place(line: &mut Line, refusal: &Refusal)
 fn names_object(number: u16) -> bool
     ensures { result ≡ spec.is_named number }
 {
-    number == 208 || number == 2714
+    number == NO_TABLE || number == SAME_NAME
 }
 
 #[tactic(auto, unfolding(spec_script::specs::Replies::refusal_line))]
@@ -128,10 +128,7 @@ fn number_text(number: u16) -> Line
 
 // A number and the name of an object.
 fn write_named<K: Sink>(number: u16, name: &str, out: &mut K) -> Result<(), DeviceFailed>
-    ensures ok { OnOk result (K.contents out.new ≡ append_known (K.contents out.old) (codes "MSG " ++ decimal number ++ codes " " ++ name.now ++ codes "\n")) }
-    ensures err { OnErr result (WroteFront (K.contents out.old) (K.contents out.new) (codes "MSG " ++ decimal number ++ codes " " ++ name.now ++ codes "\n")) }
-    ensures fault { OnErr result (Rose (K.faults out.old) (K.faults out.new)) }
-    ensures faults { K.faults out.old ≤ K.faults out.new }
+    ensures { Wrote K.Sink out.old out.new (codes "MSG " ++ decimal number ++ codes " " ++ name.now ++ codes "\n") (is_err result) }
 {
     write_line(&number_text(number), out)?;
     write_bytes(name.as_bytes(), out)?;
@@ -139,10 +136,7 @@ fn write_named<K: Sink>(number: u16, name: &str, out: &mut K) -> Result<(), Devi
 }
 
 fn write_refusal<K: Sink>(refusal: &Refusal, out: &mut K) -> Result<(), DeviceFailed>
-    ensures ok { OnOk result (K.contents out.new ≡ append_known (K.contents out.old) (spec.refusal_line refusal.now)) }
-    ensures err { OnErr result (WroteFront (K.contents out.old) (K.contents out.new) (spec.refusal_line refusal.now)) }
-    ensures fault { OnErr result (Rose (K.faults out.old) (K.faults out.new)) }
-    ensures faults { K.faults out.old ≤ K.faults out.new }
+    ensures { Wrote K.Sink out.old out.new (spec.refusal_line refusal.now) (is_err result) }
 {
     if names_object(refusal.number) {
         write_named(refusal.number, refusal.name.as_str(), out)
@@ -152,30 +146,21 @@ fn write_refusal<K: Sink>(refusal: &Refusal, out: &mut K) -> Result<(), DeviceFa
 }
 
 fn write_rows<K: Sink>(count: u64, payloads: &[Values<u8>], out: &mut K) -> Result<(), DeviceFailed>
-    ensures ok { OnOk result (K.contents out.new ≡ append_known (K.contents out.old) (spec.rows_line count ++ flat_map spec.payload_line payloads.now)) }
-    ensures err { OnErr result (WroteFront (K.contents out.old) (K.contents out.new) (spec.rows_line count ++ flat_map spec.payload_line payloads.now)) }
-    ensures fault { OnErr result (Rose (K.faults out.old) (K.faults out.new)) }
-    ensures faults { K.faults out.old ≤ K.faults out.new }
+    ensures { Wrote K.Sink out.old out.new (spec.rows_line count ++ flat_map spec.payload_line payloads.now) (is_err result) }
 {
     write_line(&rows_text(count), out)?;
     write_payloads(payloads, out)
 }
 
 fn write_checked<K: Sink>(lsn: Lsn, report: &CheckReport, out: &mut K) -> Result<(), DeviceFailed>
-    ensures ok { OnOk result (K.contents out.new ≡ append_known (K.contents out.old) (spec.lsn_line lsn.0 ++ report_text report.now)) }
-    ensures err { OnErr result (WroteFront (K.contents out.old) (K.contents out.new) (spec.lsn_line lsn.0 ++ report_text report.now)) }
-    ensures fault { OnErr result (Rose (K.faults out.old) (K.faults out.new)) }
-    ensures faults { K.faults out.old ≤ K.faults out.new }
+    ensures { Wrote K.Sink out.old out.new (spec.lsn_line lsn.0 ++ report_text report.now) (is_err result) }
 {
     write_line(&lsn_text(lsn), out)?;
     write_report(report, out)
 }
 
 fn write_answer<K: Sink>(reply: &Reply, out: &mut K) -> Result<(), DeviceFailed>
-    ensures ok { OnOk result (K.contents out.new ≡ append_known (K.contents out.old) (spec.answer_text reply.now)) }
-    ensures err { OnErr result (WroteFront (K.contents out.old) (K.contents out.new) (spec.answer_text reply.now)) }
-    ensures fault { OnErr result (Rose (K.faults out.old) (K.faults out.new)) }
-    ensures faults { K.faults out.old ≤ K.faults out.new }
+    ensures { Wrote K.Sink out.old out.new (spec.answer_text reply.now) (is_err result) }
 {
     match reply {
         Reply::Done => write_bytes(b"OK\n", out),
@@ -194,10 +179,7 @@ pub fn write_reply<K: Sink>(
     reply: &Reply,
     out: &mut K,
 ) -> Result<(), DeviceFailed>
-    ensures ok { OnOk result (K.contents out.new ≡ append_known (K.contents out.old) (spec.reply_text session index reply.now)) }
-    ensures err { OnErr result (WroteFront (K.contents out.old) (K.contents out.new) (spec.reply_text session index reply.now)) }
-    ensures fault { OnErr result (Rose (K.faults out.old) (K.faults out.new)) }
-    ensures faults { K.faults out.old ≤ K.faults out.new }
+    ensures { Wrote K.Sink out.old out.new (spec.reply_text session index reply.now) (is_err result) }
 {
     write_line(&place_of(session, index), out)?;
     write_answer(reply, out)

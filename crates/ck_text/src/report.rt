@@ -1,8 +1,6 @@
 // The bytes of a report, line by line. No memory is taken.
-ghost use Rattle.std.specs.Prelude.{◌≡◌, ◌≤◌, count_by, flat_map, not, OnOk, OnErr};
-ghost use Rattle.std.specs.Io.KnownBytes.{append_known};
-ghost use Rattle.pg_base.specs.Faults.{Rose};
-ghost use Rattle.vol_dev.specs.Devices.{WroteFront};
+ghost use Rattle.std.specs.Prelude.{◌≡◌, count_by, flat_map, not, is_err};
+ghost use Rattle.vol_dev.specs.Output.{Wrote};
 ghost use Rattle.spec_check.specs.Errors.{is_allocation};
 ghost use Rattle.spec_check.specs.Text.{error_line, table_line, total_line, report_text};
 
@@ -65,10 +63,7 @@ fn total_text(errors: &[CheckError]) -> Line
 }
 
 fn write_errors<K: Sink>(errors: &[CheckError], out: &mut K) -> Result<(), DeviceFailed>
-    ensures ok { OnOk result (K.contents out.new ≡ append_known (K.contents out.old) (flat_map error_line errors.now)) }
-    ensures err { OnErr result (WroteFront (K.contents out.old) (K.contents out.new) (flat_map error_line errors.now)) }
-    ensures fault { OnErr result (Rose (K.faults out.old) (K.faults out.new)) }
-    ensures faults { K.faults out.old ≤ K.faults out.new }
+    ensures { Wrote K.Sink out.old out.new (flat_map error_line errors.now) (is_err result) }
 {
     for error in errors {
         write_line(&error_text(error), out)?;
@@ -77,10 +72,7 @@ fn write_errors<K: Sink>(errors: &[CheckError], out: &mut K) -> Result<(), Devic
 }
 
 fn write_tables<K: Sink>(tables: &[TableLine], out: &mut K) -> Result<(), DeviceFailed>
-    ensures ok { OnOk result (K.contents out.new ≡ append_known (K.contents out.old) (flat_map table_line tables.now)) }
-    ensures err { OnErr result (WroteFront (K.contents out.old) (K.contents out.new) (flat_map table_line tables.now)) }
-    ensures fault { OnErr result (Rose (K.faults out.old) (K.faults out.new)) }
-    ensures faults { K.faults out.old ≤ K.faults out.new }
+    ensures { Wrote K.Sink out.old out.new (flat_map table_line tables.now) (is_err result) }
 {
     for table in tables {
         write_line(&table_text(table), out)?;
@@ -91,10 +83,7 @@ fn write_tables<K: Sink>(tables: &[TableLine], out: &mut K) -> Result<(), Device
 /// Writes a report: a line for each error, a line for each table, and a line with both counts. After a
 /// failure of the sink a front of these bytes stands there.
 pub fn write_report<K: Sink>(report: &CheckReport, out: &mut K) -> Result<(), DeviceFailed>
-    ensures ok { OnOk result (K.contents out.new ≡ append_known (K.contents out.old) (report_text report.now)) }
-    ensures err { OnErr result (WroteFront (K.contents out.old) (K.contents out.new) (report_text report.now)) }
-    ensures fault { OnErr result (Rose (K.faults out.old) (K.faults out.new)) }
-    ensures faults { K.faults out.old ≤ K.faults out.new }
+    ensures { Wrote K.Sink out.old out.new (report_text report.now) (is_err result) }
 {
     write_errors(report.errors.as_slice(), out)?;
     write_tables(report.tables.as_slice(), out)?;

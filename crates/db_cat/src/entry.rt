@@ -3,16 +3,17 @@ ghost use Rattle.std.specs.Prelude.{◌≡◌, ◌==◌, ◌<◌, ◌+◌, lengt
 ghost use Rattle.std.specs.List.{list_all};
 ghost use Rattle.spec_file.specs.Catalog as spec;
 
-use pg_base::{Page, u32_at};
+use pg_base::{MAPS_START, Page, u32_at};
+use spec_file::ENTRY_COUNT;
 
 /// The bytes of entry i.
 #[tactic(auto, unfolding(spec_file::specs::Catalog::entry_at))]
 pub(crate) fn entry_at(page: &Page, i: usize) -> &[u8]
-    requires { i < 128 }
+    requires { i < ENTRY_COUNT }
     ensures entry { result.now ≡ spec.entry_at page.now.bytes i }
     ensures size { length result.now ≡ 40 }
 {
-    &page.bytes[96 + 40 * i..136 + 40 * i]
+    &page.bytes[MAPS_START + 40 * i..MAPS_START + 40 * i + 40]
 }
 
 pub(crate) fn is_zeros(bytes: &[u8]) -> bool

@@ -7,6 +7,3 @@ mod rows;
 
 pub use passes::catalog_passes;
 pub use rows::{CatRow, CatStop, read_catalog};
-
-#[cfg(test)]
-mod tests;

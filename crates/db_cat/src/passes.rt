@@ -4,12 +4,13 @@ ghost use Rattle.db_cat.specs.Entries.{IsGoodEntry, IsNew};
 
 use crate::entry::{entry_at, is_row, is_zeros, name_of};
 use pg_base::{Page, u32_at};
+use spec_file::ENTRY_COUNT;
 
 /// Whether each entry of page 9 is empty or a row, and no id or name occurs twice.
 pub fn catalog_passes(page: &Page) -> bool
     ensures { IsTrue result ↔ spec.PassesCatalog page.now.bytes }
 {
-    for i in 0..128 {
+    for i in 0..ENTRY_COUNT {
         if !is_good_entry(page, i) {
             return false;
         }
@@ -19,7 +20,7 @@ pub fn catalog_passes(page: &Page) -> bool
 
 // Entry i is empty, or a row whose id and name no earlier entry has.
 fn is_good_entry(page: &Page, i: usize) -> bool
-    requires { i < 128 }
+    requires { i < ENTRY_COUNT }
     ensures { IsTrue result ↔ IsGoodEntry page.now.bytes i }
 {
     let entry = entry_at(page, i);
@@ -28,7 +29,7 @@ fn is_good_entry(page: &Page, i: usize) -> bool
 
 // No earlier entry has the id or the name of entry i.
 fn is_new(page: &Page, i: usize) -> bool
-    requires { i < 128 }
+    requires { i < ENTRY_COUNT }
     ensures { IsTrue result ↔ IsNew page.now.bytes i }
 {
     let entry = entry_at(page, i);

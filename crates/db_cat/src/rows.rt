@@ -6,10 +6,11 @@ ghost use Rattle.db_cat.specs.Rows.{row_of, BadExactly};
 use crate::entry::{entry_at, is_zeros, name_of};
 use crate::passes::catalog_passes;
 use pg_base::{Kind, NoMemory, ObjId, Page, PageNo, u32_at};
+use spec_file::ENTRY_COUNT;
 use std::alloc::Global;
 
 /// An object of the catalog.
-#[derive(Debug, Drop)]
+#[derive(Drop)]
 pub struct CatRow {
     pub id: ObjId,
     pub kind: Kind,
@@ -49,7 +50,7 @@ fn used_rows(alloc: Global, page: &Page) -> Result<Vec<CatRow>, NoMemory>
     ensures { IfOk result (λ rows. map row_of rows.items ≡ rows_of page.now.bytes) }
 {
     let mut rows = Vec::new(alloc);
-    for i in 0..128 {
+    for i in 0..ENTRY_COUNT {
         let entry = entry_at(page, i);
         if !is_zeros(entry) {
             push_row(&mut rows, alloc, entry)?;

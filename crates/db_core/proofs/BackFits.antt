@@ -12,10 +12,10 @@ use Rattle.spec_log.specs.declared.item.Record.TheVariants.{Start, Change, Undo,
 use Rattle.spec_log.specs.Log.{item_at}
 use Rattle.spec_log.specs.Images.{page_of_cell}
 use Rattle.spec_log.specs.Rules.{KeepsRules, HaveForm}
-use Rattle.spec_log.specs.RulesLaws.{older_rules, older_forms}
-use Rattle.law_undo.specs.ReadLogs.{cell_form}
-use Rattle.law_undo.specs.Views.{sound_rules, sound_forms}
-use Rattle.law_run.specs.Legal.{legal_is_sound}
+use Rattle.spec_log.proofs.RulesLaws.{older_rules, older_forms}
+use Rattle.law_undo.proofs.ReadLogs.{cell_form}
+use Rattle.law_undo.proofs.Views.{sound_rules, sound_forms}
+use Rattle.law_run.proofs.Legal.{legal_is_sound}
 use Rattle.spec_run.specs.Begun.{Setting}
 use Rattle.vol_pool.specs.Cells.{FitsCell}
 use Rattle.db_core.specs.declared.session.Check.{Check}

@@ -9,7 +9,7 @@ use Rattle.spec_log.specs.declared.item.Record.TheVariants.{CheckEnd}
 use Rattle.spec_log.specs.Items.{tran_of}
 use Rattle.spec_log.specs.Log.{is_unfinished, item_at}
 use Rattle.spec_log.specs.Images.{take_back, taken_back}
-use Rattle.law_undo.specs.ReadLogs.{shape_take_back}
+use Rattle.law_undo.proofs.ReadLogs.{shape_take_back}
 use Rattle.spec_run.specs.Begun.{Setting, Telling, Reports}
 use Rattle.spec_run.specs.Progress.{progress_of}
 use Rattle.spec_run.specs.Turns.{AreTold, told_to}

@@ -11,8 +11,8 @@ use Rattle.spec_log.specs.Items.{has_form}
 use Rattle.spec_log.specs.Cells.{HasWholePages}
 use Rattle.spec_log.specs.Rules.{HaveForm}
 use Rattle.spec_log.specs.Images.{final_image}
-use Rattle.spec_log.specs.RulesLaws.{older_forms}
-use Rattle.law_undo.specs.Views.{sound_forms}
+use Rattle.spec_log.proofs.RulesLaws.{older_forms}
+use Rattle.law_undo.proofs.Views.{sound_forms}
 use Rattle.spec_script.specs.Lines.{is_statement}
 use Rattle.spec_file.specs.declared.geometry.Geometry.TheVariants.{Small}
 use Rattle.spec_file.specs.Places.{HasShape}
@@ -21,14 +21,15 @@ use Rattle.spec_run.specs.Begun.{Setting}
 use Rattle.spec_run.specs.Entries.{items_of}
 use Rattle.spec_run.specs.Turns.{AreTold, told_to, IsLegal, IsWhole, Run}
 use Rattle.spec_run.specs.Progress.{script_of, progress_of, next_of}
-use Rattle.law_run.specs.Legal.{legal_is_sound}
+use Rattle.law_run.proofs.Legal.{legal_is_sound}
 use Rattle.db_core.specs.declared.session.Doing.TheVariants.{Idle}
 use Rattle.db_core.specs.declared.session.Session.{Session}
 use Rattle.db_core.specs.Bounds.{most_turns, IsAtWork, HasBound}
 use Rattle.db_core.specs.Rooms.{owed_by, pending_of, started_of, HasOwnRoom, turns_left, left_of_statement}
 use Rattle.db_core.specs.declared.state.State.{State}
 use Rattle.db_core.specs.declared.out.TurnOut.{TurnOut}
-use Rattle.db_core.specs.Reports.{is_terminated, none_terminated}
+use Rattle.db_core.specs.Reports.{is_terminated}
+use Rattle.db_core.proofs.Reports.{none_terminated}
 use Rattle.db_core.specs.Runs.{AreNew, IsNew, setting_of, turns_of, rest_from}
 use Rattle.db_core.specs.Replays.{RunsSchedule, EndsSessions}
 use Rattle.db_core.specs.States.{Db, left_in, TurnIn, entries_of, run_of, IsAt, IsState}

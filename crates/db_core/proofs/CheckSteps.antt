@@ -11,9 +11,9 @@ use Rattle.spec_script.specs.declared.reply.Reply.TheVariants.{Report}
 use Rattle.spec_run.specs.Begun.{Setting, Reports, Tells}
 use Rattle.spec_run.specs.Progress.{Progress, progress_of, work_of, MayCome}
 use Rattle.spec_run.specs.Turns.{IsLegal}
-use Rattle.law_undo.specs.Law.{undo_gives_committed}
+use Rattle.law_undo.proofs.Law.{undo_gives_committed}
 use Rattle.law_run.specs.Laws.{IsStart}
-use Rattle.law_run.specs.Legal.{legal_is_sound}
+use Rattle.law_run.proofs.Legal.{legal_is_sound}
 use Rattle.db_core.specs.declared.session.Check.{Check}
 use Rattle.db_core.specs.declared.session.Doing.TheVariants.{Idle, Checking}
 use Rattle.db_core.specs.declared.session.Session.{Session}

@@ -15,10 +15,10 @@ use Rattle.spec_log.specs.Log.{is_unfinished, greatest_of}
 use Rattle.spec_log.specs.Limits.{all_changes, all_bytes}
 use Rattle.spec_log.specs.Rules.{KeepsRules}
 use Rattle.spec_log.specs.Images.{apply}
-use Rattle.law_undo.specs.Holders.{unfinished_parts}
-use Rattle.law_undo.specs.Views.{sound_rules}
-use Rattle.law_run.specs.Fresh.{started_below}
-use Rattle.law_run.specs.Legal.{legal_is_sound}
+use Rattle.law_undo.proofs.Holders.{unfinished_parts}
+use Rattle.law_undo.proofs.Views.{sound_rules}
+use Rattle.law_run.proofs.Fresh.{started_below}
+use Rattle.law_run.proofs.Legal.{legal_is_sound}
 use Rattle.spec_run.specs.Entries.{items_of}
 use Rattle.spec_run.specs.Begun.{Setting}
 use Rattle.spec_run.specs.Progress.{work_of, MayCome}

@@ -16,10 +16,11 @@ use Rattle.spec_run.specs.Begun.{Setting, Telling, Reports}
 use Rattle.spec_run.specs.Progress.{Progress, progress_of, moved, work_of, MayCome}
 use Rattle.spec_run.specs.Turns.{IsLegal, AreTold}
 use Rattle.law_run.specs.Laws.{IsStart}
-use Rattle.law_run.specs.Others.{holds_other, left_other}
-use Rattle.law_run.specs.Doing.{IsDoing, abort_items, StepsTo}
-use Rattle.law_run.specs.Keeps.{apart, progress_other}
-use Rattle.law_run.specs.Legal.{IsRight, legal_right, comes_steps, doing_opens}
+use Rattle.law_run.proofs.Others.{holds_other, left_other}
+use Rattle.law_run.specs.Doing.{abort_items}
+use Rattle.law_run.proofs.Doing.{IsDoing, StepsTo}
+use Rattle.law_run.proofs.Keeps.{apart, progress_other}
+use Rattle.law_run.proofs.Legal.{IsRight, legal_right, comes_steps, doing_opens}
 use Rattle.db_core.specs.declared.session.Doing.{Doing}
 use Rattle.db_core.specs.declared.session.Doing.TheVariants.{Idle, Changing, Ending, Undoing, Checking}
 use Rattle.db_core.specs.declared.session.Check.{Check}

@@ -27,3 +27,4 @@ pub mod Advances
 pub mod Replays
 pub mod Begun
 pub mod SnapTurns
+pub mod Reports

@@ -12,7 +12,7 @@ use Rattle.spec_run.specs.Sessions.{session_of, open_after}
 use Rattle.spec_run.specs.Begun.{Setting, Telling, Answers, Tells}
 use Rattle.spec_run.specs.Progress.{Progress, progress_of, at_work, with_statement, script_of, is_short, cut_short, moved_to, work_of}
 use Rattle.spec_run.specs.Turns.{AreTold, told_to}
-use Rattle.law_run.specs.Moved.{moved_whole, moved_short}
+use Rattle.law_run.proofs.Moved.{moved_whole, moved_short}
 use Rattle.db_core.specs.declared.session.Doing.TheVariants.{Idle}
 use Rattle.db_core.specs.declared.session.Session.{Session}
 use Rattle.db_core.specs.States.{whole_log, IsAt, IsOpen, IsSession}

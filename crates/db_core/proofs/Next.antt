@@ -18,7 +18,7 @@ use Rattle.spec_run.specs.Progress.{Progress, progress_of, at_work, with_stateme
 use Rattle.spec_run.specs.Turns.{AreTold, told_to, IsLegal}
 use Rattle.law_run.specs.Laws.{IsStart}
 use Rattle.law_run.specs.Doing.{change_items, abort_items}
-use Rattle.law_run.specs.Legal.{with_begun}
+use Rattle.law_run.proofs.Legal.{with_begun}
 use Rattle.db_core.specs.declared.session.Doing.TheVariants.{Idle, Changing, Ending, Undoing}
 use Rattle.db_core.specs.declared.session.Session.{Session}
 use Rattle.db_core.specs.States.{whole_log, reply_of, IsAt, IsOpen, IsSession}

@@ -12,8 +12,8 @@ use Rattle.spec_log.specs.Items.{is_same}
 use Rattle.spec_log.specs.Log.{has_started, has_taken, is_unfinished, greatest_of, left_of, rest_of}
 use Rattle.spec_log.specs.Limits.{changes_of}
 use Rattle.spec_log.specs.Rules.{KeepsRules}
-use Rattle.law_undo.specs.Holders.{unfinished_parts, taken_started}
-use Rattle.law_run.specs.Fresh.{started_below, not_started_above, false_if}
+use Rattle.law_undo.proofs.Holders.{unfinished_parts, taken_started}
+use Rattle.law_run.proofs.Fresh.{started_below, not_started_above, false_if}
 use Rattle.spec_plan.specs.declared.plan.Planned.{Planned}
 use Rattle.spec_run.specs.Shapes.{change_item}
 use Rattle.db_core.specs.States.{IsOpen}

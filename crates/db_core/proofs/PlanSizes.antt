@@ -4,7 +4,8 @@ use Rattle.std.proofs.lemmas.List.Sums.{sum_by_more_le}
 use Rattle.spec_log.specs.Bytes.{change_length}
 use Rattle.spec_plan.specs.declared.plan.Planned.{Planned}
 use Rattle.spec_plan.specs.Planned.{planned_size}
-use Rattle.law_plan.specs.Good.{HaveCells, size_bound}
+use Rattle.law_plan.specs.Good.{HaveCells}
+use Rattle.law_plan.proofs.Good.{size_bound}
 
 -- the bytes of few changes
 pub few_bytes : (cs : List Planned) → HaveCells cs → length cs ≤ 4 → planned_size cs ≤ 65616

@@ -21,11 +21,11 @@ use Rattle.spec_run.specs.Shapes.{Writing as WritingShape, plain_start, tran_to_
 use Rattle.spec_run.specs.Begun.{Setting, Answers, Begun, with_memory, refused, by_outcome}
 use Rattle.spec_run.specs.Progress.{is_short, work_of, MayCome}
 use Rattle.spec_run.specs.Sessions.{open_after}
-use Rattle.law_undo.specs.Holders.{unfinished_from}
-use Rattle.law_undo.specs.Views.{sound_rules}
-use Rattle.law_run.specs.Fresh.{not_started_above, not_ended_above}
+use Rattle.law_undo.proofs.Holders.{unfinished_from}
+use Rattle.law_undo.proofs.Views.{sound_rules}
+use Rattle.law_run.proofs.Fresh.{not_started_above, not_ended_above}
 use Rattle.law_run.specs.Doing.{change_items}
-use Rattle.law_run.specs.Legal.{legal_right, doing_opens}
+use Rattle.law_run.proofs.Legal.{legal_right, doing_opens}
 use Rattle.db_core.specs.declared.session.Session.{Session}
 use Rattle.db_core.specs.declared.starts.StatementNo.{StatementNo}
 use Rattle.db_core.specs.States.{whole_log, IsAt, IsOpen, IsSession, GoesOnWith}

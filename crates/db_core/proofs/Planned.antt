@@ -8,12 +8,12 @@ use Rattle.spec_log.specs.Images.{view_of}
 use Rattle.spec_plan.specs.Sight.{Writes}
 use Rattle.spec_plan.specs.Statements.{count_outcome, insert_outcome}
 use Rattle.spec_run.specs.Begun.{begun, by_outcome, sight_of}
-use Rattle.law_undo.specs.Shapes.{view_shape, whole_shape}
+use Rattle.law_undo.proofs.Shapes.{view_shape, whole_shape}
 use Rattle.law_plan.specs.Good.{HaveCells}
-use Rattle.law_plan.specs.InsertGood.{insert_good, count_writes_nothing}
+use Rattle.law_plan.proofs.InsertGood.{insert_good, count_writes_nothing}
 use Rattle.law_plan.proofs.InsertShort.{insert_is_short}
 use Rattle.law_plan.specs.Laws.{IsNoWrite, IsShort}
-use Rattle.law_run.specs.Legal.{legal_right}
+use Rattle.law_run.proofs.Legal.{legal_right}
 use Rattle.db_heap.specs.declared.plan.Plan.{Plan}
 use Rattle.db_heap.specs.declared.plan.Plan.TheVariants as plan
 use Rattle.db_heap.specs.Plans.{outcome_of}

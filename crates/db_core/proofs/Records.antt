@@ -11,7 +11,7 @@ use Rattle.spec_run.specs.Begun.{Setting, Answers, Tells, Begun, begun}
 use Rattle.spec_run.specs.Progress.{Progress, progress_of, script_of, is_short, work_of, first_of, MayCome}
 use Rattle.spec_run.specs.Turns.{IsLegal}
 use Rattle.law_run.specs.Laws.{IsStart}
-use Rattle.law_run.specs.Legal.{with_begun}
+use Rattle.law_run.proofs.Legal.{with_begun}
 use Rattle.db_core.specs.declared.session.Doing.TheVariants.{Idle}
 use Rattle.db_core.specs.declared.session.Session.{Session}
 use Rattle.db_core.specs.States.{whole_log, IsAt, IsOpen, IsSession}

@@ -9,7 +9,7 @@ use Rattle.spec_run.specs.Begun.{Setting}
 use Rattle.spec_run.specs.Progress.{Progress, progress_of, at_work, with_statement, script_of, first_of, next_of}
 use Rattle.spec_run.specs.Turns.{IsLegal, Turn, Rests, Appends, EndsAtOnce, Goes, Marks, Run}
 use Rattle.law_run.specs.Laws.{IsStart}
-use Rattle.law_run.specs.Keeps.{progress_other}
+use Rattle.law_run.proofs.Keeps.{progress_other}
 use Rattle.db_core.specs.declared.session.Doing.{Doing}
 use Rattle.db_core.specs.declared.session.Doing.TheVariants.{Idle, Changing, Ending, Undoing, Checking}
 use Rattle.db_core.specs.declared.session.Session.{Session}

@@ -18,8 +18,8 @@ use Rattle.spec_run.specs.Begun.{Setting, Reports, by_damage}
 use Rattle.spec_run.specs.Progress.{Progress, progress_of, work_of, moved_to, MayCome}
 use Rattle.spec_run.specs.Turns.{IsLegal, AreTold, EndsAtOnce as AtOnce}
 use Rattle.law_run.specs.Laws.{IsStart}
-use Rattle.law_run.specs.Legal.{with_begun, legal_right}
-use Rattle.law_run.specs.Moved.{moved_whole}
+use Rattle.law_run.proofs.Legal.{with_begun, legal_right}
+use Rattle.law_run.proofs.Moved.{moved_whole}
 use Rattle.db_core.specs.declared.session.Check.{Check}
 use Rattle.db_core.specs.declared.session.Doing.TheVariants.{Idle, Checking}
 use Rattle.db_core.specs.declared.session.Session.{Session}

@@ -16,9 +16,9 @@ use Rattle.spec_log.specs.Limits.{all_changes, all_bytes}
 use Rattle.spec_log.specs.Cover.{IsCovered, byte_guard_by, bit_guard_by}
 use Rattle.spec_log.specs.Rules.{KeepsRules, HaveForm}
 use Rattle.spec_log.specs.Images.{page_of_cell, put_before, apply}
-use Rattle.law_undo.specs.Guards.{guarded_inside}
-use Rattle.law_undo.specs.ReadLogs.{cell_form}
-use Rattle.law_undo.specs.Views.{sound_rules, sound_forms}
+use Rattle.law_undo.proofs.Guards.{guarded_inside}
+use Rattle.law_undo.proofs.ReadLogs.{cell_form}
+use Rattle.law_undo.proofs.Views.{sound_rules, sound_forms}
 use Rattle.spec_plan.specs.declared.plan.Planned.{Planned}
 use Rattle.spec_run.specs.Shapes.{change_item}
 use Rattle.spec_run.specs.Begun.{Setting, Answers}
@@ -26,9 +26,9 @@ use Rattle.spec_run.specs.Progress.{Progress, progress_of, work_of, MayCome}
 use Rattle.law_run.specs.Laws.{IsStart}
 use Rattle.spec_run.specs.Turns.{IsLegal}
 use Rattle.law_run.specs.Doing.{change_items}
-use Rattle.law_run.specs.Left.{AreNamed, left_named}
-use Rattle.law_run.specs.Legal.{legal_right}
-use Rattle.law_undo.specs.Shapes.{final_shape}
+use Rattle.law_run.proofs.Left.{AreNamed, left_named}
+use Rattle.law_run.proofs.Legal.{legal_right}
+use Rattle.law_undo.proofs.Shapes.{final_shape}
 use Rattle.db_core.specs.declared.session.Doing.{Doing}
 use Rattle.db_core.specs.declared.session.Doing.TheVariants.{Idle, Changing, Ending, Undoing, Checking}
 use Rattle.db_core.specs.declared.session.Session.{Session}

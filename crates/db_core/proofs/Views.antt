@@ -3,7 +3,7 @@ use Rattle.std.proofs.Common.{◌≡◌, ℕ, zero, suc, Bool, true, false, eqb,
 use Rattle.std.specs.Prelude.{slice_get, filter}
 use Rattle.std.proofs.lemmas.Bool.{false≢true, cond_both, eqb-true, eqb-false, eq-eqb, or_cases, both_ways, not-true, not-false}
 use Rattle.spec_log.specs.Log.{is_unfinished}
-use Rattle.law_undo.specs.Holders.{unfinished_parts}
+use Rattle.law_undo.proofs.Holders.{unfinished_parts}
 use Rattle.db_core.specs.declared.session.Session.{Session}
 use Rattle.db_core.specs.declared.state.State.{State}
 use Rattle.db_core.specs.States.{whole_log, is_among}

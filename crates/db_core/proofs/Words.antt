@@ -5,9 +5,9 @@ use Rattle.std.proofs.lemmas.Bool.{eq-eqb, ne_eqb, lt-ltb, or_left}
 use Rattle.spec_file.specs.Image.{Image}
 use Rattle.spec_log.specs.declared.item.Record.{Record}
 use Rattle.spec_log.specs.Log.{has_started, is_unfinished, greatest_of, left_of}
-use Rattle.law_undo.specs.Holders.{unfinished_from}
-use Rattle.law_run.specs.Fresh.{not_ended_above}
-use Rattle.law_undo.specs.Views.{sound_rules}
+use Rattle.law_undo.proofs.Holders.{unfinished_from}
+use Rattle.law_run.proofs.Fresh.{not_ended_above}
+use Rattle.law_undo.proofs.Views.{sound_rules}
 use Rattle.spec_script.specs.declared.reply.Reply.TheVariants.{Done, Refused}
 use Rattle.spec_script.specs.declared.statement.Statement.{Statement}
 use Rattle.spec_script.specs.Refusals.{plain_refusal}
@@ -17,7 +17,7 @@ use Rattle.spec_run.specs.Progress.{Progress, progress_of}
 use Rattle.spec_run.specs.Turns.{IsLegal}
 use Rattle.law_run.specs.Laws.{IsStart}
 use Rattle.law_run.specs.Doing.{change_items, abort_items}
-use Rattle.law_run.specs.Legal.{legal_right, doing_opens}
+use Rattle.law_run.proofs.Legal.{legal_right, doing_opens}
 use Rattle.db_core.specs.declared.session.Doing.TheVariants.{Ending, Undoing}
 use Rattle.db_core.specs.declared.session.Session.{Session}
 use Rattle.db_core.specs.declared.starts.StatementNo.{StatementNo}

@@ -1,6 +1,8 @@
 -- INSERT and COUNT begin, as they were planned.
 use Rattle.std.specs.Prelude.{◌≡◌, ◌≢◌, ℕ, ◌+◌, ◌*◌, ◌≤◌, ◌==◌, ◌&&◌, ◌||◌, not, nat_lt, Bool, true, false, if◌then◌else◌, List, [], ◌++◌, length, slice_get, slice_set, vec_len, vec_capacity, Some, Ok, Err, ◌⊎◌}
 use Rattle.std.specs.declared.result.Result.{Result}
+use Rattle.spec_log.specs.declared.limits.TheConstants.{MOST_CHANGES, MOST_ITEMS, MOST_BYTES}
+use Rattle.spec_script.specs.declared.limits.TheConstants.{NO_MEMORY, LOG_FULL}
 use Rattle.spec_file.specs.declared.data.NoMemory.{NoMemory}
 use Rattle.spec_file.specs.declared.data.Resource.{Resource}
 use Rattle.spec_log.specs.declared.item.Record.{Record}
@@ -26,7 +28,7 @@ use Rattle.db_core.specs.Words.{IsEnded}
 
 -- a plan's refusal isn't that of want of memory; it takes and changes little, and its cells have their form
 abbrev pub IsProper : Plan → Type 0
-IsProper (plan.Refused refusal) = (refusal.number == 701) ≡ false
+IsProper (plan.Refused refusal) = (refusal.number == NO_MEMORY) ≡ false
 IsProper (plan.Counted count) = Unit {0}
 IsProper (plan.Written takes changes) = (length takes ≤ 3) × (length changes.items ≤ 4) × HaveCells changes.items
 
@@ -50,14 +52,14 @@ used_now x = if x.tran == 0 then 0 else x.used
 -- n changes of so many bytes pass a limit, beside these sums of the log
 abbrev pub exceeds : ℕ → ℕ → ℕ → ℕ → ℕ → Bool
 exceeds used all size n bytes =
-    not (n == 0) && (nat_lt 8192 (used + n) || nat_lt 1048576 (2 * (all + n)) || nat_lt 268435456 (size + (bytes + 17 * n)))
+    not (n == 0) && (nat_lt MOST_CHANGES (used + n) || nat_lt MOST_ITEMS (2 * (all + n)) || nat_lt MOST_BYTES (size + (bytes + 17 * n)))
 
 -- the plan, or the refusal of one that passes a limit
 abbrev pub limited : ℕ → ℕ → ℕ → Plan → Plan
 limited used all size (plan.Refused refusal) = plan.Refused refusal
 limited used all size (plan.Counted count) = plan.Counted count
 limited used all size (plan.Written takes changes) =
-    if exceeds used all size (length changes.items) (planned_size changes.items) then plan.Refused (plain_refusal 9002) else plan.Written takes changes
+    if exceeds used all size (length changes.items) (planned_size changes.items) then plan.Refused (plain_refusal LOG_FULL) else plan.Written takes changes
 
 -- how many changes a plan has, and how many resources it takes
 abbrev pub changes_in : Plan → ℕ
@@ -121,7 +123,7 @@ BeginsBy last place (plan.Written takes changes) old new x = Writes last place t
 
 abbrev pub BeginsAs : ℕ → StatementNo → Result Plan NoMemory → Session → Session → Record → Type 0
 BeginsAs last place (Ok p) old new x = BeginsBy last place p old new x
-BeginsAs last place (Err e) old new x = IsEnded place 701 (Refused (plain_refusal 701)) old new x
+BeginsAs last place (Err e) old new x = IsEnded place NO_MEMORY (Refused (plain_refusal NO_MEMORY)) old new x
 
 -- how many changes an item announces, and their bytes with an Undo for each
 abbrev pub announced_by : Record → ℕ

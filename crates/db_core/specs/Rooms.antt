@@ -1,5 +1,7 @@
 -- Room that the core keeps, so that what it has begun never wants memory.
 use Rattle.std.specs.Prelude.{ℕ, ◌+◌, ◌-◌, ◌*◌, ◌≤◌, Bool, true, false, List, length, vec_capacity, Option, Some, None}
+use Rattle.spec_log.specs.declared.limits.TheConstants.{MOST_CHANGES}
+use Rattle.spec_script.specs.declared.limits.TheConstants.{MOST_LINES}
 use Rattle.spec_log.specs.declared.item.Record.{Record}
 use Rattle.db_core.specs.declared.session.Doing.{Doing}
 use Rattle.db_core.specs.declared.session.Doing.TheVariants.{Idle, Changing, Ending, Undoing, Checking}
@@ -36,12 +38,12 @@ owed_by x = 4 * (length x.script.items - length x.replies.items) - started_of x.
 
 -- a session has room for its replies and for the numbers of its changes
 pub record HasOwnRoom (x : Session) : Type 0 where
-  pub short : length x.script.items ≤ 65536
+  pub short : length x.script.items ≤ MOST_LINES
   pub replies : length x.script.items ≤ vec_capacity x.replies
   pub busy : length x.replies.items + started_of x.doing ≤ length x.script.items
   pub left : length x.left.items + pending_of x.doing ≤ vec_capacity x.left
   pub announced : length x.left.items + pending_of x.doing ≤ x.used
-  pub used : x.used ≤ 8192
+  pub used : x.used ≤ MOST_CHANGES
 
 -- how many turns a statement that is under way still takes at most, over these items
 abbrev pub turns_left : List Record → Session → Doing → ℕ

@@ -1,6 +1,7 @@
 -- What the core keeps of each session, tied to the history.
 use Rattle.std.specs.Prelude.{◌≡◌, ℕ, ◌+◌, ◌-◌, ◌<◌, ◌≤◌, ◌==◌, Bool, true, false, List, [], ◌∷◌, ◌++◌, length, map, reverse, take, slice_get, slice_index, vec_capacity, Option, Some, None, ◌⊎◌}
 use Rattle.std.specs.List.{list_any}
+use Rattle.spec_log.specs.declared.limits.TheConstants.{MOST_CHANGES}
 use Rattle.spec_file.specs.declared.data.Resource.{Resource}
 use Rattle.spec_file.specs.declared.geometry.Geometry.TheVariants.{Small}
 use Rattle.spec_file.specs.Image.{Image}
@@ -136,7 +137,7 @@ pub record KeepsRoom (old new : Session) : Type 0 where
 abbrev pub StepsBack : List ℕ → List Record → Session → Session → Image → Image → Record → Type 0
 StepsBack [] items old new pages after x =
     (x ≡ Abort (record { 0 = old.tran })) × (new.script.items ≡ old.script.items) × (new.tran ≡ 0) × (new.doing ≡ Idle)
-    × (new.replies.items ≡ old.replies.items ++ Done ∷ []) × (after ≡ pages) × (new.left.items ≡ []) × (new.used ≤ 8192)
+    × (new.replies.items ≡ old.replies.items ++ Done ∷ []) × (after ≡ pages) × (new.left.items ≡ []) × (new.used ≤ MOST_CHANGES)
 StepsBack (n ∷ rest) items old new pages after x =
     (x ≡ Undo (record { 0 = old.tran }) (record { 0 = n })) × Keeps old new × (reverse new.left.items ≡ rest) × (new.doing ≡ Undoing)
     × (new.replies.items ≡ old.replies.items) × (after ≡ put_before (slice_get items (n - 1)) pages)
@@ -165,7 +166,7 @@ StepsBy number items old new pages after x (Changing next later own rows) =
     × GoesOnWith (reverse later.items) own rows old new
 StepsBy number items old new pages after x (Ending rows) =
     (x ≡ Commit (record { 0 = old.tran })) × (after ≡ pages) × (new.script.items ≡ old.script.items) × (new.tran ≡ 0) × (new.doing ≡ Idle)
-    × (new.replies.items ≡ old.replies.items ++ reply_of rows ∷ []) × (new.left.items ≡ []) × (new.used ≤ 8192)
+    × (new.replies.items ≡ old.replies.items ++ reply_of rows ∷ []) × (new.left.items ≡ []) × (new.used ≤ MOST_CHANGES)
 StepsBy number items old new pages after x Undoing = StepsBack (reverse old.left.items) items old new pages after x
 StepsBy number items old new pages after x (Checking check) = ⊥
 

@@ -1,5 +1,6 @@
 -- The core's state as a whole, and what a turn makes of it.
 use Rattle.std.specs.Prelude.{◌≡◌, ℕ, ◌+◌, ◌-◌, ◌<◌, ◌≤◌, max, Bool, true, false, List, [], ◌∷◌, ◌++◌, length, map, reverse, sum_by, slice_get, vec_len, vec_capacity, Some, None, ◌⊎◌}
+use Rattle.spec_log.specs.declared.limits.TheConstants.{MOST_ITEMS, MOST_BYTES}
 use Rattle.spec_file.specs.declared.geometry.Geometry.TheVariants.{Small}
 use Rattle.spec_log.specs.declared.item.Record.{Record}
 use Rattle.spec_log.specs.declared.item.Record.TheVariants.{Snap}
@@ -48,8 +49,8 @@ pub record IsGood (st : State) : Type 0 where
   pub low : st.last ≤ length st.items.items
   pub shape : HasShape Small (length st.base.value)
   pub proper : AreProper (run_is st)
-  pub all_low : st.all ≤ 524288
-  pub size_low : st.size ≤ 268435456
+  pub all_low : st.all ≤ MOST_ITEMS / 2
+  pub size_low : st.size ≤ MOST_BYTES
 
 -- a turn of a session, from one state to the next
 abbrev pub IsTurn : ℕ → State → State → Type 0

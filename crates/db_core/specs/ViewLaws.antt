@@ -14,16 +14,16 @@ use Rattle.spec_plan.specs.Shown.{IsShown}
 use Rattle.spec_run.specs.Begun.{Setting}
 use Rattle.spec_run.specs.Progress.{progress_of}
 use Rattle.law_undo.specs.Laws.{IsOngoing}
-use Rattle.law_undo.specs.Holders.{unfinished_parts}
-use Rattle.law_undo.specs.Views.{sound_rules}
-use Rattle.law_undo.specs.Shapes.{final_shape}
-use Rattle.law_run.specs.Doing.{Owns}
-use Rattle.law_undo.specs.Law.{zero_open}
-use Rattle.law_run.specs.Legal.{IsRight, legal_right, doing_opens}
-use Rattle.law_run.specs.Ongoing.{unfinished_is_open}
+use Rattle.law_undo.proofs.Holders.{unfinished_parts}
+use Rattle.law_undo.proofs.Views.{sound_rules}
+use Rattle.law_undo.proofs.Shapes.{final_shape}
+use Rattle.law_run.proofs.Doing.{Owns}
+use Rattle.law_undo.proofs.Law.{zero_open}
+use Rattle.law_run.proofs.Legal.{IsRight, legal_right, doing_opens}
+use Rattle.law_run.proofs.Ongoing.{unfinished_is_open}
 use Rattle.law_pages.specs.Laws.{ListsHolders}
-use Rattle.law_pages.specs.Pages.{file_is_shown}
-use Rattle.law_pages.specs.Sessions.{holder_is_session, first_is_among}
+use Rattle.law_pages.proofs.Pages.{file_is_shown}
+use Rattle.law_pages.proofs.Sessions.{holder_is_session, first_is_among}
 use Rattle.spec_file.specs.Places.{HasShape}
 use Rattle.db_core.specs.declared.session.Session.{Session}
 use Rattle.db_core.specs.declared.state.State.{State}

@@ -23,8 +23,8 @@ use ck_scan::scan_one;
 use pg_base::{Geometry, ReadStop};
 use spec_check::CheckReport;
 use spec_file::{Lsn, NoMemory};
-use spec_log::Record;
-use spec_script::{Refusal, Reply};
+use spec_log::{REPORTED, Record, SHORT};
+use spec_script::{NO_MEMORY, Refusal, Reply};
 use std::alloc::Global;
 use vol_pool::{Frames, FramesReader};
 
@@ -112,7 +112,7 @@ fn end_in(
             Record::CheckEnd {
                 session: number,
                 index,
-                outcome: 0,
+                outcome: REPORTED,
             }
         }
         Err(NoMemory) => short_end(alloc, session, place),
@@ -124,11 +124,11 @@ fn short_end(alloc: Global, session: &mut Session, place: StatementNo) -> Record
     requires { vec_len session.old.replies < vec_capacity session.old.replies }
     ensures { EndsAtOnce place session.old session.new result }
 {
-    end(session, Reply::Refused(Refusal::plain(alloc, 701)));
+    end(session, Reply::Refused(Refusal::plain(alloc, NO_MEMORY)));
     Record::CheckEnd {
         session: place.session,
         index: place.index,
-        outcome: 3,
+        outcome: SHORT,
     }
 }
 

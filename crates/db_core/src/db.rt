@@ -1,5 +1,6 @@
 //! The core, as the crates above see it.
 ghost use Rattle.std.specs.Prelude.{◌≡◌, ◌+◌, ◌-◌, ◌<◌, ◌≤◌, ◌++◌, [], length, map, reverse, slice_get, Some, IfOk, List, ℕ, true, false};
+ghost use Rattle.spec_script.specs.declared.limits.TheConstants.{MOST_LINES};
 ghost use Rattle.std.specs.List.{list_any};
 ghost use Rattle.spec_file.specs.declared.geometry.Geometry.TheVariants.{Small};
 ghost use Rattle.spec_log.specs.Cells.{HasWholePages};
@@ -58,7 +59,7 @@ impl Core {
         requires whole { HasWholePages frames }
         requires shape { HasShape Small (length frames) }
         requires few { length scripts.items ≤ 16 }
-        requires short { (k : ℕ) (script : List AnyStatement) → slice_get (map (λ s. s.items) scripts.items) k ≡ Some script → length script ≤ 65536 }
+        requires short { (k : ℕ) (script : List AnyStatement) → slice_get (map (λ s. s.items) scripts.items) k ≡ Some script → length script ≤ MOST_LINES }
         requires proper { (k n : ℕ) (script : List AnyStatement) (st : AnyStatement) → slice_get (map (λ s. s.items) scripts.items) k ≡ Some script → slice_get script n ≡ Some st → is_statement st ≡ true }
         ensures { IfOk result (λ core. (core.run ≡ setting_of frames (map (λ s. s.items) scripts.items)) × (core.entries ≡ []) × ((s : ℕ) → left_in core s ≡ 0)) }
     {
@@ -116,7 +117,7 @@ impl Core {
         requires above { 0 < session }
         requires within { session ≤ length self.now.run.scripts }
         ensures told { AreTold self.now.run.geometry (told_to self.now.run session (items_of self.now.entries)) result.now }
-        ensures few { length result.now ≤ 65536 }
+        ensures few { length result.now ≤ MOST_LINES }
         ensures reported { list_any is_terminated result.now ≡ false }
     {
         &self.state.sessions[session as usize - 1].replies
@@ -138,6 +139,3 @@ impl Core {
         &self.state.frames
     }
 }
-
-#[cfg(test)]
-mod tests;

@@ -16,9 +16,9 @@ use crate::steps::{end, go_on};
 use crate::turns::place_of;
 use db_heap::Plan;
 use spec_file::{NoMemory, Resource, Tran};
-use spec_log::{Record, Values};
+use spec_log::{MOST_BYTES, MOST_CHANGES, MOST_ITEMS, Record, Values};
 use spec_plan::Planned;
-use spec_script::{Refusal, Reply};
+use spec_script::{LOG_FULL, NO_MEMORY, Refusal, Reply};
 use std::alloc::Global;
 
 /// The bytes that planned changes have in the log.
@@ -43,24 +43,24 @@ fn used_now(session: &Session) -> u64
 
 /// Whether changes of so many bytes pass a limit, beside what the log announces already.
 fn exceeds(used: u64, all: u64, size: u64, changes: u64, bytes: u64) -> bool
-    requires used { used ≤ 8192 }
-    requires all { all ≤ 524288 }
-    requires size { size ≤ 268435456 }
+    requires used { used ≤ MOST_CHANGES }
+    requires all { all ≤ MOST_ITEMS / 2 }
+    requires size { size ≤ MOST_BYTES }
     requires few { changes ≤ 4 }
     requires bytes { bytes ≤ 65616 }
     ensures { result ≡ spec.exceeds used all size changes bytes }
 {
     changes != 0
-        && (used + changes > 8192
-            || 2 * (all + changes) > 1048576
-            || size + (bytes + 17 * changes) > 268435456)
+        && (used + changes > MOST_CHANGES
+            || 2 * (all + changes) > MOST_ITEMS
+            || size + (bytes + 17 * changes) > MOST_BYTES)
 }
 
 /// The plan, or the refusal of one that passes a limit of the log.
 fn limited(alloc: Global, used: u64, all: u64, size: u64, plan: Plan) -> Plan
-    requires used { used ≤ 8192 }
-    requires all { all ≤ 524288 }
-    requires size { size ≤ 268435456 }
+    requires used { used ≤ MOST_CHANGES }
+    requires all { all ≤ MOST_ITEMS / 2 }
+    requires size { size ≤ MOST_BYTES }
     requires small { IsProper plan }
     ensures { result ≡ spec.limited used all size plan }
 {
@@ -68,7 +68,7 @@ fn limited(alloc: Global, used: u64, all: u64, size: u64, plan: Plan) -> Plan
         Plan::Written { takes, changes } => {
             let bytes = size_of(&changes);
             if exceeds(used, all, size, changes.len() as u64, bytes) {
-                Plan::Refused(Refusal::plain(alloc, 9002))
+                Plan::Refused(Refusal::plain(alloc, LOG_FULL))
             } else {
                 Plan::Written { takes, changes }
             }
@@ -171,7 +171,7 @@ fn announce(
     requires replies { vec_len session.old.replies < vec_capacity session.old.replies }
     requires few { length changes.items ≤ 4 }
     requires cells { HaveCells changes.items }
-    requires used { session.old.used ≤ 8192 }
+    requires used { session.old.used ≤ MOST_CHANGES }
     requires held { length session.old.held.items + length takes ≤ vec_capacity session.old.held }
     ensures writing { IsWriting place session.old.tran takes changes.items session.old.left.items session.old.held.items session.old.used own session.old session.new result }
     ensures kept_room { KeepsRoom session.old session.new }
@@ -207,7 +207,7 @@ fn write(
     requires replies { vec_len session.old.replies < vec_capacity session.old.replies }
     requires few { length changes.items ≤ 4 }
     requires cells { HaveCells changes.items }
-    requires used { session.old.used ≤ 8192 }
+    requires used { session.old.used ≤ MOST_CHANGES }
     requires held { length session.old.held.items + length takes ≤ vec_capacity session.old.held }
     requires low { last + 1 < 2 ^ 64 }
     ensures writes { Writes last place takes changes.items session.old session.new result }
@@ -224,7 +224,7 @@ fn write(
 fn start_by(alloc: Global, session: &mut Session, place: StatementNo, last: u64, plan: Plan) -> Record
     requires replies { vec_len session.old.replies < vec_capacity session.old.replies }
     requires small { IsProper plan }
-    requires used { session.old.used ≤ 8192 }
+    requires used { session.old.used ≤ MOST_CHANGES }
     requires held { length session.old.held.items + spec.takes_in plan ≤ vec_capacity session.old.held }
     requires low { last + 1 < 2 ^ 64 }
     ensures begins { BeginsBy last place plan session.old session.new result }
@@ -247,7 +247,7 @@ fn start_planned(
 ) -> Record
     requires replies { vec_len session.old.replies < vec_capacity session.old.replies }
     requires small { IfOk plan IsProper }
-    requires used { session.old.used ≤ 8192 }
+    requires used { session.old.used ≤ MOST_CHANGES }
     requires held { IfOk plan (λ p. length session.old.held.items + spec.takes_in p ≤ vec_capacity session.old.held) }
     requires low { last + 1 < 2 ^ 64 }
     ensures begins { BeginsAs last place plan session.old session.new result }
@@ -255,7 +255,7 @@ fn start_planned(
 {
     match plan {
         Ok(plan) => start_by(alloc, session, place, last, plan),
-        Err(NoMemory) => refuse(alloc, session, place, 701),
+        Err(NoMemory) => refuse(alloc, session, place, NO_MEMORY),
     }
 }
 
@@ -343,6 +343,3 @@ pub fn begin_planned(state: &mut State, at: usize, plan: Result<Plan, NoMemory>)
     let plan = prepare(state, at, plan);
     begin_ready(state, at, plan);
 }
-
-#[cfg(test)]
-mod tests;

@@ -10,7 +10,7 @@ use crate::session::{Doing, Session};
 use crate::steps::end;
 use spec_file::Tran;
 use spec_log::{Record, Values};
-use spec_script::{Refusal, Reply, Statement};
+use spec_script::{IS_OPEN, NOTHING_TO_COMMIT, NOTHING_TO_UNDO, Refusal, Reply, Statement};
 use std::alloc::Global;
 
 /// Which statement of which session, both from 1.
@@ -122,7 +122,7 @@ pub fn start(alloc: Global, session: &mut Session, place: StatementNo, last: u64
     match word {
         Word::Begin => {
             if open_now {
-                return refuse(alloc, session, place, 60001);
+                return refuse(alloc, session, place, IS_OPEN);
             }
             open(alloc, session, place, last + 1)
         }
@@ -130,13 +130,13 @@ pub fn start(alloc: Global, session: &mut Session, place: StatementNo, last: u64
             if open_now {
                 return start_commit(alloc, session, place);
             }
-            refuse(alloc, session, place, 3902)
+            refuse(alloc, session, place, NOTHING_TO_COMMIT)
         }
         Word::Rollback => {
             if open_now {
                 return start_undo(alloc, session, place);
             }
-            refuse(alloc, session, place, 3903)
+            refuse(alloc, session, place, NOTHING_TO_UNDO)
         }
     }
 }

@@ -1,5 +1,6 @@
 //! The steps of a statement that is under way.
 ghost use Rattle.std.specs.Prelude.{◌≡◌, ◌+◌, ◌-◌, ◌<◌, ◌≤◌, [], ◌∷◌, ◌++◌, length, reverse, slice_get, Some, vec_len, vec_capacity};
+ghost use Rattle.spec_log.specs.declared.limits.TheConstants.{MOST_CHANGES};
 ghost use Rattle.spec_file.specs.declared.data.Tran.{Tran};
 ghost use Rattle.spec_log.specs.declared.item.Record.TheVariants.{Commit};
 ghost use Rattle.spec_log.specs.Cells.{put as image_with};
@@ -151,7 +152,7 @@ pub fn commit(alloc: Global, session: &mut Session, rows: Option<u64>) -> Record
     requires { vec_len session.old.replies < vec_capacity session.old.replies }
     ensures item { result ≡ Commit (record { 0 = session.old.tran }) }
     ensures script { session.new.script.items ≡ session.old.script.items }
-    ensures used { session.new.used ≤ 8192 }
+    ensures used { session.new.used ≤ MOST_CHANGES }
     ensures tran { session.new.tran ≡ 0 }
     ensures kept_room { KeepsRoom session.old session.new }
     ensures left { session.new.left.items ≡ [] }

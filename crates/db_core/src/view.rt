@@ -5,9 +5,6 @@ ghost use Rattle.spec_log.specs.Items.{is_same as same_resource};
 ghost use Rattle.db_core.specs.Store.{IsGood};
 ghost use Rattle.db_core.specs.Views.{has_held, holds_beside, open_trans};
 
-#[cfg(test)]
-mod tests;
-
 use crate::session::Session;
 use crate::state::State;
 use db_heap::PlanView;

@@ -22,6 +22,3 @@ pub use insert::plan_insert;
 pub use plan::Plan;
 pub use stop::Stop;
 pub use view::PlanView;
-
-#[cfg(test)]
-mod tests;

@@ -4,9 +4,10 @@ ghost use Rattle.spec_plan.specs.Changes as spec;
 ghost use Rattle.heap_page.specs.Spans.{changes_of_byte};
 
 use crate::span::{Span, differing_span};
-use pg_base::{NoMemory, Page, PageNo};
+use pg_base::{MAPS_START, NoMemory, PAGE_SIZE, Page, PageNo};
 use spec_log::{Cell, Values};
 use spec_plan::Planned;
+use spec_rows::SLOT_LIMIT;
 use std::alloc::Global;
 
 /// The net changes of page p: rows, slots, header, each from the first to the last byte that differs.
@@ -17,7 +18,7 @@ pub fn page_changes(
     new: &Page,
     slots: u16,
 ) -> Result<Vec<Planned>, NoMemory>
-    requires { slots ≤ 4048 }
+    requires { slots ≤ SLOT_LIMIT }
     ensures { IfOk result (λ changes. changes.items ≡ spec.page_changes p.0 old.now.bytes new.now.bytes slots) }
 {
     with_page_changes(alloc, Vec::with_capacity(alloc, 3)?, p, old, new, slots)
@@ -32,13 +33,13 @@ pub fn with_page_changes(
     new: &Page,
     slots: u16,
 ) -> Result<Vec<Planned>, NoMemory>
-    requires { slots ≤ 4048 }
+    requires { slots ≤ SLOT_LIMIT }
     ensures { IfOk result (λ all. all.items ≡ changes.items ++ spec.page_changes p.0 old.now.bytes new.now.bytes slots) }
 {
-    let slots_from = 8192 - 2 * slots as usize;
-    add_change(alloc, &mut changes, p, old, new, 96, slots_from)?;
-    add_change(alloc, &mut changes, p, old, new, slots_from, 8192)?;
-    add_change(alloc, &mut changes, p, old, new, 0, 96)?;
+    let slots_from = PAGE_SIZE - 2 * slots as usize;
+    add_change(alloc, &mut changes, p, old, new, MAPS_START, slots_from)?;
+    add_change(alloc, &mut changes, p, old, new, slots_from, PAGE_SIZE)?;
+    add_change(alloc, &mut changes, p, old, new, 0, MAPS_START)?;
     Ok(changes)
 }
 
@@ -53,7 +54,7 @@ fn add_change(
     hi: usize,
 ) -> Result<(), NoMemory>
     requires order { lo ≤ hi }
-    requires end { hi ≤ 8192 }
+    requires end { hi ≤ PAGE_SIZE }
     ensures { OnOk result (changes.new.items ≡ changes.old.items ++ spec.change_between p.0 old.now.bytes new.now.bytes lo hi) }
 {
     if let Some(span) = differing_span(old, new, lo, hi) {
@@ -72,7 +73,7 @@ fn bytes_change(
     span: Span,
 ) -> Result<Planned, NoMemory>
     requires order { span.from ≤ span.to }
-    requires end { span.to ≤ 8192 }
+    requires end { span.to ≤ PAGE_SIZE }
     ensures { IfOk result (λ change. change ≡ spec.bytes_change p.0 old.now.bytes new.now.bytes span.from span.to) }
 {
     Ok(Planned {

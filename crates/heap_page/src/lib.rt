@@ -8,6 +8,3 @@ mod span;
 
 pub use change::{byte_change, page_changes, with_page_changes};
 pub use page::{has_room, heap_row, is_heap_page, put_row};
-
-#[cfg(test)]
-mod tests;

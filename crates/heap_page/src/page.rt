@@ -6,6 +6,8 @@ ghost use Rattle.heap_page.specs.Pages.{IsHeapPage, KeepsTest};
 use pg_base::{Kind, ObjId, Page, PageNo, is_whole, read_header};
 use pg_row::{Row, write_row};
 use pg_slots::{insert_at, test_page};
+use spec_file::{PAYLOAD_LIMIT, ROW_LIMIT};
+use spec_rows::DATA_HEAD;
 
 /// Whether page p passes the page test as a heap page of the object.
 pub fn is_heap_page(page: &Page, p: PageNo, object: ObjId) -> bool
@@ -31,15 +33,15 @@ pub fn put_row(page: &mut Page, row: &[u8])
 {
     is_whole(page);
     let last = read_header(page).slots;
-    let _put = insert_at(page, last, row);
+    let _put = insert_at(page, Kind::Heap, last, row);
     is_whole(page);
 }
 
 /// The bytes of a heap's row, and how many they are.
-pub fn heap_row(key: u64, payload: &[u8], into: &mut [u8; 1024]) -> u16
-    requires { length payload.now ≤ 1013 }
+pub fn heap_row(key: u64, payload: &[u8], into: &mut [u8; ROW_LIMIT]) -> u16
+    requires { length payload.now ≤ PAYLOAD_LIMIT }
     ensures bytes { take result into.new ≡ spec.heap_row key payload.now }
-    ensures length { result ≡ 11 + length payload.now }
+    ensures length { result ≡ DATA_HEAD + length payload.now }
     ensures row { IsTrue (is_data_row (take result into.new)) }
 {
     write_row(&Row::Leaf { key, payload }, into)

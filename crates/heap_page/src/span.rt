@@ -3,7 +3,7 @@ ghost use Rattle.std.specs.Prelude.{◌≡◌, ◌<◌, ◌≤◌, IfSome};
 ghost use Rattle.spec_plan.specs.Changes.{differing};
 ghost use Rattle.heap_page.specs.Spans.{EndsBy, span_of, wider};
 
-use pg_base::Page;
+use pg_base::{PAGE_SIZE, Page};
 
 /// The bytes of a page from one offset to before another.
 #[derive(Clone, Copy)]
@@ -15,7 +15,7 @@ pub(crate) struct Span {
 /// The bytes from the first to the last that differs, of those from one offset to before another.
 pub(crate) fn differing_span(old: &Page, new: &Page, lo: usize, hi: usize) -> Option<Span>
     requires order { lo ≤ hi }
-    requires end { hi ≤ 8192 }
+    requires end { hi ≤ PAGE_SIZE }
     ensures span { result ≡ span_of (differing old.now.bytes new.now.bytes lo hi) }
     ensures within { IfSome result (EndsBy hi) }
 {
@@ -30,7 +30,7 @@ pub(crate) fn differing_span(old: &Page, new: &Page, lo: usize, hi: usize) -> Op
 
 // The same bytes, and those behind them up to this one.
 fn widened(span: Option<Span>, at: usize) -> Span
-    requires { at < 8192 }
+    requires { at < PAGE_SIZE }
     ensures { result ≡ wider span at }
 {
     let from = match span {

@@ -12,8 +12,8 @@ use Rattle.spec_plan.specs.Rows.{heap_row, with_row, free_count}
 use Rattle.spec_plan.specs.Changes.{differing, change_over, change_between, page_changes}
 use Rattle.spec_plan.specs.Statements.{with_fullness, byte_change, not_own, row_put, inserted}
 use Rattle.law_plan.specs.Laws.{IsShort, InsertIsShort}
-use Rattle.law_plan.specs.ReadingGood.{all_heap, all_inserted}
-use Rattle.law_plan.specs.InsertGood.{few_rest}
+use Rattle.law_plan.proofs.ReadingGood.{all_heap, all_inserted}
+use Rattle.law_plan.proofs.InsertGood.{few_rest}
 
 over_short : (p : ℕ) (old new ds : List ℕ) → length (change_over p old new ds) ≤ 1
 over_short p old new [] = omega arith

@@ -2,7 +2,7 @@
 use Rattle.spec_plan.specs.Rows.{heap_row}
 use Rattle.spec_plan.specs.Statements.{counted, inserted}
 use Rattle.law_plan.specs.Laws.{IsNumbered, OutcomesAreNumbered}
-use Rattle.law_plan.specs.ReadingGood.{all_heap, all_counted, all_inserted}
+use Rattle.law_plan.proofs.ReadingGood.{all_heap, all_counted, all_inserted}
 
 pub outcomes_are_numbered : OutcomesAreNumbered
 outcomes_are_numbered sight name = (

@@ -3,6 +3,7 @@ use Rattle.std.proofs.Common.{◌≡◌, ℕ, ◌+◌, ◌-◌, ◌*◌, ◌≤�
 use Rattle.std.specs.Prelude.{slice_range}
 use Rattle.std.proofs.lemmas.Bool.{eqb-true, le-leb, lt-leb, cond-true, cond-false, cases_lt}
 use Rattle.spec_file.specs.declared.header.Header.{Header}
+use Rattle.spec_file.specs.declared.data.Kind.TheVariants.{Heap}
 use Rattle.spec_file.specs.Header.{header_of}
 use Rattle.spec_rows.specs.Slots.{slot_count, rows_end, slot_at, rows_size}
 use Rattle.spec_rows.specs.PageTest.{HoldsRows}
@@ -57,7 +58,7 @@ record Room (bytes : List ℕ) : Type 0 where
   high : rows_end bytes + 2 * slot_count bytes ≤ 8192
   free : free_count bytes + rows_size bytes (slot_count bytes) + 2 * slot_count bytes ≡ 8096
 
-room_of : (bytes : List ℕ) → HoldsRows bytes → Room bytes
+room_of : (bytes : List ℕ) → HoldsRows Heap bytes → Room bytes
 room_of bytes holds =
     let room = rows_room (header_of bytes) holds.room in
     record {
@@ -107,7 +108,7 @@ placed_in_packed old middle new row small long room enough packed placed =
     (placed_parts (compacted old) middle new count (free_count old) end row counts like (omega arith) within placed (slots ∙ sym parts.slots))
 
 -- the law
-pub row_inserted : (old new row : List ℕ) → AreBytes old → AreBytes new → length old ≡ 8192 → HoldsRows old → length row + 2 ≤ free_count old →
+pub row_inserted : (old new row : List ℕ) → AreBytes old → AreBytes new → length old ≡ 8192 → HoldsRows Heap old → length row + 2 ≤ free_count old →
     IsInserted (slot_count old) row old new → new ≡ with_row old row
 row_inserted old new row small small' long holds enough (AtEnd fits placed) =
     placed_at_end old new row small small' long (room_of old holds) fits placed

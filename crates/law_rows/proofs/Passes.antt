@@ -47,9 +47,9 @@ test_from p o bytes passes =
     let count = slot_count bytes in
     let owner = and_parts (is_none (owner_fault p o Heap (header_of bytes))) _ passes in
     let form = and_parts (is_none (form_fault Heap (header_version bytes) (header_of bytes))) _ owner.1 in
-    let slot = and_parts (list_all (λ i. is_none (slot_fault bytes i)) (range_with_len 0 count)) _ form.1 in
+    let slot = and_parts (list_all (λ i. is_none (slot_fault Heap bytes i)) (range_with_len 0 count)) _ form.1 in
     let rest = and_parts (list_all (λ i. list_all (are_rows_apart bytes i) (range_with_len 0 count)) (range_with_len 0 count)) (has_free_count bytes) slot.1 in
-    let slots : SlotsPass bytes = λ i within. none_from (slot_fault bytes i) (each_below (λ k. is_none (slot_fault bytes k)) count i slot.0 within) in
+    let slots : SlotsPass Heap bytes = λ i within. none_from (slot_fault Heap bytes i) (each_below (λ k. is_none (slot_fault Heap bytes k)) count i slot.0 within) in
     let apart : AreApart bytes =
     λ i j first second other. apart_parts bytes i j (each_below (are_rows_apart bytes i) count j (each_below (λ k. list_all (are_rows_apart bytes k) (range_with_len 0 count)) count i rest.0 first) second) other in
     passes_from p o Heap bytes
@@ -57,7 +57,7 @@ test_from p o bytes passes =
       owner = none_from (owner_fault p o Heap (header_of bytes)) owner.0;
       form = none_from (form_fault Heap (header_version bytes) (header_of bytes)) form.0;
     })
-    slots (order_from_apart bytes (λ i within. (row_stands bytes i (slots i within)).least) apart) rest.1
+    slots (order_from_apart bytes (λ i within. (row_stands Heap bytes i (slots i within)).least) apart) rest.1
 
 pub test_into : (p o : ℕ) (bytes : List ℕ) → PassesTest p o Heap bytes → passes_page p o bytes ≡ true
 unfolding passes_page
@@ -65,9 +65,9 @@ test_into p o bytes test =
     let count = slot_count bytes in
     let header = header_passes p o Heap bytes test in
     let holds = test.rest.holds in
-    let apart = apart_from_order bytes (rows_room (header_of bytes) holds.room).few holds.slots holds.order in
+    let apart = apart_from_order bytes (rows_room (header_of bytes) holds.room).few holds.order in
     and_from _ _ (ap is_none header.owner) (and_from _ _ (ap is_none header.form)
-    (and_from _ _ (all_below (λ i. is_none (slot_fault bytes i)) count (λ i within. ap is_none (holds.slots i within)))
+    (and_from _ _ (all_below (λ i. is_none (slot_fault Heap bytes i)) count (λ i within. ap is_none (holds.slots i within)))
     (and_from _ _ (all_below (λ i. list_all (are_rows_apart bytes i) (range_with_len 0 count)) count
     (λ i first. all_below (are_rows_apart bytes i) count (λ j second. apart_from bytes i j apart first second))) holds.free)))
 

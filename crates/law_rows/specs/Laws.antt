@@ -1,6 +1,7 @@
 -- What a plan says of the catalog and of a heap's pages is what the relations of pages say.
 use Rattle.std.specs.Prelude.{◌≡◌, ◌↔◌, ◌+◌, ◌≤◌, true, List, length, ℕ}
 use Rattle.spec_file.specs.declared.data.Kind.TheVariants.{Heap}
+use Rattle.spec_file.specs.declared.sizes.TheConstants.{PAGE_SIZE}
 use Rattle.spec_file.specs.Catalog.{PassesCatalog}
 use Rattle.spec_file.specs.Header.{header_of}
 use Rattle.spec_rows.specs.Slots.{slot_count}
@@ -20,5 +21,5 @@ PagePasses = (p o : ℕ) (bytes : List ℕ) → (passes_page p o bytes ≡ true)
 
 -- a row put in behind the last one of a page makes the page that a plan says
 abbrev pub InsertedIsWithRow : Type 0
-InsertedIsWithRow = (old new row : List ℕ) → AreBytes old → AreBytes new → length old ≡ 8192 → HoldsRows old → length row + 2 ≤ (header_of old).free_count →
+InsertedIsWithRow = (old new row : List ℕ) → AreBytes old → AreBytes new → length old ≡ PAGE_SIZE → HoldsRows Heap old → length row + 2 ≤ (header_of old).free_count →
     IsInserted (slot_count old) row old new → new ≡ with_row old row

@@ -17,14 +17,15 @@ use Rattle.spec_plan.specs.Statements.{count_outcome, insert_outcome}
 use Rattle.spec_run.specs.Shapes.{Refused as Refusing, Opening, Writing, Committing, RollingBack, plain_start, tran_to_write}
 use Rattle.spec_log.specs.Sound.{IsSound}
 use Rattle.spec_run.specs.Begun.{Setting, Answers, surely, with_memory, refused, by_outcome, by_damage, sight_of}
-use Rattle.law_undo.specs.Shapes.{view_shape, whole_shape}
-use Rattle.law_plan.specs.Good.{HaveCells, size_bound}
+use Rattle.law_undo.proofs.Shapes.{view_shape, whole_shape}
+use Rattle.law_plan.specs.Good.{HaveCells}
+use Rattle.law_plan.proofs.Good.{size_bound}
 use Rattle.law_plan.specs.Laws.{IsNoWrite, IsShort}
-use Rattle.law_plan.specs.InsertGood.{insert_good, count_writes_nothing}
+use Rattle.law_plan.proofs.InsertGood.{insert_good, count_writes_nothing}
 use Rattle.law_plan.proofs.InsertShort.{insert_is_short}
 use Rattle.law_run.specs.Laws.{IsStart, IsBounded, BegunIsBounded}
 use Rattle.law_run.specs.Doing.{change_items, abort_items}
-use Rattle.law_run.specs.Begins.{start_form, plain_form, snap_form, end_form}
+use Rattle.law_run.proofs.Begins.{start_form, plain_form, snap_form, end_form}
 
 -- changes, and maybe a Commit
 change_forms : (t : ℕ) (changes : List Planned) (own : Bool) → HaveCells changes → HaveForm (change_items t changes own)

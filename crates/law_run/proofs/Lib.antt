@@ -1,1 +1,14 @@
 pub mod Bounds
+pub mod Left
+pub mod Shows
+pub mod Written
+pub mod Plans
+pub mod Fresh
+pub mod Moved
+pub mod Doing
+pub mod Ongoing
+pub mod Begins
+pub mod Keeps
+pub mod Others
+pub mod Steps
+pub mod Legal

@@ -1,14 +1,2 @@
-pub mod Others
-pub mod Fresh
-pub mod Plans
 pub mod Doing
-pub mod Keeps
-pub mod Left
-pub mod Shows
-pub mod Moved
-pub mod Steps
-pub mod Begins
-pub mod Written
 pub mod Laws
-pub mod Legal
-pub mod Ongoing

@@ -10,7 +10,7 @@ use Rattle.spec_run.specs.Begun.{Setting}
 use Rattle.spec_run.specs.Progress.{Progress, progress_of, script_of, first_of, at_work, with_statement, next_of}
 use Rattle.spec_run.specs.Turns.{IsLegal, told_to}
 use Rattle.law_run.specs.Laws.{IsStart}
-use Rattle.law_run.specs.Legal.{legal_is_sound, next_belongs}
+use Rattle.law_run.proofs.Legal.{legal_is_sound, next_belongs}
 use Rattle.law_shape.specs.Answered.{begun_at, AreAnswered, IsUnderWay}
 use Rattle.law_shape.specs.Laws.{LegalIsServed, WholeIsServed, LegalHasItems, WholeHasItems}
 use Rattle.law_shape.proofs.Shaped.{some_first}

@@ -11,10 +11,10 @@ use Rattle.spec_run.specs.Begun.{Setting, Telling, begun}
 use Rattle.spec_run.specs.Progress.{Progress, progress_of, script_of, is_short, first_of, at_work, with_statement, work_of, cut_short, moved_to, moved, MayCome}
 use Rattle.spec_run.specs.Turns.{IsLegal}
 use Rattle.law_run.specs.Laws.{IsStart}
-use Rattle.law_run.specs.Legal.{next_belongs}
-use Rattle.law_run.specs.Keeps.{progress_other}
-use Rattle.law_run.specs.Moved.{moved_whole, moved_short}
-use Rattle.law_run.specs.Ongoing.{own_tran}
+use Rattle.law_run.proofs.Legal.{next_belongs}
+use Rattle.law_run.proofs.Keeps.{progress_other}
+use Rattle.law_run.proofs.Moved.{moved_whole, moved_short}
+use Rattle.law_run.proofs.Ongoing.{own_tran}
 use Rattle.law_shape.specs.Answered.{begun_at, IsAnswered, AtRecord, AreAnswered}
 use Rattle.law_shape.proofs.Shaped.{want_short}
 use Rattle.law_shape.proofs.Begins.{begun_is_shaped}

@@ -10,16 +10,16 @@ use Rattle.spec_log.specs.declared.item.Record.{Record}
 use Rattle.spec_log.specs.declared.item.Record.TheVariants.{Start, Change, Undo, Commit, Abort, Snap, Failed, CheckEnd}
 use Rattle.spec_log.specs.Log.{has_ended, has_committed, has_undone}
 use Rattle.spec_log.specs.Images.{committed_image, view_of}
-use Rattle.law_undo.specs.Atoms.{Atom, read, has_atom, bit_in, over, write_on, applied_at, applied_at-same}
-use Rattle.law_undo.specs.Holders.{unfinished_parts}
-use Rattle.law_undo.specs.LawAtAtom.{start_at, not_true, applied_still}
-use Rattle.law_undo.specs.LawSteps.{eqb_sym, or_swap}
-use Rattle.law_undo.specs.Reading.{inside_shape}
-use Rattle.law_undo.specs.ReadLogs.{read_applied, same_images}
-use Rattle.law_undo.specs.Guards.{atom, guard_of, rules_at}
-use Rattle.law_undo.specs.Views.{sound_rules, sound_forms, sound_commits, read_committed, read_view, shape_committed, shape_view}
+use Rattle.law_undo.proofs.Atoms.{Atom, read, has_atom, bit_in, over, write_on, applied_at, applied_at-same}
+use Rattle.law_undo.proofs.Holders.{unfinished_parts}
+use Rattle.law_undo.proofs.LawAtAtom.{start_at, not_true, applied_still}
+use Rattle.law_undo.proofs.LawSteps.{eqb_sym, or_swap}
+use Rattle.law_undo.proofs.Reading.{inside_shape}
+use Rattle.law_undo.proofs.ReadLogs.{read_applied, same_images}
+use Rattle.law_undo.proofs.Guards.{atom, guard_of, rules_at}
+use Rattle.law_undo.proofs.Views.{sound_rules, sound_forms, sound_commits, read_committed, read_view, shape_committed, shape_view}
 use Rattle.law_undo.specs.Laws.{CommitShowsView, CommitChangesOwn, SilentItemsChangeNothing, has_byte, puts_byte}
-use Rattle.law_undo.specs.Law.{same_byte}
+use Rattle.law_undo.proofs.Law.{same_byte}
 
 pub commit_shows_view : CommitShowsView
 commit_shows_view g opened log b tran s =

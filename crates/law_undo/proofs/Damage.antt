@@ -11,15 +11,15 @@ use Rattle.spec_log.specs.Log.{starts, takes_it, has_started, has_ended, has_tak
 use Rattle.spec_log.specs.Rules.{HaveForm, KeepsRules}
 use Rattle.spec_log.specs.Images.{take_back, shows_before, shows, page_of_item, damage_of, final_image}
 use Rattle.spec_log.specs.Sound.{IsSound, Fits, is_old}
-use Rattle.law_undo.specs.Atoms.{Atom, read, has_atom, bit_in, turned, named_on, write_on, over, under, applied_at, IsQuiet}
-use Rattle.law_undo.specs.Holders.{unfinished_parts, one_holder, quiet_without_take}
-use Rattle.law_undo.specs.LawAtAtom.{not_true}
-use Rattle.law_undo.specs.Reading.{IsInside, SameShape, shape_trans, inside_shape}
-use Rattle.spec_log.specs.RulesLaws.{older_rules, older_forms}
-use Rattle.law_undo.specs.ReadLogs.{cell_form, FormOf, form_at, read_applied, read_take_back, shape_applied, shape_take_back}
-use Rattle.law_undo.specs.Guards.{atom, guard_of, rules_at, follows_at}
-use Rattle.law_undo.specs.Views.{sound_rules, sound_forms, writer_holds}
-use Rattle.law_undo.specs.CellAtoms.{same_cell}
+use Rattle.law_undo.proofs.Atoms.{Atom, read, has_atom, bit_in, turned, named_on, write_on, over, under, applied_at, IsQuiet}
+use Rattle.law_undo.proofs.Holders.{unfinished_parts, one_holder, quiet_without_take}
+use Rattle.law_undo.proofs.LawAtAtom.{not_true}
+use Rattle.law_undo.proofs.Reading.{IsInside, SameShape, shape_trans, inside_shape}
+use Rattle.spec_log.proofs.RulesLaws.{older_rules, older_forms}
+use Rattle.law_undo.proofs.ReadLogs.{cell_form, FormOf, form_at, read_applied, read_take_back, shape_applied, shape_take_back}
+use Rattle.law_undo.proofs.Guards.{atom, guard_of, rules_at, follows_at}
+use Rattle.law_undo.proofs.Views.{sound_rules, sound_forms, writer_holds}
+use Rattle.law_undo.proofs.CellAtoms.{same_cell}
 use Rattle.law_undo.proofs.TakenParts.{taken_part, taken_part_at, shape_taken_part, read_taken_part, TellsAt, tells_final, part_undamaged, IsFile, file_shape}
 use Rattle.law_undo.specs.Laws.{DamageIsOld}
 

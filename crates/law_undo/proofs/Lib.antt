@@ -1,3 +1,16 @@
 pub mod Commits
 pub mod Damage
 pub mod TakenParts
+pub mod Law
+pub mod HolderLaws
+pub mod Unguarded
+pub mod LawAtAtom
+pub mod LawSteps
+pub mod ReadLogs
+pub mod Reading
+pub mod Views
+pub mod Guards
+pub mod CellAtoms
+pub mod Atoms
+pub mod Shapes
+pub mod Holders

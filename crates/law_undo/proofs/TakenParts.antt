@@ -17,15 +17,15 @@ use Rattle.spec_log.specs.Rules.{HaveForm, KeepsRules, Follows}
 use Rattle.spec_log.specs.Cells.{read_cell}
 use Rattle.spec_log.specs.Images.{take_back, shows_before, shows, page_of_cell, page_of_item, damage_of}
 use Rattle.spec_log.specs.Sound.{IsSound}
-use Rattle.law_undo.specs.Atoms.{Atom, read, bit_in, turned, named_on, write_on, over, under, IsQuiet}
-use Rattle.law_undo.specs.LawAtAtom.{final_at, Writes}
-use Rattle.law_undo.specs.LawSteps.{item_writes}
-use Rattle.law_undo.specs.Reading.{IsInside, SameShape, shape_refl, shape_trans, inside_shape}
-use Rattle.law_undo.specs.ReadLogs.{cell_form, FormOf, form_at, read_take_back, shape_take_back}
-use Rattle.law_undo.specs.Guards.{atom, guard_of, guarded_inside, rules_at, follows_at}
-use Rattle.law_undo.specs.Views.{sound_rules, others_quiet}
-use Rattle.law_undo.specs.CellAtoms.{cell_shows}
-use Rattle.law_undo.specs.Law.{law_at, fits_at}
+use Rattle.law_undo.proofs.Atoms.{Atom, read, bit_in, turned, named_on, write_on, over, under, IsQuiet}
+use Rattle.law_undo.proofs.LawAtAtom.{final_at, Writes}
+use Rattle.law_undo.proofs.LawSteps.{item_writes}
+use Rattle.law_undo.proofs.Reading.{IsInside, SameShape, shape_refl, shape_trans, inside_shape}
+use Rattle.law_undo.proofs.ReadLogs.{cell_form, FormOf, form_at, read_take_back, shape_take_back}
+use Rattle.law_undo.proofs.Guards.{atom, guard_of, guarded_inside, rules_at, follows_at}
+use Rattle.law_undo.proofs.Views.{sound_rules, others_quiet}
+use Rattle.law_undo.proofs.CellAtoms.{cell_shows}
+use Rattle.law_undo.proofs.Law.{law_at, fits_at}
 
 -- the chosen items of the newest part are taken back, the newest first
 abbrev pub taken_part : (ℕ → Bool) → List Record → List Record → Image → Image

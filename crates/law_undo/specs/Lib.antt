@@ -1,14 +1,1 @@
-pub mod Atoms
-pub mod Holders
-pub mod LawAtAtom
-pub mod LawSteps
-pub mod Reading
-pub mod ReadLogs
-pub mod Guards
-pub mod Views
 pub mod Laws
-pub mod CellAtoms
-pub mod Law
-pub mod Unguarded
-pub mod HolderLaws
-pub mod Shapes

@@ -6,6 +6,3 @@ mod item;
 
 pub use item::encode;
 pub use spec_log::{Cell, Record};
-
-#[cfg(test)]
-mod tests;

@@ -1,3 +1,4 @@
+pub mod FaultLaws
 pub mod FirstBytes
 pub mod Written
 pub mod HeaderLaws

@@ -24,6 +24,3 @@ pub use spec_file::{
 };
 pub use spec_file::{MAPS_START, PAGE_SIZE};
 pub use words::Words;
-
-#[cfg(test)]
-mod tests;

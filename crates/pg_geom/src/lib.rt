@@ -11,6 +11,3 @@ pub use laws::places_apart;
 pub use places::{gam_of, interval_of, pfs_of, sgam_of};
 pub use roles::{is_inside, is_ordinary, is_system, role_of};
 pub use spans::{interval_pages, interval_size, page_limit, pfs_span};
-
-#[cfg(test)]
-mod tests;

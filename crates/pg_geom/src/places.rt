@@ -2,10 +2,7 @@ ghost use Rattle.std.specs.Prelude.{◌≡◌, ◌+◌, ◌*◌, ◌/◌, ◌%�
 ghost use Rattle.spec_file.specs.Places as spec;
 
 use crate::spans::{interval_pages, interval_size, pfs_span};
-use pg_base::{ExtentNo, Geometry, PageNo};
-
-// The offset of the first bit of a map page and of the first byte of a PFS page.
-const MAPS_START: u32 = 96;
+use pg_base::{ExtentNo, Geometry, MAPS_START, PageNo};
 
 /// The PFS byte of a page: the PFS page that has it, and its offset there.
 pub fn pfs_of(g: Geometry, p: PageNo) -> (PageNo, u32)
@@ -13,7 +10,10 @@ pub fn pfs_of(g: Geometry, p: PageNo) -> (PageNo, u32)
     ensures page { result.0.0 ≡ (spec.pfs_place g p.0).page }
     ensures at { result.1 ≡ (spec.pfs_place g p.0).at }
 {
-    (PageNo(pfs_page(g, p.0)), MAPS_START + p.0 % pfs_span(g))
+    (
+        PageNo(pfs_page(g, p.0)),
+        MAPS_START as u32 + p.0 % pfs_span(g),
+    )
 }
 
 /// The GAM bit of an extent: the GAM page that has it, and its number there.

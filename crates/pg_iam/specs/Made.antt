@@ -2,11 +2,12 @@
 use Rattle.spec_file.specs.declared.data.PageNo.{PageNo}
 use Rattle.spec_file.specs.declared.data.ObjId.{ObjId}
 use Rattle.spec_file.specs.declared.header.Header.{Header}
+use Rattle.spec_file.specs.declared.page_type.TheConstants.{IAM_TYPE}
 
--- type 10, behind `prev` and last in its chain, with neither rows nor room for them
+-- an IAM page behind `prev` and last in its chain, with neither rows nor room for them
 abbrev pub new_header : PageNo → ObjId → PageNo → Header
 new_header p object prev = record {
-  page_type = 10;
+  page_type = IAM_TYPE;
   level = 0;
   page_id = p;
   object = object;

@@ -7,6 +7,3 @@ mod write;
 
 pub use view::{IamView, has_interval, test_iam};
 pub use write::{make_iam, set_mark, set_slot};
-
-#[cfg(test)]
-mod tests;

@@ -3,7 +3,7 @@ ghost use Rattle.spec_file.specs.Iam as spec;
 ghost use Rattle.pg_iam.specs.Views.{bytes_of, Views};
 
 use arrayvec::ArrayVec;
-use pg_base::{Geometry, ObjId, Page, PageNo, read_header, u32_at};
+use pg_base::{Geometry, IAM_TYPE, MAPS_START, ObjId, Page, PageNo, read_header, u32_at};
 use pg_geom::interval_pages;
 
 /// An IAM page, as `test_iam` found it.
@@ -26,8 +26,8 @@ pub fn test_iam(page: &Page, p: PageNo, g: Geometry, pages: u32) -> Option<IamVi
     ensures view { IfSome result (λ view. Views page.now.bytes view) }
 {
     let header = read_header(page);
-    let interval = u32_at(&page.bytes, 96);
-    if header.page_type != 10 || header.page_id != p || !has_interval(g, pages, interval) {
+    let interval = u32_at(&page.bytes, MAPS_START);
+    if header.page_type != IAM_TYPE || header.page_id != p || !has_interval(g, pages, interval) {
         return None;
     }
     Some(IamView {

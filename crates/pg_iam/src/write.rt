@@ -5,7 +5,9 @@ ghost use Rattle.pg_base.specs.Numbers.{PutsNumber};
 ghost use Rattle.pg_base.specs.Zeros.{zero_page};
 ghost use Rattle.pg_iam.specs.Made.{new_header};
 
-use pg_base::{Header, ObjId, Page, PageNo, put_u32, write_header};
+use pg_base::{
+    Header, IAM_TYPE, MAPS_START, ObjId, PAGE_SIZE, Page, PageNo, put_u32, write_header,
+};
 use pg_maps::with_bit;
 
 /// Puts a page into single-page slot i; page 0 for none. All other bytes stay.
@@ -44,14 +46,14 @@ pub fn make_iam(
     ensures interval { spec.iam_interval page.new.bytes ≡ interval }
     ensures sequence { spec.iam_sequence page.new.bytes ≡ sequence }
     ensures unused { slice_index page.new.bytes 3 ≡ slice_index zero_page 3 }
-    ensures between { drop 28 (take 96 page.new.bytes) ≡ drop 28 (take 96 zero_page) }
+    ensures between { drop 28 (take MAPS_START page.new.bytes) ≡ drop 28 (take MAPS_START zero_page) }
     ensures behind { drop 104 page.new.bytes ≡ drop 104 zero_page }
 {
     clear(page);
     write_header(
         page,
         &Header {
-            page_type: 10,
+            page_type: IAM_TYPE,
             level: 0,
             page_id: p,
             object,
@@ -63,7 +65,7 @@ pub fn make_iam(
             ghosts: 0,
         },
     );
-    put_u32(page, 96, interval);
+    put_u32(page, MAPS_START, interval);
     put_u32(page, 100, sequence);
 }
 
@@ -72,5 +74,5 @@ pub fn make_iam(
 fn clear(page: &mut Page)
     ensures { page.new.bytes ≡ zero_page }
 {
-    page.bytes = [0; 8192];
+    page.bytes = [0; PAGE_SIZE];
 }

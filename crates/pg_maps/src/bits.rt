@@ -2,10 +2,7 @@ ghost use Rattle.std.specs.Prelude.{◌≡◌, ◌≢◌, ◌+◌, ◌/◌, ◌<
 ghost use Rattle.std.specs.Int.{bit_at};
 ghost use Rattle.spec_file.specs.Image.{bit as bit_of, maps_start};
 
-use pg_base::Page;
-
-// The offset of a map page's first bit.
-const MAPS_START: usize = 96;
+use pg_base::{MAPS_START, Page};
 
 /// Bit n of a map page.
 pub fn bit(page: &Page, n: u32) -> bool

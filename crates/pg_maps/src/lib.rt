@@ -4,6 +4,3 @@
 mod bits;
 
 pub use bits::{bit, first_set_from, set_bit, with_bit};
-
-#[cfg(test)]
-mod tests;

@@ -1,10 +1,7 @@
 ghost use Rattle.std.specs.Prelude.{◌≡◌, ◌≤◌};
 ghost use Rattle.spec_file.specs.Pfs as spec;
 
-use spec_file::PfsKind;
-
-// How many bytes of a page rows and their slots can use.
-const ROOM: u16 = 8096;
+use spec_file::{PfsKind, ROOM};
 
 // The flags of a PFS byte, and the fullness of a page that is all in use.
 const ALLOCATED: u8 = 0x40;
@@ -25,7 +22,7 @@ pub fn is_allocated(byte: u8) -> bool
 /// Bits 0 to 2 of a PFS byte: how full a page with so many free bytes is. 0 is empty, 1 up to half
 /// full, 2 up to 80 percent, 3 up to 95 percent, 4 above.
 pub fn fullness_of(free: u16) -> u8
-    requires { free ≤ 8096 }
+    requires { free ≤ ROOM }
     ensures { result ≡ spec.fullness_of free }
 {
     let used = 100 * (ROOM - free) as u32;

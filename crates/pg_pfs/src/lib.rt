@@ -6,6 +6,3 @@ mod bytes;
 
 pub use bytes::{expected, fullness_of, is_allocated};
 pub use spec_file::PfsKind;
-
-#[cfg(test)]
-mod tests;

@@ -1,5 +1,6 @@
 -- A row as the definitions see it.
 use Rattle.std.specs.Prelude.{◌≡◌, ℕ, ◌+◌, ◌≤◌, List, ◌++◌, length, take, drop, Option, Some, None, ⊤}
+use Rattle.spec_file.specs.declared.sizes.TheConstants.{PAYLOAD_LIMIT}
 use Rattle.spec_rows.specs.Rows.{PageRow, DataRow, IndexRow}
 use Rattle.pg_row.specs.declared.row.Row.{Row}
 use Rattle.pg_row.specs.declared.row.Row.TheVariants.{Leaf, Index}
@@ -14,7 +15,7 @@ meaning_of (Some row) = Some (meaning row)
 
 -- the payload leaves room for what stands before it
 abbrev pub IsShort : Row → Type 0
-IsShort (Leaf key payload) = length payload.now ≤ 1013
+IsShort (Leaf key payload) = length payload.now ≤ PAYLOAD_LIMIT
 IsShort (Index key child) = ⊤
 
 -- bytes that follow those before a place, and what stands behind them stays

@@ -9,6 +9,3 @@ mod write;
 pub use read::read_row;
 pub use row::Row;
 pub use write::write_row;
-
-#[cfg(test)]
-mod tests;

@@ -6,6 +6,8 @@ ghost use Rattle.pg_row.specs.Meaning.{meaning, meaning_of};
 use crate::Row;
 use byteorder::{ByteOrder, LittleEndian};
 use pg_base::{PageNo, u16_at, u32_at};
+use spec_file::ROW_LIMIT;
+use spec_rows::{DATA_HEAD, DATA_STATUS, INDEX_LENGTH, INDEX_STATUS};
 
 /// The row that the bytes are; none exactly where they aren't one whole row.
 pub fn read_row(bytes: &[u8]) -> Option<Row<'_>>
@@ -16,7 +18,7 @@ pub fn read_row(bytes: &[u8]) -> Option<Row<'_>>
     if is_data_row(bytes) {
         Some(Row::Leaf {
             key: u64_at(bytes, 3),
-            payload: &bytes[11..],
+            payload: &bytes[DATA_HEAD as usize..],
         })
     } else if is_index_row(bytes) {
         Some(Row::Index {
@@ -32,9 +34,9 @@ pub fn read_row(bytes: &[u8]) -> Option<Row<'_>>
 fn is_data_row(bytes: &[u8]) -> bool
     ensures { result ≡ spec.is_data_row bytes.now }
 {
-    bytes.len() >= 11
-        && bytes.len() <= 1024
-        && bytes[0] == 0x10
+    bytes.len() >= DATA_HEAD as usize
+        && bytes.len() <= ROW_LIMIT
+        && bytes[0] == DATA_STATUS
         && u16_at(bytes, 1) as usize == bytes.len()
 }
 
@@ -42,7 +44,7 @@ fn is_data_row(bytes: &[u8]) -> bool
 fn is_index_row(bytes: &[u8]) -> bool
     ensures { result ≡ spec.is_index_row bytes.now }
 {
-    bytes.len() == 13 && bytes[0] == 0x06
+    bytes.len() == INDEX_LENGTH as usize && bytes[0] == INDEX_STATUS
 }
 
 // The number of the eight bytes from `at`, the lowest first.

@@ -9,61 +9,49 @@ use Rattle.std.proofs.lemmas.List.Edits.{length-insert, get_or-insert_below, get
 use Rattle.spec_file.specs.Header.{header_of}
 use Rattle.spec_file.specs.declared.header.Header.{Header}
 use Rattle.spec_file.specs.declared.data.Kind.{Kind}
-use Rattle.spec_file.specs.declared.data.Kind.TheVariants.{Heap, Clustered}
 use Rattle.spec_rows.specs.Slots.{slot_count, rows_end, page_rows, rows_size, fits_page}
 use Rattle.spec_rows.specs.PageTest as spec
 use Rattle.spec_rows.specs.Changes.{with_counts, IsCompacted, FitsBehind, IsInserted, AtEnd, Compacted, MeetsTest}
 use Rattle.pg_slots.proofs.Arranged.{layout_of, layout_size}
-use Rattle.pg_slots.proofs.Moved.{same_kind, fits_still, parts}
+use Rattle.pg_slots.proofs.Moved.{same_rows, fits_still, parts}
 use Rattle.pg_slots.proofs.Placed.{placed_holds}
 use Rattle.pg_slots.proofs.Compacted.{compacted_holds}
 
 -- the row fits behind the others once they are moved together
-pub fits_compacted : (row before middle : List ℕ) → length before ≡ 8192 → spec.HoldsRows before → IsCompacted before middle
+pub fits_compacted : (kind : Kind) (row before middle : List ℕ) → length before ≡ 8192 → spec.HoldsRows kind before → IsCompacted before middle
     → length row + 2 ≤ (header_of before).free_count → FitsBehind row middle
-fits_compacted row before middle long holds compacted enough =
-    let whole = parts before long holds in
-    let size = layout_size before (page_rows before) (layout_of before long holds) in
+fits_compacted kind row before middle long holds compacted enough =
+    let whole = parts kind before long holds in
+    let size = layout_size kind before (page_rows before) (layout_of kind before long holds) in
     let count : slot_count middle ≡ slot_count before = ap (λ (h : Header). h.slots) compacted.header in
     let ends : rows_end middle ≡ 96 + rows_size before (slot_count before) = ap (λ (h : Header). h.free_from) compacted.header in
     omega (arith, whole, size, count, ends, enough)
 
-pub inserted_holds : (i : ℕ) (row before now : List ℕ) → length before ≡ 8192 → spec.HoldsRows before → IsTrue (fits_page before row)
+pub inserted_holds : (kind : Kind) (i : ℕ) (row before now : List ℕ) → length before ≡ 8192 → spec.HoldsRows kind before → IsTrue (fits_page kind before row)
     → i ≤ slot_count before → length row + 2 ≤ (header_of before).free_count → IsInserted i row before now
-    → spec.HoldsRows now × (page_rows now ≡ insert (page_rows before) i row)
-inserted_holds i row before now long holds fits within enough (AtEnd behind placed) =
-    placed_holds i row before now long holds fits within behind enough placed
-inserted_holds i row before now long holds fits within enough (Compacted middle full compacted placed) =
-    let first = compacted_holds before middle long holds compacted in
+    → spec.HoldsRows kind now × (page_rows now ≡ insert (page_rows before) i row)
+inserted_holds kind i row before now long holds fits within enough (AtEnd behind placed) =
+    placed_holds kind i row before now long holds fits within behind enough placed
+inserted_holds kind i row before now long holds fits within enough (Compacted middle full compacted placed) =
+    let first = compacted_holds kind before middle long holds compacted in
     let count : slot_count middle ≡ slot_count before = ap (λ (h : Header). h.slots) compacted.header in
     let free : (header_of middle).free_count ≡ (header_of before).free_count = ap (λ (h : Header). h.free_count) compacted.header in
-    let second = placed_holds i row middle now (compacted.long ∙ long) first.0
-    (fits_still before middle row (same_kind before middle _ _ _ compacted.header) fits) (omega (arith, count, within))
-    (fits_compacted row before middle long holds compacted enough) (omega (arith, free, enough)) placed in
+    let second = placed_holds kind i row middle now (compacted.long ∙ long) first.0
+    (fits_still kind before middle row (same_rows before middle _ _ _ compacted.header) fits) (omega (arith, count, within))
+    (fits_compacted kind row before middle long holds compacted enough) (omega (arith, free, enough)) placed in
     (second.0, second.1 ∙ ap (λ (rows : List (List ℕ)). insert rows i row) first.1)
-
-kept_type : (kind : Kind) (before now : List ℕ) (a b c : ℕ) → header_of now ≡ with_counts a b c (header_of before)
-    → IsTrue (spec.has_row_type kind (header_of before)) → IsTrue (spec.has_row_type kind (header_of now))
-kept_type Heap before now a b c header test = subst (λ (h : Header). IsTrue (spec.has_row_type Heap h)) (sym header) test
-kept_type Clustered before now a b c header test = subst (λ (h : Header). IsTrue (spec.has_row_type Clustered h)) (sym header) test
-
-kept_links : (kind : Kind) (before now : List ℕ) (a b c : ℕ) → header_of now ≡ with_counts a b c (header_of before)
-    → IsTrue (spec.has_links kind (header_of before)) → IsTrue (spec.has_links kind (header_of now))
-kept_links Heap before now a b c header test = subst (λ (h : Header). IsTrue (spec.has_links Heap h)) (sym header) test
-kept_links Clustered before now a b c header test = refl
 
 pub with_counts_twice : (before middle now : List ℕ) (a b c d e f : ℕ) → header_of middle ≡ with_counts a b c (header_of before)
     → header_of now ≡ with_counts d e f (header_of middle) → header_of now ≡ with_counts d e f (header_of before)
 with_counts_twice before middle now a b c d e f first second = second ∙ ap (with_counts d e f) first
 
 -- what the page test asks beside its rows stays
-pub passes_still : (p o : ℕ) (kind : Kind) (before now : List ℕ) (a b c : ℕ) → header_of now ≡ with_counts a b c (header_of before)
-    → spec.HoldsRows now → spec.PassesButRows p o kind before → spec.PassesButRows p o kind now
-passes_still p o kind before now a b c header holds passes = record {
+pub passes_still : (kind : Kind) (p o : ℕ) (before now : List ℕ) (a b c : ℕ) → header_of now ≡ with_counts a b c (header_of before)
+    → spec.HoldsRows kind now → spec.PassesButRows p o kind before → spec.PassesButRows p o kind now
+passes_still kind p o before now a b c header holds passes = record {
   own = subst (λ (h : Header). IsTrue (spec.is_own_page p h)) (sym header) passes.own;
-  type = kept_type kind before now a b c header passes.type;
   object = subst (λ (h : Header). IsTrue (spec.belongs_to o h)) (sym header) passes.object;
-  links = kept_links kind before now a b c header passes.links;
+  links = subst (λ (h : Header). IsTrue (spec.has_links kind h)) (sym header) passes.links;
   holds = holds;
 }
 
@@ -73,14 +61,14 @@ some_rows h some =
     rw (and_right (h.page_type == 2) (h.slots == 0) several) refl
 
 -- a page into which a row was put passes its test
-pub inserted_test : (i : ℕ) (row before now : List ℕ) → IsInserted i row before now → spec.HoldsRows now → MeetsTest before now
-inserted_test i row before now (AtEnd behind placed) holds p o kind passes =
+pub inserted_test : (kind : Kind) (i : ℕ) (row before now : List ℕ) → IsInserted i row before now → spec.HoldsRows kind now → MeetsTest kind before now
+inserted_test kind i row before now (AtEnd behind placed) holds p o passes =
     let count : slot_count now ≡ slot_count before + 1 = ap (λ (h : Header). h.slots) placed.header in
-    record { rest = passes_still p o kind before now _ _ _ placed.header holds passes; rows = some_rows (header_of now) (omega (arith, count)) }
-inserted_test i row before now (Compacted middle full compacted placed) holds p o kind passes =
+    record { rest = passes_still kind p o before now _ _ _ placed.header holds passes; rows = some_rows (header_of now) (omega (arith, count)) }
+inserted_test kind i row before now (Compacted middle full compacted placed) holds p o passes =
     let count : slot_count now ≡ slot_count middle + 1 = ap (λ (h : Header). h.slots) placed.header in
     record {
-      rest = passes_still p o kind before now _ _ _ (with_counts_twice before middle now _ _ _ _ _ _ compacted.header placed.header) holds passes;
+      rest = passes_still kind p o before now _ _ _ (with_counts_twice before middle now _ _ _ _ _ _ compacted.header placed.header) holds passes;
       rows = some_rows (header_of now) (omega (arith, count));
     }
 

@@ -8,3 +8,5 @@ pub mod Placed
 pub mod Removed
 pub mod Compacted
 pub mod Kept
+pub mod Stand
+pub mod Tested

@@ -1,3 +1,5 @@
 pub mod Starts
 pub mod Puts
 pub mod Views
+pub mod Sizes
+pub mod Faults

@@ -3,7 +3,8 @@ ghost use Rattle.std.specs.Prelude.{◌≡◌};
 ghost use Rattle.spec_rows.specs.PageTest as spec;
 
 use crate::SlotFault;
-use pg_base::{Header, Kind, ObjId, PageNo};
+use pg_base::{DATA_TYPE, Header, INDEX_TYPE, Kind, MAPS_START, ObjId, PAGE_SIZE, PageNo};
+use spec_rows::SLOT_LIMIT;
 
 pub(crate) fn fault(number: u32, slot: u32, value: u64) -> SlotFault
     ensures { result ≡ spec.fault number slot value }
@@ -70,16 +71,17 @@ pub(crate) fn form_fault(header: &Header, version: u8, kind: Kind) -> Option<Slo
 fn has_row_type(header: &Header, kind: Kind) -> bool
     ensures { result ≡ spec.has_row_type kind header.now }
 {
-    match kind {
-        Kind::Heap => header.page_type == 1,
-        Kind::Clustered => header.page_type == 1 || header.page_type == 2,
+    if kind.is_clustered() {
+        header.page_type == DATA_TYPE || header.page_type == INDEX_TYPE
+    } else {
+        header.page_type == DATA_TYPE
     }
 }
 
 fn has_level(header: &Header) -> bool
     ensures { result ≡ spec.has_level header.now }
 {
-    if header.page_type == 1 {
+    if header.page_type == DATA_TYPE {
         header.level == 0
     } else {
         header.level >= 1 && header.level <= 15
@@ -89,15 +91,16 @@ fn has_level(header: &Header) -> bool
 fn has_rows(header: &Header) -> bool
     ensures { result ≡ spec.has_rows header.now }
 {
-    !(header.page_type == 2 && header.slots == 0)
+    !(header.page_type == INDEX_TYPE && header.slots == 0)
 }
 
 fn has_links(header: &Header, kind: Kind) -> bool
     ensures { result ≡ spec.has_links kind header.now }
 {
-    match kind {
-        Kind::Heap => header.prev.0 == 0 && header.next.0 == 0,
-        Kind::Clustered => true,
+    if kind.is_clustered() {
+        true
+    } else {
+        header.prev.0 == 0 && header.next.0 == 0
     }
 }
 
@@ -105,7 +108,7 @@ fn has_links(header: &Header, kind: Kind) -> bool
 fn has_room(header: &Header) -> bool
     ensures { result ≡ spec.has_room header.now }
 {
-    header.slots <= 4048
-        && header.free_from >= 96
-        && header.free_from as u32 + 2 * header.slots as u32 <= 8192
+    header.slots <= SLOT_LIMIT
+        && header.free_from as usize >= MAPS_START
+        && header.free_from as usize + 2 * header.slots as usize <= PAGE_SIZE
 }

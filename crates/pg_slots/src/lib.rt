@@ -17,6 +17,3 @@ pub use pack::compact;
 pub use passes::test_page;
 pub use spec_rows::SlotFault;
 pub use view::SlotView;
-
-#[cfg(test)]
-mod tests;

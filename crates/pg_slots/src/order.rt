@@ -1,19 +1,20 @@
 // The test of the rows in the order of offset, then slot.
 ghost use Rattle.std.specs.Prelude.{◌≡◌, ◌<◌, ◌≤◌, IsTrue, MatchOption, length, map};
 ghost use Rattle.std.specs.List.{range_with_len};
-ghost use Rattle.spec_file.specs.Header.{header_of};
 ghost use Rattle.spec_rows.specs.Slots as slots;
 ghost use Rattle.spec_rows.specs.PageTest as spec;
 ghost use Rattle.spec_rows.specs.OrderLaws.{IsInOrder};
+ghost use Rattle.pg_slots.specs.Sizes.{RowsStand};
 ghost use Rattle.pg_slots.specs.Starts.{start_of, AreInOrder};
 
 use crate::SlotFault;
 use crate::header::fault;
-use crate::slot::{size_at, slot_at};
-use pg_base::{Header, Page};
+use crate::slot::{row_size, slot_at};
+use pg_base::Page;
+use spec_rows::SLOT_LIMIT;
 
 /// Where the row of a slot begins. Rows stand in this order.
-#[derive(Clone, Copy, Debug, PartialEq, Eq, PartialOrd, Ord)]
+#[derive(Clone, Copy, PartialEq, Eq, PartialOrd, Ord)]
 struct RowStart {
     offset: u16,
     slot: u16,
@@ -21,23 +22,22 @@ struct RowStart {
 
 /// The first row that begins before the end of the one before. Offsets that rise from slot to slot, as
 /// they mostly do, need no sort.
-pub(crate) fn order_fault(page: &Page, header: &Header) -> Option<SlotFault>
-    requires header { header.now ≡ header_of page.now.bytes }
-    requires room { IsTrue (spec.has_room header.now) }
-    requires slots { spec.SlotsPass page.now.bytes }
+pub(crate) fn order_fault(page: &Page, count: u16) -> Option<SlotFault>
+    requires rows { RowsStand page.now.bytes }
+    requires count { count ≡ slots.slot_count page.now.bytes }
     ensures { MatchOption result (spec.OrderPasses page.now.bytes) (spec.IsFirstOverlap page.now.bytes) }
 {
-    if offsets_rise(page, header.slots) {
-        fault_of_rising(page, header)
+    if offsets_rise(page, count) {
+        fault_of_rising(page, count)
     } else {
-        fault_of_sorted(page, header)
+        fault_of_sorted(page, count)
     }
 }
 
 // No offset is below that of the slot before: the order is that of the slots.
 fn offsets_rise(page: &Page, count: u16) -> bool
     requires count { count ≡ slots.slot_count page.now.bytes }
-    requires few { count ≤ 4048 }
+    requires few { count ≤ slots.slot_limit }
     ensures { IsTrue result → IsInOrder page.now.bytes (λ k. k) }
 {
     for slot in 1..count {
@@ -49,34 +49,31 @@ fn offsets_rise(page: &Page, count: u16) -> bool
 }
 
 // What is wrong where the row of one slot comes right before that of another.
-fn overlap(page: &Page, header: &Header, before: u16, slot: u16) -> Option<SlotFault>
-    requires header { header.now ≡ header_of page.now.bytes }
-    requires room { IsTrue (spec.has_room header.now) }
-    requires slots { spec.SlotsPass page.now.bytes }
-    requires first { before < header.now.slots }
-    requires second { slot < header.now.slots }
+fn overlap(page: &Page, before: u16, slot: u16) -> Option<SlotFault>
+    requires rows { RowsStand page.now.bytes }
+    requires first { before < slots.slot_count page.now.bytes }
+    requires second { slot < slots.slot_count page.now.bytes }
     ensures { MatchOption result (slots.row_end page.now.bytes before ≤ slots.slot_at page.now.bytes slot)
         (λ x. (slots.slot_at page.now.bytes slot < slots.row_end page.now.bytes before)
         × (x ≡ spec.fault 8942 slot (slots.slot_at page.now.bytes slot))) }
 {
-    let start = slot_at(page, before);
+    let end = slot_at(page, before) + row_size(page, before);
     let at = slot_at(page, slot);
-    if at < start + size_at(page, header, start) {
+    if at < end {
         return Some(fault(8942, slot as u32, at as u64));
     }
     None
 }
 
 // The same where the order is that of the slots.
-fn fault_of_rising(page: &Page, header: &Header) -> Option<SlotFault>
-    requires header { header.now ≡ header_of page.now.bytes }
-    requires room { IsTrue (spec.has_room header.now) }
-    requires slots { spec.SlotsPass page.now.bytes }
+fn fault_of_rising(page: &Page, count: u16) -> Option<SlotFault>
+    requires rows { RowsStand page.now.bytes }
+    requires count { count ≡ slots.slot_count page.now.bytes }
     requires order { IsInOrder page.now.bytes (λ k. k) }
     ensures { MatchOption result (spec.OrderPasses page.now.bytes) (spec.IsFirstOverlap page.now.bytes) }
 {
-    for slot in 1..header.slots {
-        if let Some(fault) = overlap(page, header, slot - 1, slot) {
+    for slot in 1..count {
+        if let Some(fault) = overlap(page, slot - 1, slot) {
             return Some(fault);
         }
     }
@@ -84,23 +81,22 @@ fn fault_of_rising(page: &Page, header: &Header) -> Option<SlotFault>
 }
 
 // The same in any case: where the rows begin is sorted.
-fn fault_of_sorted(page: &Page, header: &Header) -> Option<SlotFault>
-    requires header { header.now ≡ header_of page.now.bytes }
-    requires room { IsTrue (spec.has_room header.now) }
-    requires slots { spec.SlotsPass page.now.bytes }
+fn fault_of_sorted(page: &Page, count: u16) -> Option<SlotFault>
+    requires rows { RowsStand page.now.bytes }
+    requires count { count ≡ slots.slot_count page.now.bytes }
     ensures { MatchOption result (spec.OrderPasses page.now.bytes) (spec.IsFirstOverlap page.now.bytes) }
 {
-    let mut starts = [RowStart { offset: 0, slot: 0 }; 4048];
-    let order = &mut starts[..header.slots as usize];
+    let mut starts = [RowStart { offset: 0, slot: 0 }; SLOT_LIMIT as usize];
+    let order = &mut starts[..count as usize];
     sort_slots(page, order);
-    fault_in_order(page, header, order)
+    fault_in_order(page, order)
 }
 
 // Fills in where the row of each slot begins, and sorts: by offset alone, which is faster, and by slot too
 // where rows begin at one offset, as they seldom do.
 fn sort_slots(page: &Page, starts: &mut [RowStart])
     requires count { length starts.old ≡ slots.slot_count page.now.bytes }
-    requires few { length starts.old ≤ 4048 }
+    requires few { length starts.old ≤ slots.slot_limit }
     ensures { AreInOrder page.now.bytes starts.new }
 {
     put_starts(page, starts);
@@ -111,7 +107,7 @@ fn sort_slots(page: &Page, starts: &mut [RowStart])
 }
 
 fn put_starts(page: &Page, starts: &mut [RowStart])
-    requires { length starts.old ≤ 4048 }
+    requires { length starts.old ≤ slots.slot_limit }
     ensures { starts.new ≡ map (start_of page.now.bytes) (range_with_len 0 (length starts.old)) }
 {
     for k in 0..starts.len() {
@@ -123,16 +119,14 @@ fn put_starts(page: &Page, starts: &mut [RowStart])
     }
 }
 
-fn fault_in_order(page: &Page, header: &Header, starts: &[RowStart]) -> Option<SlotFault>
-    requires header { header.now ≡ header_of page.now.bytes }
-    requires room { IsTrue (spec.has_room header.now) }
-    requires slots { spec.SlotsPass page.now.bytes }
-    requires count { length starts.now ≡ header.now.slots }
+fn fault_in_order(page: &Page, starts: &[RowStart]) -> Option<SlotFault>
+    requires rows { RowsStand page.now.bytes }
+    requires count { length starts.now ≡ slots.slot_count page.now.bytes }
     requires order { AreInOrder page.now.bytes starts.now }
     ensures { MatchOption result (spec.OrderPasses page.now.bytes) (spec.IsFirstOverlap page.now.bytes) }
 {
     for k in 1..starts.len() {
-        if let Some(fault) = overlap(page, header, starts[k - 1].slot, starts[k].slot) {
+        if let Some(fault) = overlap(page, starts[k - 1].slot, starts[k].slot) {
             return Some(fault);
         }
     }

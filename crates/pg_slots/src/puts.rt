@@ -1,11 +1,12 @@
 // Bytes of a page, put part by part.
 ghost use Rattle.std.specs.Prelude.{◌≡◌, ◌+◌, ◌*◌, ◌<◌, ◌≤◌, length, take, drop};
 ghost use Rattle.spec_file.specs.Header.{header_of};
+ghost use Rattle.spec_rows.specs.Slots.{slot_limit};
 ghost use Rattle.spec_rows.specs.Changes.{with_counts};
 ghost use Rattle.pg_slots.specs.Puts.{PutsSlot, PutsRow, OpensSlot, ClosesSlot};
 
 use crate::slot::slot_at;
-use pg_base::{Page, put_u16};
+use pg_base::{PAGE_SIZE, Page, put_u16};
 
 /// Puts the counts into the header.
 pub(crate) fn set_counts(page: &mut Page, slots: u16, free_count: u16, free_from: u16)
@@ -20,7 +21,7 @@ pub(crate) fn set_counts(page: &mut Page, slots: u16, free_count: u16, free_from
 
 /// Puts an offset into a slot.
 pub(crate) fn put_slot(page: &mut Page, slot: u16, at: u16)
-    requires { slot < 4048 }
+    requires { slot < slot_limit }
     ensures { PutsSlot slot at page.old.bytes page.new.bytes }
 {
     put_u16(page, 8190 - 2 * slot as usize, at);
@@ -28,7 +29,7 @@ pub(crate) fn put_slot(page: &mut Page, slot: u16, at: u16)
 
 /// Puts the bytes of a row at an offset.
 pub(crate) fn put_row(page: &mut Page, at: u16, row: &[u8])
-    requires { at + length row.now ≤ 8192 }
+    requires { at + length row.now ≤ PAGE_SIZE }
     ensures { PutsRow at row.now page.old.bytes page.new.bytes }
 {
     let at = at as usize;
@@ -38,7 +39,7 @@ pub(crate) fn put_row(page: &mut Page, at: u16, row: &[u8])
 /// Moves slot i and the later ones on by one, and puts an offset into slot i.
 pub(crate) fn open_slot(page: &mut Page, i: u16, count: u16, at: u16)
     requires i { i ≤ count }
-    requires few { count < 4048 }
+    requires few { count < slot_limit }
     ensures { OpensSlot i count at page.old.bytes page.new.bytes }
 {
     for k in 0..count - i {
@@ -52,7 +53,7 @@ pub(crate) fn open_slot(page: &mut Page, i: u16, count: u16, at: u16)
 /// Moves the slots behind slot i back by one, and clears the last.
 pub(crate) fn close_slot(page: &mut Page, i: u16, count: u16)
     requires i { i < count }
-    requires few { count ≤ 4048 }
+    requires few { count ≤ slot_limit }
     ensures { ClosesSlot i count page.old.bytes page.new.bytes }
 {
     for slot in i + 1..count {

@@ -7,7 +7,7 @@ use Rattle.spec_file.specs.declared.data.Lsn.{Lsn}
 use Rattle.spec_file.specs.declared.geometry.Geometry.{Geometry}
 use Rattle.spec_log.specs.declared.item.Record.{Record}
 use Rattle.spec_log.specs.Rules.{Follows, KeepsRules, IsFirstBroken}
-use Rattle.spec_log.specs.RulesLaws.{older_rules}
+use Rattle.spec_log.proofs.RulesLaws.{older_rules}
 use Rattle.plain_log.proofs.Reverse.{reverse_take_at}
 use Rattle.plain_log.proofs.Named.{length_take}
 

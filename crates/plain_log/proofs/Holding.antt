@@ -7,7 +7,7 @@ use Rattle.spec_file.specs.declared.data.Resource.{Resource}
 use Rattle.spec_log.specs.declared.item.Record.{Record}
 use Rattle.spec_log.specs.declared.item.Record.TheVariants.{Start, Change, Undo, Commit, Abort, Snap, Failed, CheckEnd}
 use Rattle.spec_log.specs.Items.{grain_of, number_of, is_same, tran_of}
-use Rattle.spec_log.specs.ItemLaws.{starts_tran}
+use Rattle.spec_log.proofs.ItemLaws.{starts_tran}
 use Rattle.spec_log.specs.Log.{starts, takes_it, has_started, has_ended, is_unfinished, has_taken, holds, IsFreeFor}
 use Rattle.spec_log.specs.Rules.{AreFreeFor}
 use Rattle.plain_log.proofs.Reverse.{any_one_more, any_stands, reverse_take_at}

@@ -20,6 +20,3 @@ pub use images::{committed_image, final_image, start_image};
 pub use left::{is_last_left, newest_left};
 pub use rules::{first_broken, follows};
 pub use scan::{has_committed, has_ended, has_started, is_unfinished};
-
-#[cfg(test)]
-mod tests;

@@ -111,3 +111,17 @@ fn what_stands_after_each_fault(rt: HostRuntime) -> Result<(), Fail> {
     }
     Ok(())
 }
+
+// A run without items appends nothing, and writes no page: none fails that was told to.
+#[test]
+fn a_run_without_items_writes_nothing(rt: HostRuntime) -> Result<(), Fail> {
+    let alloc = rt.alloc();
+    for page in 0..16 {
+        let file = empty_heap(alloc, 0x60)?;
+        let fault = Fault::Write(page);
+        let ran = replay_failing(alloc, file, Vec::new(alloc), "", &[""], fault)?;
+        assert_eq!(rt; ran.status, Status::Clean, "page {page}");
+        assert!(rt; ran.log.is_empty(), "page {page}");
+    }
+    Ok(())
+}

@@ -1,11 +1,11 @@
 -- The replies of a session, one after another.
-use Rattle.std.proofs.Common.{◌≡◌, ℕ, ◌+◌, ◌<◌, List, [], ◌∷◌, ◌++◌, length, take, drop, get_or, Option, sym, ap, ◌∙◌, append_assoc, append-nil, arith}
-use Rattle.std.specs.Io.KnownBytes.{append_known}
+use Rattle.std.proofs.Common.{◌≡◌, ℕ, ◌+◌, ◌<◌, List, [], ◌∷◌, ◌++◌, length, take, drop, get_or, Bool, true, false, sym, ap, subst, ◌∙◌, append_assoc, append-nil, arith}
 use Rattle.std.proofs.lemmas.List.{take_more, take-append-drop, length-take-le}
 use Rattle.spec_script.specs.declared.reply.Reply.{Reply}
 use Rattle.spec_script.specs.Replies.{reply_text, session_text}
-use Rattle.vol_dev.specs.Devices.{WroteFront}
-use Rattle.vol_dev.proofs.DeviceLaws.{append_known-then, WroteFront-after}
+use Rattle.vol_dev.specs.declared.device.Sink.{Ghosts}
+use Rattle.vol_dev.specs.Output.{Wrote}
+use Rattle.vol_dev.proofs.Output.{wrote_then, wrote_front}
 
 text_append : (s i : ℕ) (xs ys : List Reply) → session_text s i (xs ++ ys) ≡ session_text s i xs ++ session_text s (i + length xs) ys
 text_append s i [] ys = ap (λ k. session_text s k ys) (omega arith)
@@ -24,25 +24,17 @@ text_more s n xs d below =
     ∙ ap (λ k. session_text s 1 (take n xs) ++ (reply_text s k (get_or xs n d) ++ [])) place
     ∙ ap (λ l. session_text s 1 (take n xs) ++ l) (append-nil (reply_text s (n + 1) (get_or xs n d))))
 
--- one reply more is written
-pub more_written : (s n : ℕ) (xs : List Reply) (x : Reply) (old now new : Option (List ℕ)) → n < length xs → x ≡ get_or xs n x
-    → now ≡ append_known old (session_text s 1 (take n xs)) → new ≡ append_known now (reply_text s (n + 1) x)
-    → new ≡ append_known old (session_text s 1 (take (n + 1) xs))
-more_written s n xs x old now new below is so_far more =
-    append_known-then old now new (session_text s 1 (take n xs)) (reply_text s (n + 1) x) so_far more
-    ∙ ap (λ r. append_known old (session_text s 1 (take n xs) ++ reply_text s (n + 1) r)) is
-    ∙ ap (append_known old) (text_more s n xs x below)
+module _ {X : Type 0} (k : Ghosts X) (s n : ℕ) (xs : List Reply) (x : Reply) (a b c : X) (below : n < length xs) (is : x ≡ get_or xs n x)
+    (so_far : Wrote k a b (session_text s 1 (take n xs)) false) where
+  -- one reply more is written
+  pub more_written : (failed : Bool) → Wrote k b c (reply_text s (n + 1) x) failed → Wrote k a c (session_text s 1 (take (n + 1) xs)) failed
+  more_written failed more =
+      subst (λ l. Wrote k a c l failed) (ap (λ r. session_text s 1 (take n xs) ++ reply_text s (n + 1) r) is ∙ text_more s n xs x below)
+      (wrote_then k a b c (session_text s 1 (take n xs)) (reply_text s (n + 1) x) failed so_far more)
 
--- a reply was written in part
-pub front_written : (s n : ℕ) (xs : List Reply) (x : Reply) (old now new : Option (List ℕ)) → n < length xs → x ≡ get_or xs n x
-    → now ≡ append_known old (session_text s 1 (take n xs)) → WroteFront now new (reply_text s (n + 1) x)
-    → WroteFront old new (session_text s 1 xs)
-front_written s n xs x old now new below is so_far front =
-    let long : length (take (n + 1) xs) ≡ n + 1 = length-take-le (n + 1) xs (omega (arith, below)) in
-    let rest = session_text s (1 + length (take (n + 1) xs)) (drop (n + 1) xs) in
-    let whole : session_text s 1 xs ≡ session_text s 1 (take n xs) ++ (reply_text s (n + 1) x ++ rest) =
-    sym (ap (session_text s 1) (take-append-drop (n + 1) xs)) ∙ text_append s 1 (take (n + 1) xs) (drop (n + 1) xs)
-    ∙ ap (λ l. l ++ rest) (sym (text_more s n xs x below))
-    ∙ append_assoc (session_text s 1 (take n xs)) (reply_text s (n + 1) (get_or xs n x)) rest
-    ∙ ap (λ r. session_text s 1 (take n xs) ++ (reply_text s (n + 1) r ++ rest)) (sym is) in
-    WroteFront-after old now new (session_text s 1 (take n xs)) (reply_text s (n + 1) x) rest (session_text s 1 xs) so_far front whole
+  -- or in part
+  pub front_written : Wrote k b c (reply_text s (n + 1) x) true → Wrote k a c (session_text s 1 xs) true
+  front_written part =
+      let front = take (n + 1) xs in
+      subst (λ l. Wrote k a c l true) (sym (text_append s 1 front (drop (n + 1) xs)) ∙ ap (session_text s 1) (take-append-drop (n + 1) xs))
+      (wrote_front k a c (session_text s 1 front) (session_text s (1 + length front) (drop (n + 1) xs)) (more_written true part))

@@ -1,9 +1,8 @@
 -- What the close of a run writes.
-use Rattle.std.specs.Prelude.{◌≡◌, ℕ, ◌*◌, ◌^◌, ◌<◌, ◌≤◌, List, [], length, reverse, Option, IfSome, Result, Ok, Err, ⊤}
+use Rattle.std.specs.Prelude.{◌≡◌, ℕ, ◌*◌, ◌^◌, ◌<◌, ◌≤◌, List, [], length, reverse, Option, IfSome, Result, Ok, Err}
 use Rattle.std.specs.List.{list_any}
 use Rattle.std.specs.Option.{ForSome}
 use Rattle.std.specs.Io.KnownBytes.{append_known}
-use Rattle.pg_base.specs.Faults.{Rose}
 use Rattle.spec_file.specs.Image.{Image, page_size, pages_of}
 use Rattle.spec_log.specs.declared.item.Record.{Record}
 use Rattle.spec_log.specs.Bytes.{log_bytes}
@@ -39,9 +38,3 @@ ClosesBy close image file file_now log log_now (Ok value) =
 ClosesBy close image file file_now log log_now (Err Log) = WroteFront log log_now close.bytes.items × (file_now ≡ file)
 ClosesBy close image file file_now log log_now (Err Volume) =
     (log_now ≡ append_known log close.bytes.items) × StopsWriting close.changed.items image file file_now
-
--- a device is named only where its count of faults rose
-abbrev pub CloseFault : {T : Type 0} → ℕ → ℕ → ℕ → ℕ → Result T CloseStop → Type 0
-CloseFault file file_now log log_now (Ok value) = ⊤
-CloseFault file file_now log log_now (Err Log) = Rose log log_now
-CloseFault file file_now log log_now (Err Volume) = Rose file file_now

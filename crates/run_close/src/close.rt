@@ -1,8 +1,9 @@
 // The close of a run: its log, and then its pages.
-ghost use Rattle.std.specs.Prelude.{◌≡◌, ◌≤◌, All, IsTrue, flat_map, IfOk};
+ghost use Rattle.std.specs.Prelude.{◌≡◌, All, IsTrue, flat_map, IfOk, IsErrOf};
+ghost use Rattle.pg_base.specs.Faults.{Counts};
 ghost use Rattle.spec_log.specs.Bytes.{item_bytes};
 ghost use Rattle.spec_log.specs.Items.{has_form};
-ghost use Rattle.run_close.specs.Close.{IsCloseOf, MayClose, ClosesBy, CloseFault};
+ghost use Rattle.run_close.specs.Close.{IsCloseOf, MayClose, ClosesBy};
 
 use log_rec::encode;
 use pg_base::NoMemory;
@@ -58,9 +59,8 @@ impl Close {
     ) -> Result<(), CloseStop>
         requires { MayClose self.now frames.now (V.contents volume.old) }
         ensures closes { ClosesBy self.now frames.now (V.contents volume.old) (V.contents volume.new) (L.contents log.old) (L.contents log.new) result }
-        ensures fault { CloseFault (V.faults volume.old) (V.faults volume.new) (L.faults log.old) (L.faults log.new) result }
-        ensures volume_faults { V.faults volume.old ≤ V.faults volume.new }
-        ensures log_faults { L.faults log.old ≤ L.faults log.new }
+        ensures volume_faults { Counts (IsErrOf result CloseStop.Volume) (V.faults volume.old) (V.faults volume.new) }
+        ensures log_faults { Counts (IsErrOf result CloseStop.Log) (L.faults log.old) (L.faults log.new) }
     {
         if log.append(&self.bytes).is_err() {
             return Err(CloseStop::Log);

@@ -7,6 +7,3 @@ mod output;
 
 pub use close::{Close, CloseStop};
 pub use output::write_session;
-
-#[cfg(test)]
-mod tests;

@@ -1,9 +1,7 @@
 // The replies of a session as output.
-ghost use Rattle.std.specs.Prelude.{◌≡◌, ◌<◌, ◌≤◌, ◌^◌, length, OnOk, OnErr};
-ghost use Rattle.std.specs.Io.KnownBytes.{append_known};
-ghost use Rattle.pg_base.specs.Faults.{Rose};
+ghost use Rattle.std.specs.Prelude.{◌<◌, ◌^◌, length, is_err};
 ghost use Rattle.spec_script.specs.Replies.{session_text};
-ghost use Rattle.vol_dev.specs.Devices.{WroteFront};
+ghost use Rattle.vol_dev.specs.Output.{Wrote};
 
 use ck_text::write_reply;
 use spec_script::Reply;
@@ -17,10 +15,7 @@ pub fn write_session<K: Sink>(
     out: &mut K,
 ) -> Result<(), DeviceFailed>
     requires { length replies.now < 2 ^ 32 }
-    ensures ok { OnOk result (K.contents out.new ≡ append_known (K.contents out.old) (session_text session 1 replies.now)) }
-    ensures err { OnErr result (WroteFront (K.contents out.old) (K.contents out.new) (session_text session 1 replies.now)) }
-    ensures fault { OnErr result (Rose (K.faults out.old) (K.faults out.new)) }
-    ensures faults { K.faults out.old ≤ K.faults out.new }
+    ensures { Wrote K.Sink out.old out.new (session_text session 1 replies.now) (is_err result) }
 {
     for (i, reply) in replies.iter().enumerate() {
         write_reply(session, i as u32 + 1, reply, out)?;

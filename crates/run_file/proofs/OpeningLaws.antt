@@ -2,7 +2,7 @@
 use Rattle.std.proofs.Common.{◌≡◌, ℕ, ◌/◌, Bool, true, IsTrue, List, Option, Some, None, IfSome, length, sym, ap, subst, ◌∙◌, refl, ⊎_elim, not, if◌then◌else◌}
 use Rattle.spec_file.specs.declared.geometry.Geometry.TheVariants.{Small}
 use Rattle.spec_file.specs.Image.{Image, page_size, pages_of, page}
-use Rattle.spec_file.specs.ImageLaws.{length-pages_of}
+use Rattle.spec_file.proofs.ImageLaws.{length-pages_of}
 use Rattle.spec_file.specs.FileForm.{size_passes, header_passes, version_passes, geometry_of, count_passes}
 use Rattle.spec_plan.specs.ReplayForm.{IsReplayForm}
 use Rattle.run_file.specs.declared.why.FileWhy.{FileWhy}

@@ -4,7 +4,7 @@ use Rattle.std.specs.Option.{ForSome}
 use Rattle.std.specs.Prelude.{not, if◌then◌else◌}
 use Rattle.std.proofs.lemmas.Option.{none-some}
 use Rattle.spec_file.specs.Image.{Image, page, page_at, pages_of}
-use Rattle.spec_file.specs.ImageLaws.{length-pages_of, page-pages_of}
+use Rattle.spec_file.proofs.ImageLaws.{length-pages_of, page-pages_of}
 use Rattle.spec_file.specs.FileForm.{size_passes, header_passes, version_passes, geometry_of, count_passes}
 use Rattle.spec_file.specs.declared.geometry.Geometry.TheVariants.{Small}
 use Rattle.spec_log.specs.Cells.{HasWholePages}

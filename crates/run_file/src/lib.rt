@@ -20,6 +20,3 @@ pub use opening::open_file;
 pub use sources::{Texts, read_sources};
 pub use stop::SourcesStop;
 pub use why::{FileStop, FileWhy};
-
-#[cfg(test)]
-mod tests;

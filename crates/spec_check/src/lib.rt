@@ -5,6 +5,3 @@
 mod report;
 
 pub use report::{CheckError, CheckReport, TableLine};
-
-#[cfg(test)]
-mod tests;

@@ -1,6 +1,6 @@
 -- An image: a file as the list of its pages, each the list of its 8,192 bytes
 -- (Pages and Extents Architecture Guide).
-use Rattle.std.specs.Prelude.{ℕ, ◌+◌, ◌*◌, ◌/◌, ◌%◌, ◌==◌, ◌<◌, Bool, List, [], length, take, drop, map, slice_index, slice_index_or}
+use Rattle.std.specs.Prelude.{ℕ, ◌+◌, ◌*◌, ◌/◌, ◌%◌, ◌==◌, ◌<◌, Bool, List, [], length, take, drop, map, flat_map, slice_index, slice_index_or}
 use Rattle.std.specs.List.{range_with_len}
 use Rattle.std.specs.Int.{bit_at}
 use Rattle.byteorder.specs.Endian.{little_number}
@@ -39,3 +39,7 @@ maps_start = MAPS_START
 -- bit n of a map page is 1; the lowest bit of a byte comes first
 abbrev pub bit : List ℕ → ℕ → Bool
 bit bytes n = bit_at (slice_index bytes (maps_start + n / 8)) (n % 8) == 1
+
+-- the pages of an image, one after another
+abbrev pub bytes_of : Image → List ℕ
+bytes_of image = flat_map (λ page. page) image

@@ -1,5 +1,4 @@
 pub mod Image
-pub mod ImageLaws
 pub mod Header
 pub mod Places
 pub mod PlacesLaws

@@ -22,6 +22,3 @@ pub use sizes::{
     ENTRY_COUNT, EXTENT_SIZE, LARGEST_FILE, MAPS_START, PAGE_SIZE, PAYLOAD_LIMIT, ROOM, ROW_LIMIT,
     SMALLEST_FILE,
 };
-
-#[cfg(test)]
-mod tests;

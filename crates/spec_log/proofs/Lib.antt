@@ -1,1 +1,3 @@
 pub mod BytesLaws
+pub mod RulesLaws
+pub mod ItemLaws

@@ -1,10 +1,8 @@
 pub mod Items
 pub mod Bytes
 pub mod Log
-pub mod ItemLaws
 pub mod Cover
 pub mod Rules
-pub mod RulesLaws
 pub mod Limits
 pub mod Cells
 pub mod Images

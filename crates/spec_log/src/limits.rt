@@ -4,7 +4,7 @@
 pub const LONGEST_LOG: u64 = 536_870_912;
 
 /// The most changes of one transaction.
-pub const MOST_CHANGES: u32 = 8192;
+pub const MOST_CHANGES: u64 = 8192;
 
 /// The most items of a log that are changes, with an undo for each.
 pub const MOST_ITEMS: u64 = 1_048_576;

@@ -16,7 +16,7 @@ are_rows_apart bytes i j = (i == j) || (nat_le (row_end bytes i) (slot_at bytes 
 unfoldable pub passes_page : ℕ → ℕ → List ℕ → Bool
 passes_page p o bytes =
     is_none (owner_fault p o Heap (header_of bytes)) && (is_none (form_fault Heap (header_version bytes) (header_of bytes))
-    && (list_all (λ i. is_none (slot_fault bytes i)) (range_with_len 0 (slot_count bytes))
+    && (list_all (λ i. is_none (slot_fault Heap bytes i)) (range_with_len 0 (slot_count bytes))
     && (list_all (λ i. list_all (are_rows_apart bytes i) (range_with_len 0 (slot_count bytes))) (range_with_len 0 (slot_count bytes))
     && has_free_count bytes)))
 

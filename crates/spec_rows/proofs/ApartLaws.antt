@@ -3,7 +3,7 @@ use Rattle.std.specs.Prelude.{◌≢◌, ◌⊎◌, ℕ, zero, suc, ◌+◌, ◌
 use Rattle.std.proofs.Common.{arith, ap, inl, inr}
 use Rattle.std.proofs.lemmas.Bool.{cases_order, cases_lt}
 use Rattle.spec_rows.specs.Slots.{slot_limit, slot_count, slot_at, row_size, row_end}
-use Rattle.spec_rows.specs.PageTest.{OrderPasses, SlotsPass}
+use Rattle.spec_rows.specs.PageTest.{OrderPasses}
 use Rattle.spec_rows.specs.OrderLaws.{order_key, key_from_order, order_from_key}
 
 -- of two rows one ends before the other begins
@@ -37,16 +37,16 @@ find_between key low high (suc n) = elim (find_between key low high n) [
 ]
 
 -- a row that comes before another ends before it begins
-ends_before : (bytes : List ℕ) (fuel i j : ℕ) → slot_count bytes ≤ slot_limit → SlotsPass bytes → OrderPasses bytes
+ends_before : (bytes : List ℕ) (fuel i j : ℕ) → slot_count bytes ≤ slot_limit → OrderPasses bytes
     → i < slot_count bytes → j < slot_count bytes → order_key bytes i < order_key bytes j → order_key bytes j < order_key bytes i + fuel
     → row_end bytes i ≤ slot_at bytes j
-ends_before bytes zero i j few slots order i_in j_in less near = absurd (omega arith)
-ends_before bytes (suc fuel) i j few slots order i_in j_in less near =
+ends_before bytes zero i j few order i_in j_in less near = absurd (omega arith)
+ends_before bytes (suc fuel) i j few order i_in j_in less near =
     elim (find_between (order_key bytes) (order_key bytes i) (order_key bytes j) (slot_count bytes)) [
       | inl found ↦
           let k = found.0 in
-          let first = ends_before bytes fuel i k few slots order i_in found.1 found.2 (omega (arith, found.3)) in
-          let second = ends_before bytes fuel k j few slots order found.1 j_in found.3 (omega (arith, found.2)) in
+          let first = ends_before bytes fuel i k few order i_in found.1 found.2 (omega (arith, found.3)) in
+          let second = ends_before bytes fuel k j few order found.1 j_in found.3 (omega (arith, found.2)) in
           omega (arith, first, second)
       | inr none ↦ order i j (record {
         first = i_in;
@@ -57,11 +57,11 @@ ends_before bytes (suc fuel) i j few slots order i_in j_in less near =
       })
     ]
 
-pub apart_from_order : (bytes : List ℕ) → slot_count bytes ≤ slot_limit → SlotsPass bytes → OrderPasses bytes → AreApart bytes
-apart_from_order bytes few slots order i j i_in j_in other = elim (cases_order (order_key bytes i) (order_key bytes j)) [
+pub apart_from_order : (bytes : List ℕ) → slot_count bytes ≤ slot_limit → OrderPasses bytes → AreApart bytes
+apart_from_order bytes few order i j i_in j_in other = elim (cases_order (order_key bytes i) (order_key bytes j)) [
   | inl same ↦ absurd (other (omega (arith, same)))
-  | inr (inl less) ↦ inl (ends_before bytes (order_key bytes j + 1) i j few slots order i_in j_in less (omega arith))
-  | inr (inr more) ↦ inr (ends_before bytes (order_key bytes i + 1) j i few slots order j_in i_in more (omega arith))
+  | inr (inl less) ↦ inl (ends_before bytes (order_key bytes j + 1) i j few order i_in j_in less (omega arith))
+  | inr (inr more) ↦ inr (ends_before bytes (order_key bytes i + 1) j i few order j_in i_in more (omega arith))
 ]
 
 -- a row that comes before another doesn't begin behind it

@@ -8,8 +8,10 @@ use Rattle.std.proofs.Math.Nat.{div-one, div-div-eq-div-mul, pow-suc}
 use Rattle.std.proofs.lemmas.Bool.{eq-eqb, eqb-true, le-leb, leb-true, and_from, and_parts}
 use Rattle.byteorder.specs.Endian.{little_bytes, little_number, little_from}
 use Rattle.byteorder.specs.Numbers.{little_number-reads_back}
+use Rattle.spec_file.specs.declared.data.Kind.{Kind}
+use Rattle.spec_file.specs.declared.data.Kind.TheVariants.{Heap, Clustered}
 use Rattle.spec_file.specs.Image.{AreBytes, number_at}
-use Rattle.spec_rows.specs.Rows.{PageRow, DataRow, IndexRow, Fits, row_bytes, row_of, is_data_row, is_index_row}
+use Rattle.spec_rows.specs.Rows.{PageRow, DataRow, IndexRow, Fits, row_bytes, row_of, has_data_form, is_data_row, is_leaf_row, is_index_row}
 
 data_length : (key : ℕ) (payload : List ℕ) → length (row_bytes (DataRow key payload)) ≡ 11 + length payload
 unfolding row_bytes
@@ -51,11 +53,10 @@ data_is_whole : (key : ℕ) (payload : List ℕ) → 11 + length payload ≤ 102
 data_is_whole key payload fits =
     let bytes = row_bytes (DataRow key payload) in
     let size = data_length key payload in
-    and_from _ _ (and_from _ _ (and_from _ _
-    (eq-eqb (slice_index bytes 0) 16 (data_status_is key payload))
-    (eq-eqb (number_at 2 1 bytes) (length bytes) (data_size key payload fits ∙ sym size)))
+    and_from _ _ (eq-eqb (slice_index bytes 0) 16 (data_status_is key payload))
+    (and_from _ _ (and_from _ _ (eq-eqb (number_at 2 1 bytes) (length bytes) (data_size key payload fits ∙ sym size))
     (le-leb 11 (length bytes) (omega arith)))
-    (le-leb (length bytes) 1024 (omega arith))
+    (le-leb (length bytes) 1024 (omega arith)))
 
 pub reads_back : (row : PageRow) → Fits row → row_of (row_bytes row) ≡ Some row
 reads_back (DataRow key payload) fits =
@@ -108,15 +109,39 @@ index_parts key child = refl
 first_byte : (bytes : List ℕ) (b : ℕ) → 0 < length bytes → slice_index bytes 0 ≡ b → b ∷ drop 1 bytes ≡ bytes
 first_byte bytes b some is = ap (λ (x : ℕ). x ∷ drop 1 bytes) (sym is) ∙ sym (drop-cons bytes 0 0 some)
 
+-- what the form of a data row says of its length
+pub record DataForm (bytes : List ℕ) : Type 0 where
+  pub said : number_at 2 1 bytes ≡ length bytes
+  pub least : 11 ≤ length bytes
+  pub most : length bytes ≤ 1024
+
+pub data_form : (bytes : List ℕ) → has_data_form bytes ≡ true → DataForm bytes
+data_form bytes test =
+    let most = and_parts ((number_at 2 1 bytes == length bytes) && nat_le 11 (length bytes)) (nat_le (length bytes) 1024) test in
+    let least = and_parts (number_at 2 1 bytes == length bytes) (nat_le 11 (length bytes)) most.0 in
+    record {
+      said = eqb-true (number_at 2 1 bytes) (length bytes) least.0;
+      least = leb-true 11 (length bytes) least.1;
+      most = leb-true (length bytes) 1024 most.1;
+    }
+
+-- on a data page of today's kinds of tables each row is a data row
+pub leaf_is_data : (kind : Kind) (bytes : List ℕ) → is_leaf_row kind bytes ≡ true → is_data_row bytes ≡ true
+leaf_is_data Heap bytes test = test
+leaf_is_data Clustered bytes test = test
+
+pub data_is_leaf : (kind : Kind) (bytes : List ℕ) → is_data_row bytes ≡ true → is_leaf_row kind bytes ≡ true
+data_is_leaf Heap bytes test = test
+data_is_leaf Clustered bytes test = test
+
 pub data_spelled : (bytes : List ℕ) → AreBytes bytes → is_data_row bytes ≡ true
     → row_bytes (DataRow (number_at 8 3 bytes) (drop 11 bytes)) ≡ bytes
 unfolding row_bytes
 data_spelled bytes small test =
-    let most = and_parts ((slice_index bytes 0 == 16) && (number_at 2 1 bytes == length bytes) && nat_le 11 (length bytes)) (nat_le (length bytes) 1024) test in
-    let least = and_parts ((slice_index bytes 0 == 16) && (number_at 2 1 bytes == length bytes)) (nat_le 11 (length bytes)) most.0 in
-    let head = and_parts (slice_index bytes 0 == 16) (number_at 2 1 bytes == length bytes) least.0 in
-    let enough : 11 ≤ length bytes = leb-true 11 (length bytes) least.1 in
-    let said : number_at 2 1 bytes ≡ length bytes = eqb-true (number_at 2 1 bytes) (length bytes) head.1 in
+    let head = and_parts (slice_index bytes 0 == 16) (has_data_form bytes) test in
+    let form = data_form bytes head.1 in
+    let enough = form.least in
+    let said = form.said in
     let size : 11 + length (drop 11 bytes) ≡ number_at 2 1 bytes = omega (arith, length-drop 11 bytes, said) in
     let key = number_at 8 3 bytes in
     ap (λ (n : ℕ). 16 ∷ little_bytes 2 n ++ little_bytes 8 key ++ drop 11 bytes) size

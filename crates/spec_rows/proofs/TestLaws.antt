@@ -1,9 +1,9 @@
 -- The page test has one answer: a page either passes, or has one first fault.
-use Rattle.std.specs.Prelude.{◌≡◌, ℕ, ◌+◌, ◌*◌, ◌<◌, ◌≤◌, ◌==◌, ◌&&◌, nat_le, Bool, true, false, not, IsTrue, List, if◌then◌else◌, Option, Some, None, refl}
+use Rattle.std.specs.Prelude.{◌≡◌, ℕ, ◌+◌, ◌*◌, ◌<◌, ◌≤◌, ◌==◌, ◌&&◌, ◌||◌, nat_le, Bool, true, false, not, IsTrue, List, if◌then◌else◌, Option, Some, None, refl}
 use Rattle.std.proofs.Common.{arith, ap, sym, ◌∙◌, inl, inr}
 use Rattle.std.proofs.lemmas.Bool.{cases_order, or_left, eq-eqb, eqb-true, leb-true, and_parts, both_ways}
 use Rattle.spec_file.specs.declared.data.Kind.{Kind}
-use Rattle.spec_file.specs.declared.data.Kind.TheVariants.{Heap, Clustered}
+use Rattle.spec_file.specs.Kinds.{is_clustered}
 use Rattle.spec_file.specs.declared.header.Header.{Header}
 use Rattle.spec_file.specs.Header.{header_of, header_version}
 use Rattle.spec_rows.specs.declared.fault.SlotFault.{SlotFault}
@@ -44,17 +44,21 @@ pub header_passes : (p o : ℕ) (kind : Kind) (bytes : List ℕ) → spec.Passes
 header_passes p o kind bytes test =
     let h = header_of bytes in
     record {
-      owner = owner_passes (spec.is_own_page p h) (spec.has_row_type kind h) (spec.belongs_to o h) _ _ _ test.rest.own test.rest.type test.rest.object;
+      owner = owner_passes (spec.is_own_page p h) (spec.has_row_type kind h) (spec.belongs_to o h) _ _ _ test.rest.own test.rest.holds.type test.rest.object;
       form = form_passes (header_version bytes == 1) (spec.has_level h) (spec.has_rows h) (spec.has_links kind h) (spec.has_room h) (spec.has_no_ghosts h) _ _ _ _ _ _
           (eq-eqb (header_version bytes) 1 test.rest.holds.version) test.rest.holds.level test.rows test.rest.links test.rest.holds.room test.rest.holds.ghosts;
     }
 
-row_type_of : (kind : Kind) (h : Header) → IsTrue (spec.has_row_type kind h) → IsTrue (spec.has_row_type Clustered h)
-row_type_of Heap h test = or_left (h.page_type == 1) (h.page_type == 2) test
-row_type_of Clustered h test = test
+either_type : (tree one two : Bool) → (if tree then one || two else one) ≡ true → (one || two) ≡ true
+either_type true one two test = test
+either_type false one two test = or_left one two test
+
+-- rows stand on data pages and index pages
+pub row_type_of : (kind : Kind) (h : Header) → IsTrue (spec.has_row_type kind h) → IsTrue ((h.page_type == 1) || (h.page_type == 2))
+row_type_of kind h test = either_type (is_clustered kind) (h.page_type == 1) (h.page_type == 2) test
 
 -- a page of which no test fails passes
-pub passes_from : (p o : ℕ) (kind : Kind) (bytes : List ℕ) → spec.HeaderPasses p o kind bytes → spec.SlotsPass bytes
+pub passes_from : (p o : ℕ) (kind : Kind) (bytes : List ℕ) → spec.HeaderPasses p o kind bytes → spec.SlotsPass kind bytes
     → spec.OrderPasses bytes → IsTrue (spec.has_free_count bytes) → spec.PassesTest p o kind bytes
 passes_from p o kind bytes header slots order free =
     let h = header_of bytes in
@@ -63,11 +67,10 @@ passes_from p o kind bytes header slots order free =
     record {
       rest = record {
         own = owner.0;
-        type = owner.1;
         object = owner.2;
         links = form.3;
         holds = record {
-          type = row_type_of kind h owner.1;
+          type = owner.1;
           version = eqb-true (header_version bytes) 1 form.0;
           level = form.1;
           room = form.4;
@@ -94,17 +97,17 @@ no_fault p o kind bytes x test fault =
     elim fault [
       | spec.Owner here ↦ some_none (spec.owner_fault p o kind (header_of bytes)) x here header.owner
       | spec.Form owner here ↦ some_none (spec.form_fault kind (header_version bytes) (header_of bytes)) x here header.form
-      | spec.Slot passes first ↦ some_none (spec.slot_fault bytes first.slot) x first.here (holds.slots first.slot first.within)
+      | spec.Slot passes first ↦ some_none (spec.slot_fault kind bytes first.slot) x first.here (holds.slots first.slot first.within)
       | spec.Order passes slots first ↦ omega (arith, first.overlaps, holds.order first.one_before first.slot first.next)
       | spec.Free passes slots order wrong is ↦ both_ways (spec.has_free_count bytes) wrong holds.free
     ]
 
 -- the first slot that has a fault is one
-one_slot : (bytes : List ℕ) (x y : SlotFault) → spec.IsFirstSlotFault bytes x → spec.IsFirstSlotFault bytes y → x ≡ y
-one_slot bytes x y one two = elim (cases_order one.slot two.slot) [
-  | inl same ↦ same_some (spec.slot_fault bytes one.slot) x y one.here (ap (spec.slot_fault bytes) same ∙ two.here)
-  | inr (inl below) ↦ absurd (some_none (spec.slot_fault bytes one.slot) x one.here (two.earlier one.slot below))
-  | inr (inr above) ↦ absurd (some_none (spec.slot_fault bytes two.slot) y two.here (one.earlier two.slot above))
+one_slot : (kind : Kind) (bytes : List ℕ) (x y : SlotFault) → spec.IsFirstSlotFault kind bytes x → spec.IsFirstSlotFault kind bytes y → x ≡ y
+one_slot kind bytes x y one two = elim (cases_order one.slot two.slot) [
+  | inl same ↦ same_some (spec.slot_fault kind bytes one.slot) x y one.here (ap (spec.slot_fault kind bytes) same ∙ two.here)
+  | inr (inl below) ↦ absurd (some_none (spec.slot_fault kind bytes one.slot) x one.here (two.earlier one.slot below))
+  | inr (inr above) ↦ absurd (some_none (spec.slot_fault kind bytes two.slot) y two.here (one.earlier two.slot above))
 ]
 
 -- so is the first row that overlaps
@@ -130,8 +133,8 @@ few_slots p o kind bytes header =
     leb-true h.slots 4048 (and_parts (nat_le h.slots 4048) (nat_le 96 h.free_from) outer.0).0
 
 -- whether a slot has a fault where none may
-slots_clash : (bytes : List ℕ) (x : SlotFault) → spec.SlotsPass bytes → spec.IsFirstSlotFault bytes x → ⊥
-slots_clash bytes x pass first = some_none (spec.slot_fault bytes first.slot) x first.here (pass first.slot first.within)
+slots_clash : (kind : Kind) (bytes : List ℕ) (x : SlotFault) → spec.SlotsPass kind bytes → spec.IsFirstSlotFault kind bytes x → ⊥
+slots_clash kind bytes x pass first = some_none (spec.slot_fault kind bytes first.slot) x first.here (pass first.slot first.within)
 
 order_clash : (bytes : List ℕ) (x : SlotFault) → spec.OrderPasses bytes → spec.IsFirstOverlap bytes x → ⊥
 order_clash bytes x pass first = omega (arith, first.overlaps, pass first.one_before first.slot first.next)
@@ -150,16 +153,16 @@ one_fault p o kind bytes x y (spec.Form n a) (spec.Order h s r) = absurd (some_n
 one_fault p o kind bytes x y (spec.Form n a) (spec.Free h s r w e) = absurd (some_none _ x a h.form)
 one_fault p o kind bytes x y (spec.Slot g t) (spec.Owner b) = absurd (some_none _ y b g.owner)
 one_fault p o kind bytes x y (spec.Slot g t) (spec.Form m b) = absurd (some_none _ y b g.form)
-one_fault p o kind bytes x y (spec.Slot g t) (spec.Slot h s) = one_slot bytes x y t s
-one_fault p o kind bytes x y (spec.Slot g t) (spec.Order h s r) = absurd (slots_clash bytes x s t)
-one_fault p o kind bytes x y (spec.Slot g t) (spec.Free h s r w e) = absurd (slots_clash bytes x s t)
+one_fault p o kind bytes x y (spec.Slot g t) (spec.Slot h s) = one_slot kind bytes x y t s
+one_fault p o kind bytes x y (spec.Slot g t) (spec.Order h s r) = absurd (slots_clash kind bytes x s t)
+one_fault p o kind bytes x y (spec.Slot g t) (spec.Free h s r w e) = absurd (slots_clash kind bytes x s t)
 one_fault p o kind bytes x y (spec.Order g t u) (spec.Owner b) = absurd (some_none _ y b g.owner)
 one_fault p o kind bytes x y (spec.Order g t u) (spec.Form m b) = absurd (some_none _ y b g.form)
-one_fault p o kind bytes x y (spec.Order g t u) (spec.Slot h s) = absurd (slots_clash bytes y t s)
+one_fault p o kind bytes x y (spec.Order g t u) (spec.Slot h s) = absurd (slots_clash kind bytes y t s)
 one_fault p o kind bytes x y (spec.Order g t u) (spec.Order h s r) = one_overlap bytes x y (few_slots p o kind bytes g) u r
 one_fault p o kind bytes x y (spec.Order g t u) (spec.Free h s r w e) = absurd (order_clash bytes x r u)
 one_fault p o kind bytes x y (spec.Free g t u v d) (spec.Owner b) = absurd (some_none _ y b g.owner)
 one_fault p o kind bytes x y (spec.Free g t u v d) (spec.Form m b) = absurd (some_none _ y b g.form)
-one_fault p o kind bytes x y (spec.Free g t u v d) (spec.Slot h s) = absurd (slots_clash bytes y t s)
+one_fault p o kind bytes x y (spec.Free g t u v d) (spec.Slot h s) = absurd (slots_clash kind bytes y t s)
 one_fault p o kind bytes x y (spec.Free g t u v d) (spec.Order h s r) = absurd (order_clash bytes y u r)
 one_fault p o kind bytes x y (spec.Free g t u v d) (spec.Free h s r w e) = d ∙ sym e

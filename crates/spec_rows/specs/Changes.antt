@@ -4,6 +4,7 @@ use Rattle.std.specs.Prelude.{◌≡◌, ℕ, ◌+◌, ◌-◌, ◌*◌, ◌<◌
 use Rattle.spec_file.specs.Header.{header_of}
 use Rattle.spec_file.specs.declared.header.Header.{Header}
 use Rattle.spec_file.specs.declared.data.Kind.{Kind}
+use Rattle.spec_file.specs.declared.sizes.TheConstants.{MAPS_START, PAGE_SIZE}
 use Rattle.spec_rows.specs.PageTest.{PassesButRows, PassesTest}
 use Rattle.spec_rows.specs.Slots.{slot_count, rows_end, slot_at, row_size, rows_size, page_row}
 
@@ -26,18 +27,18 @@ with_counts slots free_count free_from h = record {
 abbrev pub Stays : ℕ → ℕ → List ℕ → List ℕ → Type 0
 Stays a b before now = slice_range now a b ≡ slice_range before a b
 
--- The rows stand from 96 in the order of their slots, with zeros behind them up to the slots.
+-- The rows stand right behind the header, in the order of their slots, with zeros behind them up to the slots.
 pub record IsCompacted (before now : List ℕ) : Type 0 where
   pub long : length now ≡ length before
   pub header : header_of now
-      ≡ with_counts (slot_count before) (header_of before).free_count (96 + rows_size before (slot_count before)) (header_of before)
+      ≡ with_counts (slot_count before) (header_of before).free_count (MAPS_START + rows_size before (slot_count before)) (header_of before)
   pub front : Stays 0 20 before now
-  pub unused : Stays 26 96 before now
-  pub slots : (i : ℕ) → i < slot_count before → slot_at now i ≡ 96 + rows_size before i
+  pub unused : Stays 26 MAPS_START before now
+  pub slots : (i : ℕ) → i < slot_count before → slot_at now i ≡ MAPS_START + rows_size before i
   pub rows : (i : ℕ) → i < slot_count before
-      → slice_range now (96 + rows_size before i) (96 + rows_size before (i + 1)) ≡ page_row before i
-  pub zeros : slice_range now (96 + rows_size before (slot_count before)) (8192 - 2 * slot_count before)
-      ≡ replicate (8192 - 2 * slot_count before - (96 + rows_size before (slot_count before))) 0
+      → slice_range now (MAPS_START + rows_size before i) (MAPS_START + rows_size before (i + 1)) ≡ page_row before i
+  pub zeros : slice_range now (MAPS_START + rows_size before (slot_count before)) (PAGE_SIZE - 2 * slot_count before)
+      ≡ replicate (PAGE_SIZE - 2 * slot_count before - (MAPS_START + rows_size before (slot_count before))) 0
 
 -- A row is put where the others end, and its slot moves the later ones by one.
 pub record IsPlaced (i : ℕ) (row : List ℕ) (before now : List ℕ) : Type 0 where
@@ -47,14 +48,14 @@ pub record IsPlaced (i : ℕ) (row : List ℕ) (before now : List ℕ) : Type 0 
   pub front : Stays 0 20 before now
   pub others : Stays 26 (rows_end before) before now
   pub placed : slice_range now (rows_end before) (rows_end before + length row) ≡ row
-  pub behind : Stays (rows_end before + length row) (8192 - 2 * (slot_count before + 1)) before now
+  pub behind : Stays (rows_end before + length row) (PAGE_SIZE - 2 * (slot_count before + 1)) before now
   pub earlier : (j : ℕ) → j < i → slot_at now j ≡ slot_at before j
   pub here : slot_at now i ≡ rows_end before
   pub later : (j : ℕ) → i ≤ j → j < slot_count before → slot_at now (j + 1) ≡ slot_at before j
 
 -- the row and its slot fit behind the rows
 abbrev pub FitsBehind : List ℕ → List ℕ → Type 0
-FitsBehind row before = rows_end before + length row + 2 * (slot_count before + 1) ≤ 8192
+FitsBehind row before = rows_end before + length row + 2 * (slot_count before + 1) ≤ PAGE_SIZE
 
 -- Insert: the page is compacted first where the row doesn't fit behind the others.
 pub data IsInserted (i : ℕ) (row : List ℕ) (before now : List ℕ) : Type 0 where
@@ -63,14 +64,14 @@ pub data IsInserted (i : ℕ) (row : List ℕ) (before now : List ℕ) : Type 0 
       → IsInserted i row before now
 
 -- Remove: later slots close up, the last entry becomes 0, and the row's bytes stay. Where no row is left,
--- rows begin at 96 again.
+-- rows begin right behind the header again.
 pub record IsRemoved (i : ℕ) (before now : List ℕ) : Type 0 where
   pub long : length now ≡ length before
   pub header : header_of now
       ≡ with_counts (slot_count before - 1) ((header_of before).free_count + row_size before i + 2)
-      (if slot_count before == 1 then 96 else rows_end before) (header_of before)
+      (if slot_count before == 1 then MAPS_START else rows_end before) (header_of before)
   pub front : Stays 0 20 before now
-  pub others : Stays 26 (8192 - 2 * slot_count before) before now
+  pub others : Stays 26 (PAGE_SIZE - 2 * slot_count before) before now
   pub earlier : (j : ℕ) → j < i → slot_at now j ≡ slot_at before j
   pub later : (j : ℕ) → i ≤ j → j + 1 < slot_count before → slot_at now j ≡ slot_at before (j + 1)
   pub cleared : slot_at now (slot_count before - 1) ≡ 0
@@ -82,9 +83,9 @@ pub record IsReplaced (i : ℕ) (row : List ℕ) (before now : List ℕ) : Type 
   pub inserted : IsInserted i row middle now
 
 -- what the page test asks beside rows is still met
-abbrev pub KeepsTest : List ℕ → List ℕ → Type 0
-KeepsTest before now = (p o : ℕ) (kind : Kind) → PassesButRows p o kind before → PassesButRows p o kind now
+abbrev pub KeepsTest : Kind → List ℕ → List ℕ → Type 0
+KeepsTest kind before now = (p o : ℕ) → PassesButRows p o kind before → PassesButRows p o kind now
 
 -- the page passes its test again, whether or not it had rows
-abbrev pub MeetsTest : List ℕ → List ℕ → Type 0
-MeetsTest before now = (p o : ℕ) (kind : Kind) → PassesButRows p o kind before → PassesTest p o kind now
+abbrev pub MeetsTest : Kind → List ℕ → List ℕ → Type 0
+MeetsTest kind before now = (p o : ℕ) → PassesButRows p o kind before → PassesTest p o kind now

@@ -2,7 +2,9 @@
 -- test that fails gives the fault.
 use Rattle.std.specs.Prelude.{◌≡◌, ◌⊎◌, ℕ, ◌+◌, ◌*◌, ◌<◌, ◌≤◌, ◌==◌, ◌&&◌, ◌||◌, Bool, true, false, not, IsTrue, List, nat_le, nat_lt, if◌then◌else◌, Option, Some, None}
 use Rattle.spec_file.specs.declared.data.Kind.{Kind}
-use Rattle.spec_file.specs.declared.data.Kind.TheVariants.{Heap, Clustered}
+use Rattle.spec_file.specs.declared.page_type.TheConstants.{DATA_TYPE, INDEX_TYPE}
+use Rattle.spec_file.specs.declared.sizes.TheConstants.{MAPS_START, PAGE_SIZE, ROOM}
+use Rattle.spec_file.specs.Kinds.{is_clustered}
 use Rattle.spec_file.specs.Header.{header_of, header_version}
 use Rattle.spec_file.specs.declared.header.Header.{Header}
 use Rattle.spec_rows.specs.declared.fault.SlotFault.{SlotFault}
@@ -13,30 +15,29 @@ use Rattle.spec_rows.specs.Slots.{slot_limit, slot_count, rows_end, slot_at, beg
 abbrev pub is_own_page : ℕ → Header → Bool
 is_own_page p h = h.page_id.0 == p
 
--- rows stand on pages of type 1, in a clustered table also of type 2
+-- rows stand on data pages, in a clustered table also on index pages
 abbrev pub has_row_type : Kind → Header → Bool
-has_row_type Heap h = h.page_type == 1
-has_row_type Clustered h = (h.page_type == 1) || (h.page_type == 2)
+has_row_type kind h =
+    if is_clustered kind then (h.page_type == DATA_TYPE) || (h.page_type == INDEX_TYPE) else h.page_type == DATA_TYPE
 
 abbrev pub belongs_to : ℕ → Header → Bool
 belongs_to o h = h.object.0 == o
 
 -- a data page has level 0, an index page 1 to 15
 abbrev pub has_level : Header → Bool
-has_level h = if h.page_type == 1 then h.level == 0 else (nat_le 1 h.level && nat_le h.level 15)
+has_level h = if h.page_type == DATA_TYPE then h.level == 0 else (nat_le 1 h.level && nat_le h.level 15)
 
 -- an index page has rows
 abbrev pub has_rows : Header → Bool
-has_rows h = not ((h.page_type == 2) && (h.slots == 0))
+has_rows h = not ((h.page_type == INDEX_TYPE) && (h.slots == 0))
 
--- a heap page has no neighbours
+-- outside a tree a page has no neighbours
 abbrev pub has_links : Kind → Header → Bool
-has_links Heap h = (h.prev.0 == 0) && (h.next.0 == 0)
-has_links Clustered h = true
+has_links kind h = if is_clustered kind then true else (h.prev.0 == 0) && (h.next.0 == 0)
 
 -- the rows end between the header and the slots
 abbrev pub has_room : Header → Bool
-has_room h = nat_le h.slots slot_limit && nat_le 96 h.free_from && nat_le (h.free_from + 2 * h.slots) 8192
+has_room h = nat_le h.slots slot_limit && nat_le MAPS_START h.free_from && nat_le (h.free_from + 2 * h.slots) PAGE_SIZE
 
 abbrev pub has_no_ghosts : Header → Bool
 has_no_ghosts h = h.ghosts == 0
@@ -66,18 +67,18 @@ form_fault kind version h =
 -- The tests of the slots.
 
 -- 8941 where no row begins, 8943 where the row passes the end of the rows
-abbrev pub slot_fault : List ℕ → ℕ → Option SlotFault
-slot_fault bytes i =
-    if not (begins_row bytes i) then Some (fault 8941 i (slot_at bytes i))
+abbrev pub slot_fault : Kind → List ℕ → ℕ → Option SlotFault
+slot_fault kind bytes i =
+    if not (begins_row kind bytes i) then Some (fault 8941 i (slot_at bytes i))
     else (if nat_lt (rows_end bytes) (row_end bytes i) then Some (fault 8943 i (row_end bytes i))
     else None)
 
 -- the fault is that of a slot, and no earlier slot has one
-pub record IsFirstSlotFault (bytes : List ℕ) (x : SlotFault) : Type 0 where
+pub record IsFirstSlotFault (kind : Kind) (bytes : List ℕ) (x : SlotFault) : Type 0 where
   pub slot : ℕ
   pub within : slot < slot_count bytes
-  pub here : slot_fault bytes slot ≡ Some x
-  pub earlier : (i : ℕ) → i < slot → slot_fault bytes i ≡ None
+  pub here : slot_fault kind bytes slot ≡ Some x
+  pub earlier : (i : ℕ) → i < slot → slot_fault kind bytes i ≡ None
 
 -- The test of the rows in the order of offset, then slot.
 
@@ -103,28 +104,27 @@ pub record IsFirstOverlap (bytes : List ℕ) (x : SlotFault) : Type 0 where
 -- what neither the header nor rows nor slots use is free
 abbrev pub has_free_count : List ℕ → Bool
 has_free_count bytes =
-    (header_of bytes).free_count + rows_size bytes (slot_count bytes) + 2 * slot_count bytes == 8096
+    (header_of bytes).free_count + rows_size bytes (slot_count bytes) + 2 * slot_count bytes == ROOM
 
 -- The whole test.
 
--- what the rows of a page need; the calls that change rows keep it
-pub record HoldsRows (bytes : List ℕ) : Type 0 where
-  pub type : IsTrue (has_row_type Clustered (header_of bytes))
+-- what the rows of a page of a table need, by the table's kind; the calls that change rows keep it
+pub record HoldsRows (kind : Kind) (bytes : List ℕ) : Type 0 where
+  pub type : IsTrue (has_row_type kind (header_of bytes))
   pub version : header_version bytes ≡ 1
   pub level : IsTrue (has_level (header_of bytes))
   pub room : IsTrue (has_room (header_of bytes))
   pub ghosts : IsTrue (has_no_ghosts (header_of bytes))
-  pub slots : (i : ℕ) → i < slot_count bytes → slot_fault bytes i ≡ None
+  pub slots : (i : ℕ) → i < slot_count bytes → slot_fault kind bytes i ≡ None
   pub order : (i j : ℕ) → IsOneBefore bytes i j → row_end bytes i ≤ slot_at bytes j
   pub free : IsTrue (has_free_count bytes)
 
 -- the page passes every test but the one that an index page has rows
 pub record PassesButRows (p o : ℕ) (kind : Kind) (bytes : List ℕ) : Type 0 where
   pub own : IsTrue (is_own_page p (header_of bytes))
-  pub type : IsTrue (has_row_type kind (header_of bytes))
   pub object : IsTrue (belongs_to o (header_of bytes))
   pub links : IsTrue (has_links kind (header_of bytes))
-  pub holds : HoldsRows bytes
+  pub holds : HoldsRows kind bytes
 
 -- the page passes its test
 pub record PassesTest (p o : ℕ) (kind : Kind) (bytes : List ℕ) : Type 0 where
@@ -136,8 +136,8 @@ pub record HeaderPasses (p o : ℕ) (kind : Kind) (bytes : List ℕ) : Type 0 wh
   pub owner : owner_fault p o kind (header_of bytes) ≡ None
   pub form : form_fault kind (header_version bytes) (header_of bytes) ≡ None
 
-abbrev pub SlotsPass : List ℕ → Type 0
-SlotsPass bytes = (i : ℕ) → i < slot_count bytes → slot_fault bytes i ≡ None
+abbrev pub SlotsPass : Kind → List ℕ → Type 0
+SlotsPass kind bytes = (i : ℕ) → i < slot_count bytes → slot_fault kind bytes i ≡ None
 
 abbrev pub OrderPasses : List ℕ → Type 0
 OrderPasses bytes = (i j : ℕ) → IsOneBefore bytes i j → row_end bytes i ≤ slot_at bytes j
@@ -146,7 +146,7 @@ OrderPasses bytes = (i j : ℕ) → IsOneBefore bytes i j → row_end bytes i �
 pub data IsFirstFault (p o : ℕ) (kind : Kind) (bytes : List ℕ) (x : SlotFault) : Type 0 where
   Owner : owner_fault p o kind (header_of bytes) ≡ Some x → IsFirstFault p o kind bytes x
   Form : owner_fault p o kind (header_of bytes) ≡ None → form_fault kind (header_version bytes) (header_of bytes) ≡ Some x → IsFirstFault p o kind bytes x
-  Slot : HeaderPasses p o kind bytes → IsFirstSlotFault bytes x → IsFirstFault p o kind bytes x
-  Order : HeaderPasses p o kind bytes → SlotsPass bytes → IsFirstOverlap bytes x → IsFirstFault p o kind bytes x
-  Free : HeaderPasses p o kind bytes → SlotsPass bytes → OrderPasses bytes → has_free_count bytes ≡ false
+  Slot : HeaderPasses p o kind bytes → IsFirstSlotFault kind bytes x → IsFirstFault p o kind bytes x
+  Order : HeaderPasses p o kind bytes → SlotsPass kind bytes → IsFirstOverlap bytes x → IsFirstFault p o kind bytes x
+  Free : HeaderPasses p o kind bytes → SlotsPass kind bytes → OrderPasses bytes → has_free_count bytes ≡ false
       → x ≡ fault 8939 0 7 → IsFirstFault p o kind bytes x

@@ -1,14 +1,18 @@
 -- The slot array and the rows of a page (this project's own). Slot 0 stands in the page's last two bytes,
--- each later slot before it. A page of type 2 has index rows, any other data rows.
+-- each later slot before it. An index page has index rows, any other rows of the form of data rows.
 use Rattle.std.specs.Prelude.{ℕ, ◌+◌, ◌-◌, ◌*◌, ◌==◌, ◌&&◌, Bool, List, map, nat_le, nat_lt, slice_index, slice_range, if◌then◌else◌}
 use Rattle.std.specs.List.{range_with_len, sum_by}
+use Rattle.spec_file.specs.declared.data.Kind.{Kind}
+use Rattle.spec_file.specs.declared.page_type.TheConstants.{INDEX_TYPE}
+use Rattle.spec_file.specs.declared.sizes.TheConstants.{MAPS_START}
 use Rattle.spec_file.specs.Image.{number_at}
 use Rattle.spec_file.specs.Header.{header_of, page_type}
-use Rattle.spec_rows.specs.Rows.{data_status, index_status, data_head, row_limit, index_length, is_data_row, is_index_row, row_key}
+use Rattle.spec_rows.specs.declared.sizes.TheConstants.{SLOT_LIMIT}
+use Rattle.spec_rows.specs.Rows.{index_status, data_head, row_limit, index_length, is_data_status, is_leaf_row, is_index_row, row_key}
 
 -- the most slots for which a page has room
 abbrev pub slot_limit : ℕ
-slot_limit = 4048
+slot_limit = SLOT_LIMIT
 
 abbrev pub slot_count : List ℕ → ℕ
 slot_count bytes = (header_of bytes).slots
@@ -18,23 +22,23 @@ abbrev pub rows_end : List ℕ → ℕ
 rows_end bytes = (header_of bytes).free_from
 
 abbrev pub has_index_rows : List ℕ → Bool
-has_index_rows bytes = page_type bytes == 2
+has_index_rows bytes = page_type bytes == INDEX_TYPE
 
 -- the offset that slot i gives
 abbrev pub slot_at : List ℕ → ℕ → ℕ
 slot_at bytes i = number_at 2 (8190 - 2 * i) bytes
 
--- a row header of the page's kind stands at an offset, whole before the end of the rows
-abbrev pub has_row_header : List ℕ → ℕ → Bool
-has_row_header bytes at =
+-- a row header that the page may have stands at an offset, whole before the end of the rows
+abbrev pub has_row_header : Kind → List ℕ → ℕ → Bool
+has_row_header kind bytes at =
     if has_index_rows bytes then slice_index bytes at == index_status
-    else ((slice_index bytes at == data_status) && nat_le (at + 3) (rows_end bytes)
+    else (is_data_status kind (slice_index bytes at) && nat_le (at + 3) (rows_end bytes)
     && nat_le data_head (number_at 2 (at + 1) bytes) && nat_le (number_at 2 (at + 1) bytes) row_limit)
 
 -- a row begins at the offset of slot i
-abbrev pub begins_row : List ℕ → ℕ → Bool
-begins_row bytes i =
-    nat_le 96 (slot_at bytes i) && nat_lt (slot_at bytes i) (rows_end bytes) && has_row_header bytes (slot_at bytes i)
+abbrev pub begins_row : Kind → List ℕ → ℕ → Bool
+begins_row kind bytes i =
+    nat_le MAPS_START (slot_at bytes i) && nat_lt (slot_at bytes i) (rows_end bytes) && has_row_header kind bytes (slot_at bytes i)
 
 -- the length that the row at an offset says it has
 abbrev pub size_at : List ℕ → ℕ → ℕ
@@ -62,6 +66,6 @@ page_keys bytes = map row_key (page_rows bytes)
 abbrev pub rows_size : List ℕ → ℕ → ℕ
 rows_size bytes n = sum_by (row_size bytes) (range_with_len 0 n)
 
--- a row that may stand on the page
-abbrev pub fits_page : List ℕ → List ℕ → Bool
-fits_page bytes row = if has_index_rows bytes then is_index_row row else is_data_row row
+-- a row that may stand on the page, of a table of this kind
+abbrev pub fits_page : Kind → List ℕ → List ℕ → Bool
+fits_page kind bytes row = if has_index_rows bytes then is_index_row row else is_leaf_row kind row

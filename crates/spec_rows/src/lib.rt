@@ -3,5 +3,7 @@
 #![tactic(auto)]
 
 mod fault;
+mod sizes;
 
 pub use fault::SlotFault;
+pub use sizes::{DATA_HEAD, DATA_STATUS, INDEX_LENGTH, INDEX_STATUS, SLOT_LIMIT};

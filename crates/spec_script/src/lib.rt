@@ -19,6 +19,3 @@ pub use name::Name;
 pub use reply::{Cause, Refusal, Reply};
 pub use statement::Statement;
 pub use stop::ScriptWhy;
-
-#[cfg(test)]
-mod tests;

@@ -16,6 +16,3 @@ pub use print::print_statement;
 pub use read::{read_schedule, read_script};
 pub use stop::ScriptStop;
 pub use words::number_within;
-
-#[cfg(test)]
-mod tests;

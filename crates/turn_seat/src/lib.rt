@@ -16,8 +16,6 @@ ghost use Rattle.turn_seat.specs.Shown.{IsOf, first_seat, with_seen, with_seat};
 ghost use Rattle.turn_seat.specs.Rule.{outside, waiting, TakesState};
 
 mod rule;
-#[cfg(test)]
-mod tests;
 mod waiting;
 
 use atomic_table::{Refused, Table};

@@ -8,7 +8,7 @@ use Rattle.std.proofs.lemmas.Bool.{cases_order}
 use Rattle.std.proofs.lemmas.Slice.{drop-append-drop}
 use Rattle.std.proofs.Math.Seq.{take-append_seam, drop-append_seam}
 use Rattle.spec_file.specs.Image.{page_size, page_at, pages_of}
-use Rattle.spec_file.specs.ImageLaws.{length-pages_of}
+use Rattle.spec_file.proofs.ImageLaws.{length-pages_of}
 use Rattle.vol_dev.specs.Devices.{HasPage, FitsPage, with_page}
 
 -- the bytes before a page's place

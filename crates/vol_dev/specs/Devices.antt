@@ -1,5 +1,5 @@
 -- What calls of a device do to the bytes that it tells of.
-use Rattle.std.specs.Prelude.{◌≡◌, ◌⊎◌, ℕ, ◌+◌, ◌*◌, ◌≤◌, List, ◌++◌, length, take, drop, Option, option_map}
+use Rattle.std.specs.Prelude.{◌≡◌, ◌⊎◌, ℕ, ◌+◌, ◌*◌, ◌≤◌, Bool, true, false, List, ◌++◌, length, take, drop, Option, option_map}
 use Rattle.std.specs.Io.KnownBytes.{append_known}
 use Rattle.spec_file.specs.Image.{page_size}
 
@@ -9,6 +9,11 @@ pub record WroteFront (old new : Option (List ℕ)) (bytes : List ℕ) : Type 0 
   pub rest : List ℕ
   pub parts : bytes ≡ front ++ rest
   pub grown : new ≡ append_known old front
+
+-- told bytes have grown by these; where the call failed, by a front of them
+abbrev pub Grows : Option (List ℕ) → Option (List ℕ) → List ℕ → Bool → Type 0
+Grows old new bytes false = new ≡ append_known old bytes
+Grows old new bytes true = WroteFront old new bytes
 
 -- page p lies inside the bytes
 abbrev pub HasPage : ℕ → List ℕ → Type 0

@@ -1,2 +1,4 @@
 pub mod Devices
+pub mod Files
+pub mod Output
 pub mod Memory

@@ -5,7 +5,7 @@ ghost use Rattle.pg_base.specs.Faults.{Rose};
 use crate::DeviceFailed;
 
 /// How often a device has failed.
-#[derive(Clone, Copy, Debug, PartialEq, Eq)]
+#[derive(Clone, Copy)]
 pub struct FaultCount {
     pub value: u64,
 }

@@ -1,16 +1,14 @@
-ghost use Rattle.std.specs.Prelude.{◌≡◌, ◌⊎◌, ◌<◌, ◌≤◌, List, ℕ, length, take, drop, Option, IfSome, IfOk, OnOk, OnErr, IsErrOf};
+ghost use Rattle.std.specs.Prelude.{◌≡◌, ◌⊎◌, ◌<◌, ◌≤◌, List, ℕ, length, take, drop, is_err, Option, IfSome, IfOk, IsErr, OnOk, OnErr, IsErrOf};
 ghost use Rattle.std.specs.Option.{ForSome};
-ghost use Rattle.std.specs.Io.KnownBytes.{append_known, prepend_known, IsAtEnd};
+ghost use Rattle.std.specs.Io.KnownBytes.{prepend_known, IsAtEnd};
 ghost use Rattle.spec_file.specs.Image.{page_at};
-ghost use Rattle.pg_base.specs.Faults.{Rose};
+ghost use Rattle.pg_base.specs.Faults.{Counts};
 ghost use Rattle.vol_dev.specs.declared.device.LogStop.TheVariants.{Failed, NoMemory};
-ghost use Rattle.vol_dev.specs.Devices.{HasPage, FitsPage, WroteFront, MayHaveSpoiled, with_known_page};
+ghost use Rattle.vol_dev.specs.Devices.{Grows, HasPage, FitsPage, MayHaveSpoiled, with_known_page};
 
 use pg_base::{Page, PageNo};
+use spec_log::LONGEST_LOG;
 use std::alloc::AllocError;
-
-/// The most bytes that a log may have when it is opened (this project's own).
-pub const LONGEST_LOG: u64 = 536_870_912;
 
 /// A device failed in this call, and counted it.
 #[derive(Clone, Copy, Debug, PartialEq, Eq)]
@@ -25,21 +23,21 @@ pub trait Volume {
     /// How often the file has failed. The count never falls.
     ghost faults: { Self → ℕ };
 
-    /// How many bytes the file has.
+    /// How many bytes the file has. Only a failure counts.
     fn size(&mut self) -> Result<u64, DeviceFailed>
         ensures ok { IfOk result (λ n. IfSome (contents self.old) (λ bytes. n ≡ length bytes)) }
         ensures same { contents self.new ≡ contents self.old }
-        ensures fault { OnErr result (Rose (faults self.old) (faults self.new)) }
-        ensures faults { faults self.old ≤ faults self.new };
+        ensures still { OnOk result (faults self.new ≡ faults self.old) }
+        ensures faults { Counts (IsErr result) (faults self.old) (faults self.new) };
 
-    /// Fills `into` with page `p`. After a failure `into` may hold anything.
+    /// Fills `into` with page `p`. After a failure `into` may hold anything. Only a failure counts.
     fn read(&mut self, p: PageNo, into: &mut Page) -> Result<(), DeviceFailed>
         requires { ForSome (contents self.old) (HasPage p.0) }
         ensures ok { OnOk result (IfSome (contents self.old)
             (λ bytes. into.new.bytes ≡ page_at bytes p.0)) }
         ensures same { contents self.new ≡ contents self.old }
-        ensures fault { OnErr result (Rose (faults self.old) (faults self.new)) }
-        ensures faults { faults self.old ≤ faults self.new };
+        ensures still { OnOk result (faults self.new ≡ faults self.old) }
+        ensures faults { Counts (IsErr result) (faults self.old) (faults self.new) };
 
     /// Makes `from` page `p`; at the number of pages it adds one.
     fn write(&mut self, p: PageNo, from: &Page) -> Result<(), DeviceFailed>
@@ -47,8 +45,7 @@ pub trait Volume {
         ensures ok { OnOk result
             (contents self.new ≡ with_known_page (contents self.old) p.0 from.now.bytes) }
         ensures err { OnErr result (MayHaveSpoiled (contents self.old) (contents self.new) p.0) }
-        ensures fault { OnErr result (Rose (faults self.old) (faults self.new)) }
-        ensures faults { faults self.old ≤ faults self.new };
+        ensures faults { Counts (IsErr result) (faults self.old) (faults self.new) };
 }
 
 /// Why a log was not read.
@@ -99,15 +96,12 @@ pub trait LogFile {
             → IsErrOf result LogStop.TooLong ⊎ IsErrOf result LogStop.Failed) }
 
         ensures no_memory { IsErrOf result LogStop.NoMemory → faults self.new ≡ faults self.old }
-        ensures fault { IsErrOf result LogStop.Failed → Rose (faults self.old) (faults self.new) }
-        ensures faults { faults self.old ≤ faults self.new };
+        ensures faults { Counts (IsErrOf result LogStop.Failed) (faults self.old) (faults self.new) };
 
     /// Adds the bytes at the end. After a failure a front of them stands there.
     fn append(&mut self, bytes: &[u8]) -> Result<(), DeviceFailed>
-        ensures ok { OnOk result (contents self.new ≡ append_known (contents self.old) bytes.now) }
-        ensures err { OnErr result (WroteFront (contents self.old) (contents self.new) bytes.now) }
-        ensures fault { OnErr result (Rose (faults self.old) (faults self.new)) }
-        ensures faults { faults self.old ≤ faults self.new };
+        ensures grows { Grows (contents self.old) (contents self.new) bytes.now (is_err result) }
+        ensures faults { Counts (IsErr result) (faults self.old) (faults self.new) };
 }
 
 /// Bytes that are read from the front to the end, as a script or a schedule (this project's own).
@@ -127,8 +121,7 @@ pub trait Source {
         ensures end { IfOk result (λ n. n ≡ 0 → 0 < length into.old → IsAtEnd (left self.new)) }
         ensures rest { IfOk result (λ n. drop n into.new ≡ drop n into.old) }
         ensures err { OnErr result (left self.new ≡ left self.old) }
-        ensures fault { OnErr result (Rose (faults self.old) (faults self.new)) }
-        ensures faults { faults self.old ≤ faults self.new };
+        ensures faults { Counts (IsErr result) (faults self.old) (faults self.new) };
 }
 
 /// An output, which only grows (this project's own).
@@ -141,8 +134,6 @@ pub trait Sink {
 
     /// Adds the bytes at the end. After a failure a front of them stands there.
     fn write(&mut self, bytes: &[u8]) -> Result<(), DeviceFailed>
-        ensures ok { OnOk result (contents self.new ≡ append_known (contents self.old) bytes.now) }
-        ensures err { OnErr result (WroteFront (contents self.old) (contents self.new) bytes.now) }
-        ensures fault { OnErr result (Rose (faults self.old) (faults self.new)) }
-        ensures faults { faults self.old ≤ faults self.new };
+        ensures grows { Grows (contents self.old) (contents self.new) bytes.now (is_err result) }
+        ensures faults { Counts (IsErr result) (faults self.old) (faults self.new) };
 }

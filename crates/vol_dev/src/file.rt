@@ -4,8 +4,9 @@ ghost use Rattle.std.specs.Prelude.{◌≡◌, ◌≤◌, length, drop, None, If
 
 use crate::count::FaultCount;
 use crate::pieces::copy_front;
-use crate::{DeviceFailed, LONGEST_LOG, LogFile, LogStop, Sink, Source, Volume};
+use crate::{DeviceFailed, LogFile, LogStop, Sink, Source, Volume};
 use pg_base::{PAGE_SIZE, Page, PageNo};
+use spec_log::LONGEST_LOG;
 use std::fs::OpenOptions;
 use std::io::{Read, Seek, SeekFrom, Write};
 use std::rt::Files;

@@ -9,9 +9,6 @@ mod file;
 mod memory;
 mod pieces;
 
-pub use device::{DeviceFailed, LONGEST_LOG, LogFile, LogStop, Sink, Source, Volume};
+pub use device::{DeviceFailed, LogFile, LogStop, Sink, Source, Volume};
 pub use file::{FileLog, FileSource, FileVolume, StdoutSink};
 pub use memory::{FailAt, MemLog, MemSink, MemSource, MemVolume};
-
-#[cfg(test)]
-mod tests;

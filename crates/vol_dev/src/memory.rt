@@ -5,12 +5,13 @@ ghost use Rattle.vol_dev.specs.Devices.{with_page};
 
 use crate::count::FaultCount;
 use crate::pieces::copy_front;
-use crate::{DeviceFailed, LONGEST_LOG, LogFile, LogStop, Sink, Source, Volume};
+use crate::{DeviceFailed, LogFile, LogStop, Sink, Source, Volume};
 use pg_base::{PAGE_SIZE, Page, PageNo};
+use spec_log::LONGEST_LOG;
 use std::alloc::{AllocError, Global};
 
 /// Where a data file in memory is to fail: the `nth` read, or write, of that page, from 1.
-#[derive(Clone, Copy, Debug, PartialEq, Eq)]
+#[derive(Clone, Copy)]
 pub struct FailAt {
     pub page: PageNo,
     pub write: bool,

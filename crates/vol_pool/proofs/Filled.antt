@@ -5,8 +5,33 @@ use Rattle.std.proofs.lemmas.List.{take_more}
 use Rattle.std.proofs.lemmas.List.Elements.{All-push}
 use Rattle.std.proofs.Math.Seq.{take-length}
 use Rattle.spec_file.specs.Image.{Image, page_at, pages_of}
-use Rattle.spec_file.specs.ImageLaws.{length-pages_of, page-pages_of}
+use Rattle.spec_file.proofs.ImageLaws.{length-pages_of, page-pages_of}
 use Rattle.spec_log.specs.Cells.{HasWholePages}
+use Rattle.pg_base.specs.declared.reader.ReadStop.{ReadStop}
+use Rattle.pg_base.specs.declared.reader.ReadStop.TheVariants.{Fault, Ended, NoMemory}
+use Rattle.vol_dev.specs.declared.device.Volume.{Ghosts}
+use Rattle.pg_base.proofs.FaultLaws.{counts_none}
+use Rattle.vol_dev.proofs.FileReads.{reads_file_then}
+use Rattle.vol_pool.specs.Reading.{IsFault, IsWithin, ReadsPages}
+
+more_within : (p pages : ℕ) (end : Option ReadStop) → p < pages → IsWithin (p + 1) end → IsWithin pages end
+more_within p pages None below w = tt
+more_within p pages (Some (Fault q)) below w = omega (arith, below, w)
+more_within p pages (Some Ended) below w = w
+more_within p pages (Some NoMemory) below w = tt
+
+module _ {X : Type 0} (v : Ghosts X) (pages : ℕ) where
+  -- no page was read
+  pub reads_no_page : (a : X) → ReadsPages v pages a a None
+  reads_no_page a = record { reads = record { contents = refl; faults = counts_none (IsFault None) (v.faults a) (λ is. is) }; within = tt }
+
+  -- page p was read behind others
+  pub reads_one_more : (p : ℕ) (a b c : X) (end : Option ReadStop) → p < pages → ReadsPages v pages a b None → ReadsPages v (p + 1) b c end
+      → ReadsPages v pages a c end
+  reads_one_more p a b c end below q r = record {
+    reads = reads_file_then v a b c (IsFault None) (IsFault end) q.reads r.reads;
+    within = more_within p pages end below r.within;
+  }
 
 has_pages : (bytes : List ℕ) (pages : ℕ) → length bytes ≡ 8192 * pages → length bytes / 8192 ≡ pages
 has_pages bytes pages whole = omega (arith, whole)

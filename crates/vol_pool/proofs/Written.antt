@@ -6,7 +6,7 @@ use Rattle.std.proofs.Math.Seq.{take-length, get_or-append_seam}
 use Rattle.std.proofs.Math.ListN.{drop_of_length-le}
 use Rattle.std.proofs.lemmas.Option.{same_Some}
 use Rattle.spec_file.specs.Image.{Image, page, page_at, pages_of}
-use Rattle.spec_file.specs.ImageLaws.{length-pages_of, page-pages_of}
+use Rattle.spec_file.proofs.ImageLaws.{length-pages_of, page-pages_of}
 use Rattle.vol_dev.specs.Devices.{HasPage, with_known_page, MayHaveSpoiled}
 use Rattle.vol_dev.proofs.PageLaws.{pages_of-with_page, length-with_page}
 use Rattle.vol_pool.specs.Writing.{Leaves, Spoils, StopsWriting, SameUnmarked, is_marked, Leaves-then}

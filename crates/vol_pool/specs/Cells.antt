@@ -1,6 +1,8 @@
 -- Bytes that may be put into a cell.
 use Rattle.std.specs.Prelude.{◌≡◌, ℕ, ◌+◌, ◌-◌, ◌<◌, ◌≤◌, List, [], ◌∷◌, length, slice_get, Some}
 use Rattle.spec_file.specs.Image.{Image}
+use Rattle.spec_file.specs.declared.sizes.TheConstants.{PAGE_SIZE}
+use Rattle.spec_log.specs.declared.limits.TheConstants.{BIT_COUNT}
 use Rattle.spec_log.specs.declared.item.Record.{Record}
 use Rattle.spec_log.specs.declared.item.Record.TheVariants.{Change}
 use Rattle.spec_log.specs.Images.{page_of_cell}
@@ -8,8 +10,8 @@ use Rattle.spec_log.specs.declared.item.Cell.{Cell}
 use Rattle.spec_log.specs.declared.item.Cell.TheVariants.{Bytes, Bit}
 
 abbrev pub FitsCell : Cell → List ℕ → Type 0
-FitsCell (Bytes page off) bytes = off + length bytes ≤ 8192
-FitsCell (Bit page n) bytes = (n < 63904) × (0 < length bytes)
+FitsCell (Bytes page off) bytes = off + length bytes ≤ PAGE_SIZE
+FitsCell (Bit page n) bytes = (n < BIT_COUNT) × (0 < length bytes)
 
 -- what a Change had found may be put back
 abbrev pub MayPutBack : Image → Record → Type 0

@@ -3,7 +3,8 @@ use Rattle.std.specs.Prelude.{◌≡◌, ℕ, ◌+◌, ◌*◌, ◌<◌, Bool, t
 use Rattle.std.proofs.Common.{sym, ap, ◌∙◌}
 use Rattle.std.proofs.lemmas.Option.{same_Some}
 use Rattle.spec_file.specs.Image.{Image, page, page_size, pages_of}
-use Rattle.spec_file.specs.ImageLaws.{bytes_of, bytes_of-pages_of}
+use Rattle.spec_file.specs.Image.{bytes_of}
+use Rattle.spec_file.proofs.ImageLaws.{bytes_of-pages_of}
 
 -- the file, where it is told, keeps its length, and its pages are what this makes of those before
 pub record Leaves (after : Image → Image) (old new : Option (List ℕ)) : Type 0 where

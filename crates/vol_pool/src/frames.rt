@@ -1,11 +1,13 @@
 // Pages in memory, and how bytes and bits are put into them.
 ghost use Rattle.std.specs.Prelude.{◌≡◌, ◌+◌, ◌-◌, ◌*◌, ◌/◌, ◌%◌, ◌<◌, ◌≤◌, ℕ, [], ◌∷◌, ◌++◌, length, IfOk, OnOk, OnErr};
 ghost use Rattle.spec_file.specs.Image.{page};
+ghost use Rattle.spec_file.specs.declared.sizes.TheConstants.{PAGE_SIZE};
+ghost use Rattle.spec_log.specs.declared.limits.TheConstants.{BIT_COUNT};
 ghost use Rattle.spec_log.specs.Cells.{with_bytes, with_map_bit, put as image_with};
 ghost use Rattle.spec_log.specs.Images.{page_of_cell};
 ghost use Rattle.vol_pool.specs.Cells.{FitsCell};
 
-use pg_base::Page;
+use pg_base::{MAPS_START, Page};
 use spec_file::NoMemory;
 use spec_log::{Cell, byte_with_bit};
 use std::alloc::Global;
@@ -43,7 +45,7 @@ impl Frame {
 
     /// Puts bytes into the page at an offset.
     fn put_bytes(&mut self, off: usize, bytes: &[u8])
-        requires { off + length bytes.now ≤ 8192 }
+        requires { off + length bytes.now ≤ PAGE_SIZE }
         ensures { self.new ≡ with_bytes self.old off bytes.now }
     {
         put_bytes(&mut self.page, off, bytes);
@@ -51,7 +53,7 @@ impl Frame {
 
     /// Turns bit n of a map page to v.
     fn put_bit(&mut self, n: u32, v: u8)
-        requires { n < 63904 }
+        requires { n < BIT_COUNT }
         ensures { self.new ≡ with_map_bit self.old n v }
     {
         put_bit(&mut self.page, n, v);
@@ -150,7 +152,7 @@ impl Frames {
 /// Puts bytes into a page at an offset.
 #[tactic(auto, using(crate::proofs::Puts::with_more, crate::proofs::Puts::with_none))]
 fn put_bytes(page: &mut Page, off: usize, bytes: &[u8])
-    requires { off + length bytes.now ≤ 8192 }
+    requires { off + length bytes.now ≤ PAGE_SIZE }
     ensures { page.new.bytes ≡ with_bytes page.old.bytes off bytes.now }
 {
     for (i, byte) in bytes.iter().enumerate() {
@@ -160,9 +162,9 @@ fn put_bytes(page: &mut Page, off: usize, bytes: &[u8])
 
 /// Turns bit n of a map page to v.
 fn put_bit(page: &mut Page, n: u32, v: u8)
-    requires { n < 63904 }
+    requires { n < BIT_COUNT }
     ensures { page.new.bytes ≡ with_map_bit page.old.bytes n v }
 {
-    let at = 96 + n as usize / 8;
+    let at = MAPS_START + n as usize / 8;
     page.bytes[at] = byte_with_bit(page.bytes[at], n % 8, v);
 }

@@ -10,6 +10,3 @@ mod volume;
 pub use changed::changed_pages;
 pub use frames::Frames;
 pub use reader::FramesReader;
-
-#[cfg(test)]
-mod tests;

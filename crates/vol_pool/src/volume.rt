@@ -1,11 +1,13 @@
 // The pages of a volume, read and written back.
-ghost use Rattle.std.specs.Prelude.{◌≡◌, ◌+◌, ◌*◌, ◌<◌, ◌≤◌, ◌^◌, ◌∷◌, ◌++◌, [], true, false, length, slice_set, IfOk, OnOk, OnErr, IfSome};
+ghost use Rattle.std.specs.Prelude.{◌≡◌, ◌+◌, ◌*◌, ◌<◌, ◌≤◌, ◌^◌, ◌∷◌, ◌++◌, [], true, false, length, slice_set, IfOk, IsErr, OnOk, OnErr, IfSome};
 ghost use Rattle.std.specs.Option.{ForSome};
-ghost use Rattle.pg_base.specs.Faults.{Rose};
+ghost use Rattle.pg_base.specs.Faults.{Counts};
+ghost use Rattle.pg_base.specs.Stops.{stop_of};
 ghost use Rattle.spec_file.specs.Image.{page, page_at, pages_of};
+ghost use Rattle.spec_file.specs.declared.sizes.TheConstants.{PAGE_SIZE};
 ghost use Rattle.spec_log.specs.Cells.{HasWholePages};
 ghost use Rattle.vol_dev.specs.Devices.{HasPage};
-ghost use Rattle.vol_pool.specs.Reading.{FaultIn};
+ghost use Rattle.vol_pool.specs.Reading.{ReadsPages};
 ghost use Rattle.vol_pool.specs.Writing.{Leaves, Spoils, SameUnmarked, StopsWriting};
 
 use crate::Frames;
@@ -17,10 +19,8 @@ use vol_dev::{DeviceFailed, Volume};
 fn read_page<V: Volume>(alloc: Global, volume: &mut V, p: PageNo) -> Result<Box<Page>, ReadStop>
     requires { ForSome (V.contents volume.old) (HasPage p.0) }
     ensures page { IfOk result (λ found. IfSome (V.contents volume.old) (λ bytes. found.value.bytes ≡ page_at bytes p.0)) }
-    ensures long { IfOk result (λ found. length found.value.bytes ≡ 8192) }
-    ensures cause { FaultIn (p.0 + 1) (V.faults volume.old) (V.faults volume.new) result }
-    ensures same { V.contents volume.new ≡ V.contents volume.old }
-    ensures faults { V.faults volume.old ≤ V.faults volume.new }
+    ensures long { IfOk result (λ found. length found.value.bytes ≡ PAGE_SIZE) }
+    ensures reads { ReadsPages V.Volume (p.0 + 1) volume.old volume.new (stop_of result) }
 {
     let mut page = Page::zeroed(alloc)?;
     match volume.read(p, &mut page) {
@@ -45,9 +45,7 @@ impl Frames {
         ensures more { OnOk result (length self.new ≡ length self.old + 1) }
         ensures first { OnOk result (0 < length self.old → page self.new 0 ≡ page self.old 0) }
         ensures whole { OnOk result (HasWholePages self.old → HasWholePages self.new) }
-        ensures cause { FaultIn (p.0 + 1) (V.faults volume.old) (V.faults volume.new) result }
-        ensures same { V.contents volume.new ≡ V.contents volume.old }
-        ensures faults { V.faults volume.old ≤ V.faults volume.new }
+        ensures reads { ReadsPages V.Volume (p.0 + 1) volume.old volume.new (stop_of result) }
     {
         let page = read_page(alloc, volume, p)?;
         self.push(page)?;
@@ -62,15 +60,13 @@ impl Frames {
         pages: u32,
     ) -> Result<Frames, ReadStop>
         requires some { 0 < pages }
-        requires size { ForSome (V.contents volume.old) (λ bytes. length bytes ≡ 8192 * pages) }
+        requires size { ForSome (V.contents volume.old) (λ bytes. length bytes ≡ PAGE_SIZE * pages) }
         requires first { IfSome (V.contents volume.old) (λ bytes. first.value.bytes ≡ page_at bytes 0) }
         ensures count { IfOk result (λ frames. length frames ≡ pages) }
         ensures whole { IfOk result HasWholePages }
         ensures first { IfOk result (λ frames. page frames 0 ≡ first.value.bytes) }
         ensures image { IfOk result (λ frames. IfSome (V.contents volume.old) (λ bytes. frames ≡ pages_of bytes)) }
-        ensures cause { FaultIn pages (V.faults volume.old) (V.faults volume.new) result }
-        ensures same { V.contents volume.new ≡ V.contents volume.old }
-        ensures faults { V.faults volume.old ≤ V.faults volume.new }
+        ensures reads { ReadsPages V.Volume pages volume.old volume.new (stop_of result) }
     {
         is_whole(&first);
         let mut frames = Frames::empty(alloc);
@@ -94,8 +90,7 @@ fn write_changed<V: Volume>(
     ensures ok { OnOk result (Leaves (λ before. slice_set before p.0 page.now.bytes) (V.contents volume.old) (V.contents volume.new)) }
     ensures err { OnErr result (changed ≡ true) }
     ensures spoiled { OnErr result (Spoils p.0 (V.contents volume.old) (V.contents volume.new)) }
-    ensures fault { OnErr result (Rose (V.faults volume.old) (V.faults volume.new)) }
-    ensures faults { V.faults volume.old ≤ V.faults volume.new }
+    ensures faults { Counts (IsErr result) (V.faults volume.old) (V.faults volume.new) }
 {
     is_whole(page);
     if !changed {
@@ -113,12 +108,11 @@ impl Frames {
     ) -> Result<(), DeviceFailed>
         requires marks { length changed.now ≡ length self.now }
         requires few { length self.now ≤ 2 ^ 32 }
-        requires size { ForSome (V.contents volume.old) (λ bytes. length bytes ≡ 8192 * length self.now) }
+        requires size { ForSome (V.contents volume.old) (λ bytes. length bytes ≡ PAGE_SIZE * length self.now) }
         requires same { IfSome (V.contents volume.old) (λ bytes. SameUnmarked changed.now self.now (pages_of bytes)) }
         ensures ok { OnOk result (Leaves (λ _. self.now) (V.contents volume.old) (V.contents volume.new)) }
         ensures err { OnErr result (StopsWriting changed.now self.now (V.contents volume.old) (V.contents volume.new)) }
-        ensures fault { OnErr result (Rose (V.faults volume.old) (V.faults volume.new)) }
-        ensures faults { V.faults volume.old ≤ V.faults volume.new }
+        ensures faults { Counts (IsErr result) (V.faults volume.old) (V.faults volume.new) }
     {
         for (p, changed) in changed.iter().enumerate() {
             write_changed(volume, PageNo(p as u32), self.page(p), *changed)?;

@@ -1,4 +1,4 @@
-use Rattle.law_cover.specs.Places.{extents_guard_bits, pages_guard_bytes}
+use Rattle.law_cover.proofs.Places.{extents_guard_bits, pages_guard_bytes}
 use Rattle.law_cover.proofs.place_laws.Goals as goal
 
 pub returns : goal.returns

@@ -1,4 +1,4 @@
-use Rattle.law_pages.specs.Sessions.{holder_is_exact}
+use Rattle.law_pages.proofs.Sessions.{holder_is_exact}
 use Rattle.law_pages.proofs.holder_law.Goals as goal
 
 pub returns : goal.returns

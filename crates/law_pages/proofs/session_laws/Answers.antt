@@ -1,4 +1,4 @@
-use Rattle.law_pages.specs.Sessions.{holder_is_session, first_is_among}
+use Rattle.law_pages.proofs.Sessions.{holder_is_session, first_is_among}
 use Rattle.law_pages.proofs.session_laws.Goals as goal
 
 pub returns : goal.returns

@@ -1,4 +1,4 @@
-use Rattle.law_pages.specs.Pages.{file_is_shown}
+use Rattle.law_pages.proofs.Pages.{file_is_shown}
 use Rattle.law_pages.proofs.shown_law.Goals as goal
 
 pub returns : goal.returns

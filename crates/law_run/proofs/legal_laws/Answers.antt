@@ -1,4 +1,4 @@
-use Rattle.law_run.specs.Legal.{legal_is_sound, next_belongs}
+use Rattle.law_run.proofs.Legal.{legal_is_sound, next_belongs}
 use Rattle.law_run.proofs.legal_laws.Goals as goal
 
 pub returns : goal.returns

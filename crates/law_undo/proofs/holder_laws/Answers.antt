@@ -1,4 +1,4 @@
-use Rattle.law_undo.specs.HolderLaws.{holder_is_other, holders_are_one}
+use Rattle.law_undo.proofs.HolderLaws.{holder_is_other, holders_are_one}
 use Rattle.law_undo.proofs.holder_laws.Goals as goal
 
 pub returns : goal.returns

@@ -1,5 +1,5 @@
-use Rattle.law_undo.specs.Law.{file_shows_bytes, file_shows_bits, undos_bring_back, nobody_sees_committed}
-use Rattle.law_undo.specs.Unguarded.{unguarded_stay}
+use Rattle.law_undo.proofs.Law.{file_shows_bytes, file_shows_bits, undos_bring_back, nobody_sees_committed}
+use Rattle.law_undo.proofs.Unguarded.{unguarded_stay}
 use Rattle.law_undo.proofs.view_laws.Goals as goal
 
 pub returns : goal.returns

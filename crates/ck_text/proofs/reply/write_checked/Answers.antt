@@ -1,20 +1,9 @@
-use Rattle.std.proofs.lemmas.Result.{err_from_is_err_and}
-use Rattle.spec_check.specs.Text.{report_text}
-use Rattle.vol_dev.proofs.Lines.{first_front, all_parts, all_parts_front}
+use Rattle.vol_dev.proofs.Output.{wrote_then, wrote_front, wrote_failed}
 use Rattle.ck_text.proofs.reply.write_checked.Goals as goal
 
-pub returns-in_err-write_line-clause-err : goal.returns-in_err-write_line-clause-err
-returns-in_err-write_line-clause-err g c =
-    let p = err_from_is_err_and c.from_residual.result c.from_residual.ensures.1 in
-    let line = rw c.lsn_text.ensures at c.in_err-write_line.ensures.err in
-    rw p.1 (first_front _ _ _ (report_text c.args.report.now) line)
+pub returns-in_err-write_line : goal.returns-in_err-write_line
+returns-in_err-write_line g c =
+    wrote_failed _ _ _ _ _ _ c.from_residual.ensures.1 (wrote_front _ _ _ _ _ (rw c.lsn_text.ensures at c.in_err-write_line.ensures))
 
-pub returns-clause-ok : goal.returns-clause-ok
-returns-clause-ok g c =
-    let line = rw c.lsn_text.ensures at c.in_ok-write_line.ensures.ok in
-    all_parts _ _ _ _ _ _ line c.write_report.ensures.ok
-
-pub returns-clause-err : goal.returns-clause-err
-returns-clause-err g c =
-    let line = rw c.lsn_text.ensures at c.in_ok-write_line.ensures.ok in
-    all_parts_front _ _ _ _ _ _ line c.write_report.ensures.err
+pub returns : goal.returns
+returns g c = wrote_then _ _ _ _ _ _ _ (rw c.lsn_text.ensures at c.in_ok-write_line.ensures) c.write_report.ensures

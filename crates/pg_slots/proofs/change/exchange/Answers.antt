@@ -12,4 +12,4 @@ returns-clause-rows c =
     ∙ put_back (page_rows old) c.args.i c.args.row.now (omega (arith, row_count old, c.requires.i))
 
 pub returns-clause-test : goal.returns-clause-test
-returns-clause-test c = λ p o kind passes. c.put_in.ensures.test p o kind (c.remove_at.ensures.test p o kind passes)
+returns-clause-test c = λ p o passes. c.put_in.ensures.test p o (c.remove_at.ensures.test p o passes)

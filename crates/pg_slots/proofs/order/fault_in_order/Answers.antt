@@ -1,13 +1,10 @@
-use Rattle.std.proofs.Common.{◌≡◌, ◌-◌, arith, ap}
-use Rattle.spec_file.specs.declared.header.Header.{Header}
-use Rattle.spec_rows.specs.Slots.{slot_count}
+use Rattle.std.proofs.Common.{◌-◌, arith}
 use Rattle.pg_slots.specs.Starts.{slot_in}
 use Rattle.pg_slots.proofs.Steps.{one_more, overlap_at, none_overlaps}
 use Rattle.pg_slots.proofs.order.fault_in_order.Goals as goal
 
 pub returns-in-Some : goal.returns-in-Some
 returns-in-Some c =
-    let count : c.args.header.now.slots ≡ slot_count c.args.page.now.bytes = ap (λ (h : Header). h.slots) c.requires.header in
     overlap_at c.args.page.now.bytes (slot_in c.args.starts.now) c.requires.order (c.loop-k.k - 1) c.loop-k.k (omega arith) (omega arith)
     c.loop-k.invariant _ c.in-Some.ensures
 
@@ -17,5 +14,4 @@ loop-k-preserved c =
 
 pub returns : goal.returns
 returns c =
-    let count : c.args.header.now.slots ≡ slot_count c.args.page.now.bytes = ap (λ (h : Header). h.slots) c.requires.header in
     none_overlaps c.args.page.now.bytes (slot_in c.args.starts.now) c.requires.order c.loop-k.k (omega arith) c.loop-k.invariant

@@ -1,12 +1,9 @@
-use Rattle.std.proofs.Common.{◌≡◌, ◌-◌, arith, ap}
-use Rattle.spec_file.specs.declared.header.Header.{Header}
-use Rattle.spec_rows.specs.Slots.{slot_count}
+use Rattle.std.proofs.Common.{◌-◌, arith}
 use Rattle.pg_slots.proofs.Steps.{one_more, overlap_at, none_overlaps}
 use Rattle.pg_slots.proofs.order.fault_of_rising.Goals as goal
 
 pub returns-in-Some : goal.returns-in-Some
 returns-in-Some c =
-    let count : c.args.header.now.slots ≡ slot_count c.args.page.now.bytes = ap (λ (h : Header). h.slots) c.requires.header in
     overlap_at c.args.page.now.bytes (λ k. k) c.requires.order (c.loop-slot.slot - 1) c.loop-slot.slot (omega arith) (omega arith)
     c.loop-slot.invariant _ c.in-Some.ensures
 
@@ -16,5 +13,4 @@ loop-slot-preserved c =
 
 pub returns : goal.returns
 returns c =
-    let count : c.args.header.now.slots ≡ slot_count c.args.page.now.bytes = ap (λ (h : Header). h.slots) c.requires.header in
     none_overlaps c.args.page.now.bytes (λ k. k) c.requires.order c.loop-slot.slot (omega arith) c.loop-slot.invariant

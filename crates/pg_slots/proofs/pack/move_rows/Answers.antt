@@ -3,7 +3,7 @@ use Rattle.std.proofs.lemmas.Bool.{cases_order}
 use Rattle.spec_rows.specs.Slots.{slot_at, rows_size, page_row}
 use Rattle.pg_base.proofs.NumberLaws.{same_front}
 use Rattle.pg_slots.proofs.Bytes.{stays_front}
-use Rattle.pg_slots.proofs.Compacted.{rises, room_for}
+use Rattle.pg_slots.proofs.Compacted.{rises}
 use Rattle.pg_slots.proofs.pack.move_rows.Goals as goal
 
 pub loop-slot-preserved : goal.loop-slot-preserved
@@ -41,7 +41,7 @@ loop-slot-preserved c =
 
 pub returns-clause-within : goal.returns-clause-within
 returns-clause-within c =
-    omega (arith, c.loop-slot.invariant.end, room_for c.args.source.now.bytes c.loop-slot.slot c.is_whole.ensures.long c.requires.holds (omega arith))
+    omega (arith, c.loop-slot.invariant.end, c.requires.rows.room c.loop-slot.slot (omega arith))
 
 pub returns-clause-end : goal.returns-clause-end
 returns-clause-end c =

@@ -3,4 +3,4 @@ use Rattle.spec_rows.specs.PageTest.{slot_fault}
 use Rattle.pg_slots.proofs.passes.first_slot_fault.Given as goal
 
 abbrev pub invariant-loop-slot : goal.invariant-loop-slot
-invariant-loop-slot l = (i : ℕ) → i < l.slot → slot_fault l.page.bytes i ≡ None
+invariant-loop-slot l = (i : ℕ) → i < l.slot → slot_fault l.kind l.page.bytes i ≡ None

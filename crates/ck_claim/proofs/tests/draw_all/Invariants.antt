@@ -1,6 +1,0 @@
-use Rattle.std.proofs.Common.{◌≡◌}
-use Rattle.ck_claim.specs.Shown.{IsOf}
-use Rattle.ck_claim.proofs.tests.draw_all.Given as goal
-
-abbrev pub invariant-draws : goal.invariant-draws
-invariant-draws l = IsOf l.claims l.worker.seat × (l.worker.seat.parts ≡ 1)

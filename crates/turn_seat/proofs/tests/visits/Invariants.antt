@@ -1,6 +1,0 @@
-use Rattle.std.proofs.Common.{◌≡◌}
-use Rattle.turn_seat.specs.Shown.{IsOf}
-use Rattle.turn_seat.proofs.tests.visits.Given as goal
-
-abbrev pub invariant-turns : goal.invariant-turns
-invariant-turns g l = IsOf l.turn l.seat × (l.seat.parts ≡ 1)

@@ -1,4 +1,4 @@
--- An image has one report: its errors are in a total order that tells them apart, and its lines count what an
+-- An image has no two reports: its errors are in a total order that tells them apart, and its lines count what an
 -- image shows once.
 use Rattle.std.proofs.Common.{◌≡◌, ◌⊎◌, ℕ, List, [], ◌∷◌, Contains, length, refl, sym, ap, ◌∙◌, subst, inl, inr, ⊎_elim}
 use Rattle.std.specs.Cmp.{IsTotalOrder}

@@ -26,8 +26,8 @@ dec_rows_in_order bytes Q each = dec_like (λ h i j next. h i next.first j next.
 dec_order : (bytes : List ℕ) → Dec (spec.OrderPasses bytes)
 dec_order bytes = dec_rows_in_order bytes (λ i j. row_end bytes i ≤ slot_at bytes j) (λ i j. dec_le (row_end bytes i) (slot_at bytes j))
 
-dec_slots : (bytes : List ℕ) → Dec (spec.SlotsPass bytes)
-dec_slots bytes = dec_every (numbers (slot_count bytes)) (λ i low. dec_none (spec.slot_fault bytes i))
+dec_slots : (kind : Kind) (bytes : List ℕ) → Dec (spec.SlotsPass kind bytes)
+dec_slots kind bytes = dec_every (numbers (slot_count bytes)) (λ i low. dec_none (spec.slot_fault kind bytes i))
 
 dec_header : (p o : ℕ) (kind : Kind) (bytes : List ℕ) → Dec (spec.HeaderPasses p o kind bytes)
 dec_header p o kind bytes = dec_like (λ h. record { owner = h.0; form = h.1 }) (λ h. (h.owner, h.form))
@@ -37,11 +37,11 @@ pub dec_passes : (p o : ℕ) (kind : Kind) (bytes : List ℕ) → Dec (spec.Pass
 dec_passes p o kind bytes = dec_like
     (λ h. passes_from p o kind bytes h.0.0 h.0.1 h.0.2 h.1)
     (λ h. ((header_passes p o kind bytes h, h.rest.holds.slots, h.rest.holds.order), h.rest.holds.free))
-    (dec_and (dec_and3 (dec_header p o kind bytes) (dec_slots bytes) (dec_order bytes)) (dec_true (spec.has_free_count bytes)))
+    (dec_and (dec_and3 (dec_header p o kind bytes) (dec_slots kind bytes) (dec_order bytes)) (dec_true (spec.has_free_count bytes)))
 
-slot_faults : (bytes : List ℕ) → Listing (spec.IsFirstSlotFault bytes)
-slot_faults bytes = like
-    (among (numbers (slot_count bytes)) (λ i low. when (dec_every (numbers i) (λ j less. dec_none (spec.slot_fault bytes j))) (there_may_be (spec.slot_fault bytes i))))
+slot_faults : (kind : Kind) (bytes : List ℕ) → Listing (spec.IsFirstSlotFault kind bytes)
+slot_faults kind bytes = like
+    (among (numbers (slot_count bytes)) (λ i low. when (dec_every (numbers i) (λ j less. dec_none (spec.slot_fault kind bytes j))) (there_may_be (spec.slot_fault kind bytes i))))
     (λ x h. record { slot = h.0; within = h.1; here = h.2.1; earlier = h.2.0 }) (λ x h. (h.slot, h.within, (h.earlier, h.here)))
 
 overlaps : (bytes : List ℕ) → Listing (spec.IsFirstOverlap bytes)
@@ -58,9 +58,9 @@ pub first_faults : (p o : ℕ) (kind : Kind) (bytes : List ℕ) → Listing (spe
 first_faults p o kind bytes = like
     (either (there_may_be (spec.owner_fault p o kind (header_of bytes)))
     (either (when (dec_none (spec.owner_fault p o kind (header_of bytes))) (there_may_be (spec.form_fault kind (header_version bytes) (header_of bytes))))
-    (either (when (dec_header p o kind bytes) (slot_faults bytes))
-    (either (when (dec_and (dec_header p o kind bytes) (dec_slots bytes)) (overlaps bytes))
-    (when (dec_and (dec_and3 (dec_header p o kind bytes) (dec_slots bytes) (dec_order bytes)) (dec_false (spec.has_free_count bytes)))
+    (either (when (dec_header p o kind bytes) (slot_faults kind bytes))
+    (either (when (dec_and (dec_header p o kind bytes) (dec_slots kind bytes)) (overlaps bytes))
+    (when (dec_and (dec_and3 (dec_header p o kind bytes) (dec_slots kind bytes) (dec_order bytes)) (dec_false (spec.has_free_count bytes)))
     (one (spec.fault 8939 0 7)))))))
     (λ x h. elim h [
       | inl owner ↦ spec.Owner owner

@@ -3,8 +3,9 @@
 
 ghost use Rattle.law_report.specs.Laws.{HasReport};
 
-/// Every image, of whatever bytes, has a report that is its written check. No two differ
-/// (`law_check`'s `report_law`), so it has exactly one.
+/// Every image has a report, whatever its length and its bytes. By `report_law` of `law_check` no two
+/// differ, so it has exactly one. The proof makes the report: it decides each rule of the check, and
+/// lists the errors for which the rule asks.
 pub fn has_report_law()
     ensures { HasReport }
 {}

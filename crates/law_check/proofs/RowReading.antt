@@ -3,16 +3,13 @@ use Rattle.std.proofs.Common.{◌≡◌, ℕ, ◌==◌, Bool, true, false, List,
 use Rattle.std.specs.Prelude.{if◌then◌else◌, nat_le}
 use Rattle.std.proofs.lemmas.Bool.{and_parts, eqb-true, ne_eqb, both_ways, false_from_ne_true}
 use Rattle.spec_file.specs.Image.{number_at}
-use Rattle.spec_rows.specs.Rows.{DataRow, IndexRow, row_of, is_data_row, is_index_row}
+use Rattle.spec_rows.specs.Rows.{DataRow, IndexRow, row_of, has_data_form, is_data_row, is_index_row}
 use Rattle.spec_rows.proofs.RowLaws.{data_from, index_from}
 use Rattle.law_check.specs.Laws.{KeyIsRead, ChildIsRead}
 
 -- a data row begins with its status, and so does an index row
 data_begins : (bytes : List ℕ) → is_data_row bytes ≡ true → (slice_index bytes 0 == 16) ≡ true
-data_begins bytes test =
-    let most = and_parts _ (nat_le (length bytes) 1024) test in
-    let least = and_parts _ (nat_le 11 (length bytes)) most.0 in
-    (and_parts (slice_index bytes 0 == 16) (number_at 2 1 bytes == length bytes) least.0).0
+data_begins bytes test = (and_parts (slice_index bytes 0 == 16) (has_data_form bytes) test).0
 
 index_begins : (bytes : List ℕ) → is_index_row bytes ≡ true → (slice_index bytes 0 == 16) ≡ false
 index_begins bytes test =

@@ -9,9 +9,11 @@ use Rattle.spec_file.specs.Header.{header_of, page_type}
 use Rattle.spec_file.specs.Image.{Image, page, number_at}
 use Rattle.spec_log.specs.Cells.{HasWholePages}
 use Rattle.spec_chain.specs.Uses.{IsAllocatedTo}
-use Rattle.spec_rows.specs.Rows.{PageRow, DataRow, IndexRow, row_of, row_key, row_child, is_data_row, is_index_row}
+use Rattle.spec_rows.specs.Rows.{PageRow, DataRow, IndexRow, row_of, row_key, row_child, is_leaf_row, is_index_row}
 use Rattle.spec_rows.specs.Slots.{slot_count, page_row, fits_page}
 use Rattle.spec_rows.proofs.SlotLaws.{row_stands, rows_room}
+use Rattle.spec_rows.proofs.RowLaws.{leaf_is_data}
+use Rattle.spec_rows.proofs.TestLaws.{row_type_of}
 use Rattle.spec_rows.proofs.WholeRows.{row_fits}
 use Rattle.spec_rows.specs.PageTest.{PassesTest}
 use Rattle.spec_tree.specs.declared.known.PageHead.{PageHead}
@@ -22,17 +24,17 @@ use Rattle.law_check.specs.Laws.{key_of, child_of, child_in, row_at, StandsOn, S
 use Rattle.law_check.proofs.RowReading.{picked, passed, data_read, index_read, key_is_read, child_is_read}
 
 -- the row of a slot may stand on its page
-slot_fits : (p o : ℕ) (kind : Kind) (bytes : List ℕ) (i : ℕ) → length bytes ≡ 8192 → PassesTest p o kind bytes → i < slot_count bytes → IsTrue (fits_page bytes (page_row bytes i))
+slot_fits : (p o : ℕ) (kind : Kind) (bytes : List ℕ) (i : ℕ) → length bytes ≡ 8192 → PassesTest p o kind bytes → i < slot_count bytes → IsTrue (fits_page kind bytes (page_row bytes i))
 slot_fits p o kind bytes i long test within =
     let holds = test.rest.holds in
     let room = rows_room (header_of bytes) holds.room in
-    row_fits bytes i (omega (arith, long, room.within)) (row_stands bytes i (holds.slots i within))
+    row_fits kind bytes i (omega (arith, long, room.within)) (row_stands kind bytes i (holds.slots i within))
 
 -- a page that has no index rows has data rows
 type_of_leaf : (p o : ℕ) (kind : Kind) (bytes : List ℕ) → PassesTest p o kind bytes → (page_type bytes == 2) ≡ false → page_type bytes ≡ 1
 type_of_leaf p o kind bytes test leaf =
     ⊎_elim (λ one. eqb-true (page_type bytes) 1 one) (λ two. absurd (both_ways (page_type bytes == 2) leaf two))
-    (or_cases (page_type bytes == 1) (page_type bytes == 2) test.rest.holds.type)
+    (or_cases (page_type bytes == 1) (page_type bytes == 2) (row_type_of kind (header_of bytes) test.rest.holds.type))
 
 -- the grammar reads the bytes of a slot as a row of the page's type
 abbrev IsRead : ℕ → List ℕ → Type 0
@@ -45,12 +47,12 @@ row_read p o kind bytes i long test within =
     elim (cases_Bool (page_type bytes == 2)) [
       | inl index ↦ (
         IndexRow (number_at 8 1 row) (number_at 4 9 row),
-        index_read row (sym (picked (page_type bytes == 2) (is_index_row row) (is_data_row row) index) ∙ fits),
+        index_read row (sym (picked (page_type bytes == 2) (is_index_row row) (is_leaf_row kind row) index) ∙ fits),
         eqb-true (page_type bytes) 2 index,
       )
       | inr leaf ↦ (
         DataRow (number_at 8 3 row) (drop 11 row),
-        data_read row (sym (passed (page_type bytes == 2) (is_index_row row) (is_data_row row) leaf) ∙ fits),
+        data_read row (leaf_is_data kind row (sym (passed (page_type bytes == 2) (is_index_row row) (is_leaf_row kind row) leaf) ∙ fits)),
         type_of_leaf p o kind bytes test leaf,
       )
     ]

@@ -23,7 +23,8 @@ pub fn test_page(
     kind: Kind,
 ) -> Result<SlotView<'_>, SlotFault>
     ensures passes { IsOk result ↔ spec.PassesTest p.0 object.0 kind page.now.bytes }
-    ensures view { IfOk result (λ view. (bytes_of view ≡ page.now.bytes) × (kind_of view ≡ kind)) }
+    ensures view { IfOk result (λ view. bytes_of view ≡ page.now.bytes) }
+    ensures kind { IfOk result (λ view. kind_of view ≡ kind) }
     ensures fault { IfErr result (spec.IsFirstFault p.0 object.0 kind page.now.bytes) }
 {
     match first_fault(page, p, object, kind) {

@@ -1,4 +1,4 @@
--- An image has one report: its errors are in a total order that tells them apart, and its lines count what an
+-- An image has no two reports: its errors are in a total order that tells them apart, and its lines count what an
 -- image shows once.
 use Rattle.std.proofs.Common.{◌≡◌, ◌⊎◌, ℕ, List, [], ◌∷◌, Contains, length, refl, sym, ap, ◌∙◌, subst, inl, inr, ⊎_elim}
 use Rattle.std.specs.Cmp.{IsTotalOrder}
@@ -44,7 +44,7 @@ line_of_parts line line' object rows pages =
     ap (λ o. line_from o line.rows line.pages) object ∙ ap (λ r. line_from line'.object r line.pages) rows ∙ ap (line_from line'.object line'.rows) pages
 
 -- an object has one line
-one_line : (g : Geometry) (image : Image) (row : CatalogRow) (line line' : TableLine) → IsLineOf g image row line → IsLineOf g image row line' → line ≡ line'
+pub one_line : (g : Geometry) (image : Image) (row : CatalogRow) (line line' : TableLine) → IsLineOf g image row line → IsLineOf g image row line' → line ≡ line'
 one_line g image row line line' a b =
     let seen = seen_once g image row a.seen b.seen a.are_seen b.are_seen in
     line_of_parts line line' (a.object ∙ sym b.object)

@@ -1,4 +1,4 @@
--- What the rules of pages and trees read of rows is what the grammar reads, and an image has one report.
+-- What the rules of pages and trees read of rows is what the grammar reads, and an image has no two reports.
 use Rattle.std.specs.Prelude.{◌≡◌, ◌<◌, ◌-◌, ◌+◌, ◌==◌, if◌then◌else◌, nat_lt, ℕ, List, length, Option, Some, None, option_map}
 use Rattle.spec_file.specs.declared.data.Kind.{Kind}
 use Rattle.spec_file.specs.declared.geometry.Geometry.{Geometry}
@@ -77,6 +77,6 @@ HeadIsRead = (g : Geometry) (image : Image) (s : PageHead) → HasWholePages ima
 abbrev pub IndexRowIsRead : Type 0
 IndexRowIsRead = (g : Geometry) (image : Image) (c : known.IndexRow) → HasWholePages image → IsIndexRowIn g image c → IsIndexRowRead (page image c.parent.0) c
 
--- an image has one report
+-- an image has no two reports
 abbrev pub OneReport : Type 0
 OneReport = (g : Geometry) (image : Image) (report report' : CheckReport) → IsCheckOf g image report → IsCheckOf g image report' → report ≡ report'

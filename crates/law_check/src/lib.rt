@@ -1,4 +1,4 @@
-//! Laws of the written check: what its rules read of a row, and that an image has one report.
+//! Laws of the written check: what its rules read of a row, and that an image has no two reports.
 #![tactic(auto)]
 
 ghost use Rattle.law_check.specs.Laws.{KeyIsRead, ChildIsRead, SlotHasRow, SlotKeyIsRead, HeadIsRead, IndexRowIsRead, OneReport};

@@ -1,6 +1,6 @@
 -- The key and the child that the rules read from the bytes of a row are those of the row.
 use Rattle.std.proofs.Common.{◌≡◌, ℕ, ◌==◌, Bool, true, false, List, length, drop, slice_index, Some, None, refl, sym, ◌∙◌, arith}
-use Rattle.std.specs.Prelude.{if◌then◌else◌, nat_le}
+use Rattle.std.specs.Prelude.{if◌then◌else◌}
 use Rattle.std.proofs.lemmas.Bool.{and_parts, eqb-true, ne_eqb, both_ways, false_from_ne_true}
 use Rattle.spec_file.specs.Image.{number_at}
 use Rattle.spec_rows.specs.Rows.{DataRow, IndexRow, row_of, has_data_form, is_data_row, is_index_row}

@@ -1,7 +1,7 @@
 -- The page test has one answer: a page either passes, or has one first fault.
-use Rattle.std.specs.Prelude.{◌≡◌, ℕ, ◌+◌, ◌*◌, ◌<◌, ◌≤◌, ◌==◌, ◌&&◌, ◌||◌, nat_le, Bool, true, false, not, IsTrue, List, if◌then◌else◌, Option, Some, None, refl}
+use Rattle.std.specs.Prelude.{◌≡◌, ℕ, ◌<◌, ◌≤◌, ◌==◌, ◌||◌, Bool, true, false, not, IsTrue, List, if◌then◌else◌, Option, Some, None, refl}
 use Rattle.std.proofs.Common.{arith, ap, sym, ◌∙◌, inl, inr}
-use Rattle.std.proofs.lemmas.Bool.{cases_order, or_left, eq-eqb, eqb-true, leb-true, and_parts, both_ways}
+use Rattle.std.proofs.lemmas.Bool.{cases_order, or_left, eq-eqb, eqb-true, both_ways}
 use Rattle.spec_file.specs.declared.data.Kind.{Kind}
 use Rattle.spec_file.specs.Kinds.{is_clustered}
 use Rattle.spec_file.specs.declared.header.Header.{Header}

@@ -1,4 +1,4 @@
-use Rattle.std.proofs.Common.{ℕ, ◌≡◌, arith, ap}
+use Rattle.std.proofs.Common.{◌≡◌, arith, ap}
 use Rattle.spec_file.specs.declared.header.Header.{Header}
 use Rattle.spec_file.specs.Header.{header_of}
 use Rattle.spec_rows.specs.Slots.{rows_end, slot_count}

@@ -1,5 +1,6 @@
 // The values that one map page holds, in their order.
 ghost use Rattle.std.specs.Prelude.{◌≡◌, ◌≤◌, ◌<◌, ◌++◌, OnOk, map};
+ghost use Rattle.spec_file.specs.declared.sizes.TheConstants.{BIT_COUNT};
 ghost use Rattle.std.specs.List.{range_with_len};
 ghost use Rattle.spec_file.specs.Image.{bit as bit_of};
 ghost use Rattle.ck_alloc.specs.SystemPlaces.{byte_of};
@@ -9,7 +10,7 @@ use pg_maps::bit;
 
 /// Adds the first n bits of a GAM or SGAM page.
 pub fn push_bits(bits: &mut Vec<bool>, page: &Page, n: u32) -> Result<(), NoMemory>
-    requires { n ≤ 63904 }
+    requires { n ≤ BIT_COUNT }
     ensures { OnOk result (bits.new.items ≡ bits.old.items ++ map (bit_of page.now.bytes) (range_with_len 0 n)) }
 {
     for i in 0..n {

@@ -1,5 +1,6 @@
 // What the pages of a chain give.
 ghost use Rattle.std.specs.Prelude.{◌≡◌, ◌+◌, ◌*◌, ◌-◌, ◌/◌, ◌<◌, ◌≤◌, OnOk, vec_len};
+ghost use Rattle.spec_file.specs.declared.sizes.TheConstants.{BIT_COUNT};
 ghost use Rattle.spec_file.specs.declared.sizes.TheConstants.{ENTRY_COUNT};
 ghost use Rattle.spec_file.specs.Places as places;
 ghost use Rattle.spec_file.specs.Iam as spec;
@@ -118,7 +119,7 @@ impl Found {
     ) -> Result<(), NoMemory>
         requires view { Views (bytes_of iam.now) iam.now }
         requires object { owner.now.index < ENTRY_COUNT }
-        requires bits { count ≤ 63904 }
+        requires bits { count ≤ BIT_COUNT }
         requires inside { places.interval_size owner.now.geometry * spec.iam_interval (bytes_of iam.now) + count ≤ vec_len self.old.extents }
         requires interval { places.interval_size owner.now.geometry * spec.iam_interval (bytes_of iam.now) < 65536 }
         ensures taken { OnOk result (TakesPage owner.now link.now first count (bytes_of iam.now) self.old self.new) }

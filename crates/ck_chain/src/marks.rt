@@ -1,5 +1,6 @@
 // The extents that an object marks.
 ghost use Rattle.std.specs.Prelude.{◌≡◌, ◌+◌, ◌<◌, ◌≤◌, vec_len, IsTrue, ⊤};
+ghost use Rattle.spec_file.specs.declared.sizes.TheConstants.{BIT_COUNT};
 ghost use Rattle.spec_file.specs.declared.sizes.TheConstants.{ENTRY_COUNT};
 ghost use Rattle.pg_iam.specs.Views.{bytes_of, Views};
 ghost use Rattle.ck_chain.specs.Marking.{IsMarkedAs, AreMarkedAs, MarksFront};
@@ -44,7 +45,7 @@ pub fn mark_extents(
 )
     requires object { i < ENTRY_COUNT }
     requires view { Views (bytes_of iam.now) iam.now }
-    requires bits { count ≤ 63904 }
+    requires bits { count ≤ BIT_COUNT }
     requires inside { start + count ≤ vec_len extents.old }
     ensures marked { AreMarkedAs i (MarksFront (bytes_of iam.now) start count) extents.old.items extents.new.items }
     ensures size { vec_len extents.new ≡ vec_len extents.old }

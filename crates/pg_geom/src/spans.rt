@@ -2,6 +2,7 @@ ghost use Rattle.std.specs.Prelude.{◌≡◌, ◌*◌};
 ghost use Rattle.spec_file.specs.Places as spec;
 
 use pg_base::Geometry;
+use spec_file::BIT_COUNT;
 
 /// The most pages that a file of this geometry has.
 pub fn page_limit(g: Geometry) -> u32
@@ -18,7 +19,7 @@ pub fn interval_size(g: Geometry) -> u32
     ensures { result ≡ spec.interval_size g }
 {
     match g {
-        Geometry::Standard => 63_904,
+        Geometry::Standard => BIT_COUNT,
         Geometry::Small => 64,
     }
 }

@@ -1,4 +1,5 @@
 ghost use Rattle.std.specs.Prelude.{◌≡◌, ◌↔◌, ◌<◌, IsTrue, IsSome, IfSome, map};
+ghost use Rattle.spec_file.specs.declared.sizes.TheConstants.{BIT_COUNT};
 ghost use Rattle.spec_file.specs.Iam as spec;
 ghost use Rattle.pg_iam.specs.Views.{bytes_of, Views};
 
@@ -75,7 +76,7 @@ impl IamView<'_> {
 
     /// Whether the page marks extent n of its interval.
     pub fn marks(&self, n: u32) -> bool
-        requires { n < 63904 }
+        requires { n < BIT_COUNT }
         ensures { result ≡ spec.iam_mark (bytes_of self.now) n }
     {
         (self.page.bytes[136 + n as usize / 8] >> (n % 8)) & 1 == 1

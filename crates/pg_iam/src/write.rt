@@ -1,4 +1,5 @@
 ghost use Rattle.std.specs.Prelude.{◌≡◌, ◌≢◌, ◌+◌, ◌*◌, ◌/◌, ◌<◌, ℕ, drop, take, slice_index};
+ghost use Rattle.spec_file.specs.declared.sizes.TheConstants.{BIT_COUNT};
 ghost use Rattle.spec_file.specs.Header.{header_of, header_version};
 ghost use Rattle.spec_file.specs.Iam as spec;
 ghost use Rattle.pg_base.specs.Numbers.{PutsNumber};
@@ -21,7 +22,7 @@ pub fn set_slot(page: &mut Page, i: u8, p: PageNo)
 
 /// Sets or clears the mark of extent n of the page's interval. All other bits and bytes stay.
 pub fn set_mark(page: &mut Page, n: u32, value: bool)
-    requires { n < 63904 }
+    requires { n < BIT_COUNT }
     ensures mark { spec.iam_mark page.new.bytes n ≡ value }
     ensures other_marks { (k : ℕ) → k ≢ n → spec.iam_mark page.new.bytes k ≡ spec.iam_mark page.old.bytes k }
     ensures other_bytes { (i : ℕ) → i ≢ 136 + n / 8

@@ -2,6 +2,7 @@
 -- the standard geometry are close to those of the Pages and Extents Architecture Guide; their exact
 -- numbers, and the small geometry, are this project's own.
 use Rattle.std.specs.Prelude.{◌≡◌, ℕ, ◌+◌, ◌*◌, ◌/◌, ◌%◌, ◌≤◌, ◌==◌, ◌&&◌, not, nat_lt, length, if◌then◌else◌, Bool, Option, Some, None}
+use Rattle.spec_file.specs.declared.sizes.TheConstants.{BIT_COUNT}
 use Rattle.spec_file.specs.declared.geometry.Geometry.{Geometry}
 use Rattle.spec_file.specs.declared.geometry.Geometry.TheVariants.{Standard, Small}
 use Rattle.spec_file.specs.Image.{Image, page, bit, maps_start}
@@ -12,7 +13,7 @@ geometry_of_byte b = if b == 1 then Some Standard else (if b == 2 then Some Smal
 
 -- how many extents one GAM page and one SGAM page speak of: an interval
 abbrev pub interval_size : Geometry → ℕ
-interval_size Standard = 63904
+interval_size Standard = BIT_COUNT
 interval_size Small = 64
 
 -- how many pages one PFS page speaks of

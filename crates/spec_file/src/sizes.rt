@@ -7,6 +7,10 @@ pub const PAGE_SIZE: usize = 8192;
 /// holds rows: behind the header (Pages and Extents Architecture Guide).
 pub const MAPS_START: usize = 96;
 
+/// How many bits a GAM or SGAM page has, and so an IAM page's marks: one for each extent of an interval
+/// (close to the Pages and Extents Architecture Guide; the exact number is this project's own).
+pub const BIT_COUNT: u32 = 63_904;
+
 /// How many bytes of a page rows and their slots can use (Pages and Extents Architecture Guide).
 pub const ROOM: u16 = 8096;
 

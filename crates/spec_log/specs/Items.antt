@@ -2,8 +2,9 @@
 use Rattle.std.specs.Prelude.{ℕ, ◌+◌, ◌==◌, ◌&&◌, Bool, true, nat_lt, nat_le, List, length, slice_index}
 use Rattle.spec_file.specs.declared.data.Resource.{Resource}
 use Rattle.spec_file.specs.declared.data.Resource.TheVariants.{Catalog, Table, Extent, Byte, Page}
+use Rattle.spec_file.specs.declared.sizes.TheConstants.{BIT_COUNT}
 use Rattle.spec_file.specs.Image.{page_size}
-use Rattle.spec_log.specs.declared.limits.TheConstants.{MOST_CHANGES, MOST_SIZE, BIT_COUNT, SHORT}
+use Rattle.spec_log.specs.declared.limits.TheConstants.{MOST_CHANGES, MOST_SIZE, SHORT}
 use Rattle.spec_log.specs.declared.item.Cell.{Cell}
 use Rattle.spec_log.specs.declared.item.Cell.TheVariants.{Bytes, Bit}
 use Rattle.spec_log.specs.declared.item.Record.{Record}

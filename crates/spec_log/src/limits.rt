@@ -15,9 +15,6 @@ pub const MOST_BYTES: u64 = 268_435_456;
 /// The most bytes that the changes of one statement have.
 pub const MOST_SIZE: u64 = 134_381_568;
 
-/// How many bits a GAM or SGAM page has, and so a mark in an IAM page.
-pub const BIT_COUNT: u32 = 63_904;
-
 /// A check ended with its report.
 pub const REPORTED: u8 = 0;
 

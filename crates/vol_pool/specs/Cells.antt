@@ -2,7 +2,7 @@
 use Rattle.std.specs.Prelude.{◌≡◌, ℕ, ◌+◌, ◌-◌, ◌<◌, ◌≤◌, List, [], ◌∷◌, length, slice_get, Some}
 use Rattle.spec_file.specs.Image.{Image}
 use Rattle.spec_file.specs.declared.sizes.TheConstants.{PAGE_SIZE}
-use Rattle.spec_log.specs.declared.limits.TheConstants.{BIT_COUNT}
+use Rattle.spec_file.specs.declared.sizes.TheConstants.{BIT_COUNT}
 use Rattle.spec_log.specs.declared.item.Record.{Record}
 use Rattle.spec_log.specs.declared.item.Record.TheVariants.{Change}
 use Rattle.spec_log.specs.Images.{page_of_cell}

@@ -2,7 +2,7 @@
 ghost use Rattle.std.specs.Prelude.{◌≡◌, ◌+◌, ◌-◌, ◌*◌, ◌/◌, ◌%◌, ◌<◌, ◌≤◌, ℕ, [], ◌∷◌, ◌++◌, length, IfOk, OnOk, OnErr};
 ghost use Rattle.spec_file.specs.Image.{page};
 ghost use Rattle.spec_file.specs.declared.sizes.TheConstants.{PAGE_SIZE};
-ghost use Rattle.spec_log.specs.declared.limits.TheConstants.{BIT_COUNT};
+ghost use Rattle.spec_file.specs.declared.sizes.TheConstants.{BIT_COUNT};
 ghost use Rattle.spec_log.specs.Cells.{with_bytes, with_map_bit, put as image_with};
 ghost use Rattle.spec_log.specs.Images.{page_of_cell};
 ghost use Rattle.vol_pool.specs.Cells.{FitsCell};

@@ -8,11 +8,6 @@ use Rattle.ck_error.specs.Gathered.{Adds, Below}
 use Rattle.ck_error.proofs.GatheringLaws.{adds_as, adds_none, adds_given, adds_below_more, adds_if}
 use Rattle.ck_facts.specs.Tested.{slot_key, FallsAt}
 
--- the first slot has none before it
-pub falls_none : (o p n : ℕ) (bytes : List ℕ) (xs : List CheckError) → n ≤ 1 → Adds xs xs (Below n (FallsAt o p bytes))
-falls_none o p n bytes xs few = adds_none xs (Below n (FallsAt o p bytes))
-    (λ x s. let below = s.1 in let next = s.2.next in omega (arith, few, below, next))
-
 -- one slot more, where the key before is known
 pub falls_more : (o p slot low key : ℕ) (bytes : List ℕ) (xs ys zs : List CheckError) (e : CheckError) (before : ℕ) → slot ≡ before + 1
     → low ≡ slot_key bytes before → key ≡ slot_key bytes slot → e ≡ wrong_order o p slot key

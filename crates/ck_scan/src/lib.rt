@@ -7,9 +7,9 @@ mod frame;
 mod pages;
 mod scan;
 
-pub use scan::scan_one;
-
 ghost use Rattle.ck_scan.specs.PartsLaw.{PartsShowTrees};
+
+pub use scan::scan_one;
 
 /// The facts of all pages that a check sees, taken in whatever order and pieces and in any number of parts, show
 /// exactly the image's errors of trees.

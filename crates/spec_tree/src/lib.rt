@@ -5,4 +5,4 @@
 
 mod known;
 
-pub use known::{IndexRow, Link, PageHead, RowPlace, Root};
+pub use known::{IndexRow, Link, PageHead, Root, RowPlace};

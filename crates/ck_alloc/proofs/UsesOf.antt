@@ -1,5 +1,5 @@
 -- The uses that a map keeps of a page are the page's uses.
-use Rattle.std.proofs.Common.{◌≡◌, ◌⊎◌, ◌↔◌, ℕ, ◌+◌, ◌*◌, ◌/◌, ◌<◌, ◌≤◌, ◌==◌, not, nat_lt, IsTrue, List, [], ◌∷◌, Contains, map, filter, length, arith, sym, subst, ◌∙◌, inl, inr, ⊎_elim, Ordering}
+use Rattle.std.proofs.Common.{◌≡◌, ◌↔◌, ℕ, ◌+◌, ◌*◌, ◌/◌, ◌<◌, ◌≤◌, ◌==◌, not, nat_lt, IsTrue, List, [], ◌∷◌, Contains, map, filter, length, arith, sym, subst, ◌∙◌, inl, inr, ⊎_elim, Ordering}
 use Rattle.std.specs.Ordering.{nat_cmp, on, ordering_then}
 use Rattle.std.specs.List.{AllByRecursion}
 use Rattle.std.specs.List.Sorted.{IsStrictlySortedBy}

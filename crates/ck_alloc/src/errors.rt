@@ -92,8 +92,7 @@ fn add_page(
 {
     let state = page_state(map, p);
     let uses = uses_between(&map.uses, p, p + 1);
-    add_page_errors(errors, &state, uses, markers)?;
-    Ok(())
+    add_page_errors(errors, &state, uses, markers)
 }
 
 // Adds the errors of the pages of an extent that these objects mark.
@@ -125,8 +124,7 @@ fn add_extent(
         → Adds errors.old.items errors.new.items (ExtentSays (rules_of.extent_state map.now e) markers.now)) }
 {
     let state = extent_state(map, e);
-    add_extent_errors(errors, &state, markers)?;
-    Ok(())
+    add_extent_errors(errors, &state, markers)
 }
 
 // Adds the errors of an extent and of its pages.
@@ -138,8 +136,7 @@ fn add_part(errors: &mut Vec<CheckError>, map: &AllocMap, e: u32) -> Result<(), 
 {
     let markers = markers_at(map, e);
     add_extent(errors, map, e, &markers)?;
-    add_pages(errors, map, e, &markers)?;
-    Ok(())
+    add_pages(errors, map, e, &markers)
 }
 
 // Adds the errors of all extents and pages.

@@ -155,8 +155,7 @@ fn add_lost_extent(
         errors,
         has_no_claim(state, markers),
         lost_extent_error(state.extent),
-    )?;
-    Ok(())
+    )
 }
 
 fn add_two_claims(
@@ -169,16 +168,14 @@ fn add_two_claims(
 {
     let claims = claims_of(state, markers);
     let error = two_claims_error(state.extent, markers, &claims);
-    push_if(errors, claim_count(&claims) > 1, error)?;
-    Ok(())
+    push_if(errors, claim_count(&claims) > 1, error)
 }
 
 fn add_both_maps(errors: &mut Vec<CheckError>, state: &ExtentState) -> Result<(), NoMemory>
     requires { state.now.extent < 65536 }
     ensures { OnOk result (Adds errors.old.items errors.new.items (rules_of.BothSay state.now)) }
 {
-    push_if(errors, is_in_both(state), both_maps_error(state.extent))?;
-    Ok(())
+    push_if(errors, is_in_both(state), both_maps_error(state.extent))
 }
 
 /// Adds the errors of an extent that these objects mark.
@@ -193,6 +190,5 @@ pub fn add_extent_errors(
     add_both_maps(errors, state)?;
     add_two_markers(errors, state.extent, markers)?;
     add_lost_extent(errors, state, markers)?;
-    add_two_claims(errors, state, markers)?;
-    Ok(())
+    add_two_claims(errors, state, markers)
 }

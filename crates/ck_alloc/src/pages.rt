@@ -57,8 +57,7 @@ fn add_lost_page(
         errors,
         is_lost_page(state, uses, markers),
         lost_page_error(state),
-    )?;
-    Ok(())
+    )
 }
 
 fn two_uses_error(page: u32, first: &PageUse, second: &PageUse, count: usize) -> CheckError
@@ -163,8 +162,7 @@ fn add_test(
     let flags = wrong_byte_error(8948, object, state);
     let fullness = wrong_byte_error(8914, object, state);
     push_if(errors, has_wrong_flags(state.byte, kind), flags)?;
-    push_if(errors, has_wrong_fullness(state.byte, kind), fullness)?;
-    Ok(())
+    push_if(errors, has_wrong_fullness(state.byte, kind), fullness)
 }
 
 fn add_use_test(
@@ -174,8 +172,7 @@ fn add_use_test(
 ) -> Result<(), NoMemory>
     ensures { OnOk result (Adds errors.old.items errors.new.items (rules_of.UseSays state.now used.now)) }
 {
-    add_test(errors, state, used.object, kind_of_place(used.place))?;
-    Ok(())
+    add_test(errors, state, used.object, kind_of_place(used.place))
 }
 
 fn add_use_tests(
@@ -198,8 +195,7 @@ fn add_mark_test(
 ) -> Result<(), NoMemory>
     ensures { OnOk result (Adds errors.old.items errors.new.items (rules_of.MarkSays state.now object)) }
 {
-    add_test(errors, state, object, kind_of_mark(state.byte))?;
-    Ok(())
+    add_test(errors, state, object, kind_of_mark(state.byte))
 }
 
 fn add_mark_tests(
@@ -232,8 +228,7 @@ fn add_test_alone(
     if !is_alone(state, uses, markers) {
         return Ok(());
     }
-    add_test(errors, state, 0, PfsKind::Unused)?;
-    Ok(())
+    add_test(errors, state, 0, PfsKind::Unused)
 }
 
 fn add_owner_tests(
@@ -246,8 +241,7 @@ fn add_owner_tests(
 {
     add_use_tests(errors, state, uses)?;
     add_mark_tests(errors, state, markers)?;
-    add_test_alone(errors, state, uses, markers)?;
-    Ok(())
+    add_test_alone(errors, state, uses, markers)
 }
 
 fn add_byte_errors(
@@ -276,6 +270,5 @@ pub fn add_page_errors(
 {
     add_lost_page(errors, state, uses, markers)?;
     add_two_uses(errors, state.page, uses)?;
-    add_byte_errors(errors, state, uses, markers)?;
-    Ok(())
+    add_byte_errors(errors, state, uses, markers)
 }

@@ -134,10 +134,11 @@ fn found_in<R: SnapReader>(
     ensures extents { IfOk result (λ found. vec_len found.extents ≡ pages / 8) }
     ensures reads { OnlyReads R.SnapReader reader.old reader.new (stop_of result) }
 {
+    let extents = extents_of(alloc, free, mixed)?;
     let mut found = Found {
         errors: Vec::new(alloc),
         uses: Vec::new(alloc),
-        extents: extents_of(alloc, free, mixed)?,
+        extents,
     };
     read_chains(alloc, reader, g, pages, objects, &mut found)?;
     Ok(found)

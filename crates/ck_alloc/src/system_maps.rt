@@ -1,9 +1,11 @@
 // From the system pages of a file to what they say.
-ghost use Rattle.std.specs.Prelude.{◌≡◌, IfOk};
+ghost use Rattle.std.specs.Prelude.{◌≡◌, IfOk, IfSome};
+ghost use Rattle.spec_file.specs.Image.{page as image_page};
+ghost use Rattle.ck_error.specs.Gathered.{Adds};
 ghost use Rattle.pg_base.specs.Stops.{stop_of};
 ghost use Rattle.pg_base.specs.Reading.{OnlyReads};
 ghost use Rattle.spec_file.specs.Places.{HasShape};
-ghost use Rattle.ck_alloc.specs.SystemMaps.{AreMapsRead};
+ghost use Rattle.ck_alloc.specs.SystemMaps.{AreMapsRead, GivesError};
 
 use crate::places::SystemKind;
 use crate::system_pages::{read_bits, read_bytes};
@@ -25,6 +27,23 @@ pub struct SystemMaps {
     pub pfs: Vec<u8>,
     /// Page 9.
     pub boot: Box<Page>,
+}
+
+// Reads the boot page, and notes its errors.
+fn read_boot<R: SnapReader>(
+    alloc: Global,
+    reader: &mut R,
+    g: Geometry,
+    errors: &mut Vec<CheckError>,
+) -> Result<Box<Page>, ReadStop>
+    requires { HasShape g (R.pages reader.old) }
+    ensures page { IfOk result (λ boot. IfSome (R.image reader.old) (λ image. boot.value.bytes ≡ image_page image 9)) }
+    ensures errors { IfOk result (λ boot. Adds errors.old.items errors.new.items (GivesError g 9 boot.value.bytes)) }
+    ensures reads { OnlyReads R.SnapReader reader.old reader.new (stop_of result) }
+{
+    let boot = read_page(alloc, reader, PageNo(9))?;
+    note(errors, g, PageNo(9), &boot)?;
+    Ok(boot)
 }
 
 /// Reads each system place of a file and its boot page once, and says what they say. All are read, even
@@ -61,8 +80,7 @@ pub fn read_system<R: SnapReader>(
         &mut errors,
     )?;
     let pfs = read_bytes(alloc, reader, g, pages, &mut page, &mut errors)?;
-    let boot = read_page(alloc, reader, PageNo(9))?;
-    note(&mut errors, g, PageNo(9), &boot)?;
+    let boot = read_boot(alloc, reader, g, &mut errors)?;
     Ok(SystemMaps {
         errors,
         free,

@@ -100,6 +100,5 @@ pub fn note(
     if !is_wrong(g, p, page) {
         return Ok(());
     }
-    add_both(errors, g, p, page)?;
-    Ok(())
+    add_both(errors, g, p, page)
 }

@@ -151,6 +151,5 @@ pub fn read_chain<R: SnapReader>(
     ensures reads { OnlyReads R.SnapReader reader.old reader.new (stop_of result) }
 {
     let mut page = Page::zeroed(alloc)?;
-    follow(alloc, reader, owner, first, &mut page, found)?;
-    Ok(())
+    follow(alloc, reader, owner, first, &mut page, found)
 }

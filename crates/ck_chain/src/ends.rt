@@ -91,6 +91,5 @@ pub fn note_end(
 ) -> Result<(), NoMemory>
     ensures { OnOk result (Adds errors.old.items errors.new.items (λ x. error_of_end id q p page.now.bytes end ≡ Some x)) }
 {
-    push_some(errors, end_error(id, q, p, page, end))?;
-    Ok(())
+    push_some(errors, end_error(id, q, p, page, end))
 }

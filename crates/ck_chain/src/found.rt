@@ -41,8 +41,7 @@ fn note_first_slots(
     if link.count != 0 {
         return Ok(());
     }
-    note_slots(errors, owner.pages, owner.id, link.page, iam)?;
-    Ok(())
+    note_slots(errors, owner.pages, owner.id, link.page, iam)
 }
 
 fn take_first_slots(
@@ -57,8 +56,7 @@ fn take_first_slots(
     if link.count != 0 {
         return Ok(());
     }
-    take_slots(uses, owner.pages, owner.id, iam)?;
-    Ok(())
+    take_slots(uses, owner.pages, owner.id, iam)
 }
 
 fn note_all(
@@ -81,8 +79,7 @@ fn note_all(
         link.page,
         iam,
     )?;
-    note_first_slots(errors, owner, link, iam)?;
-    Ok(())
+    note_first_slots(errors, owner, link, iam)
 }
 
 fn take_use(uses: &mut Vec<PageUse>, owner: &Owner, link: &Link) -> Result<(), NoMemory>
@@ -105,8 +102,7 @@ fn take_uses(
     ensures { OnOk result (Adds uses.old.items uses.new.items (PageTells owner.now link.now (bytes_of iam.now))) }
 {
     take_use(uses, owner, link)?;
-    take_first_slots(uses, owner, link, iam)?;
-    Ok(())
+    take_first_slots(uses, owner, link, iam)
 }
 
 impl Found {

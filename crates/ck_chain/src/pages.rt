@@ -39,8 +39,7 @@ fn note_prev(
         errors,
         differ(prev, link.before),
         error(8969, id, link.page, prev, 1),
-    )?;
-    Ok(())
+    )
 }
 
 fn note_sequence(
@@ -56,8 +55,7 @@ fn note_sequence(
         errors,
         differ(iam.sequence, link.count),
         error(2577, id, link.page, 0, iam.sequence),
-    )?;
-    Ok(())
+    )
 }
 
 fn note_interval(
@@ -72,8 +70,7 @@ fn note_interval(
         errors,
         differ(first, 0),
         error(8947, id, link.page, first, 0),
-    )?;
-    Ok(())
+    )
 }
 
 /// Adds what the links, the sequence and the interval of a page show. Page `first` of the chain has its
@@ -92,8 +89,7 @@ pub fn note_page(
 {
     note_prev(errors, id, link, iam)?;
     note_sequence(errors, id, link, iam)?;
-    note_interval(errors, id, link, first)?;
-    Ok(())
+    note_interval(errors, id, link, first)
 }
 
 fn note_mark(
@@ -115,8 +111,7 @@ fn note_mark(
         errors,
         is_behind(iam.marks(n), extents, e),
         error(2579, id, q, 0, e),
-    )?;
-    Ok(())
+    )
 }
 
 /// Adds the marks of extents behind the last of the file.

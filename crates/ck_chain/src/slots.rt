@@ -53,8 +53,7 @@ fn note_slot(
     ensures { OnOk result (Adds errors.old.items errors.new.items (SlotBehind pages id q (bytes_of iam.now) i)) }
 {
     let p = slot_at(iam, i);
-    push_if(errors, is_behind(pages, p), slot_error(id, q, p, i))?;
-    Ok(())
+    push_if(errors, is_behind(pages, p), slot_error(id, q, p, i))
 }
 
 /// Adds an error for each slot that holds a number at or past the file's end.

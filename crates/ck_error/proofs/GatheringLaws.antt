@@ -18,6 +18,9 @@ adds_push {Z} xs y = record {
   complete = λ x is. subst (Contains (xs ++ y ∷ [])) (sym is) (Contains-push xs y);
 }
 
+pub adds_pushed : {Z : Type 0} (xs ys : List Z) (y z : Z) → ys ≡ xs ++ y ∷ [] → y ≡ z → Adds xs ys (λ x. x ≡ z)
+adds_pushed {Z} xs ys y z grown is = subst (λ l. Adds xs l (λ x. x ≡ z)) (sym grown) (subst (λ w. Adds xs (xs ++ y ∷ []) (λ x. x ≡ w)) is (adds_push xs y))
+
 -- no error more
 pub adds_none : {Z : Type 0} (xs : List Z) (P : Z → Type 0) → ((x : Z) → P x → ⊥) → Adds xs xs P
 adds_none {Z} xs P never = record {

@@ -10,7 +10,7 @@ use pg_geom::is_ordinary;
 use spec_check::CheckError;
 
 /// A use of a page: by a single-page slot of an object, or as a page of its IAM chain.
-#[derive(Clone, Copy, PartialEq, Eq, PartialOrd, Ord)]
+#[derive(Clone, Copy, Debug, PartialEq, Eq, PartialOrd, Ord)]
 pub struct PageUse {
     pub page: u32,
     pub object: u32,

@@ -17,3 +17,4 @@ pub mod Placed
 pub mod Filed
 pub mod Passes
 pub mod Merging
+pub mod TableRoots

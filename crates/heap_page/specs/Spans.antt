@@ -1,12 +1,8 @@
 -- The part of a page in which two states of it differ, and the change of one byte.
-use Rattle.std.specs.Prelude.{◌≡◌, ℕ, ◌+◌, ◌<◌, ◌≤◌, ◌==◌, if◌then◌else◌, List, [], ◌∷◌, Option, Some, None, refl}
-use Rattle.spec_file.specs.Places.{pfs_place}
+use Rattle.std.specs.Prelude.{ℕ, ◌+◌, ◌<◌, ◌≤◌, ◌==◌, if◌then◌else◌, List, [], ◌∷◌, Option, Some, None}
 use Rattle.spec_log.specs.declared.item.Cell.TheVariants.{Bytes}
 use Rattle.spec_plan.specs.declared.plan.Planned.{Planned}
 use Rattle.spec_plan.specs.Changes.{last_of}
-use Rattle.spec_plan.specs.Sight.{Sight}
-use Rattle.spec_plan.specs.Statements.{byte_changes}
-use Rattle.spec_chain.specs.Uses.{pfs_byte}
 use Rattle.heap_page.specs.declared.span.Span.{Span}
 
 -- from the first of rising offsets to behind the last
@@ -28,9 +24,3 @@ abbrev pub changes_of_byte : ℕ → ℕ → ℕ → ℕ → List Planned
 changes_of_byte page at before after =
     if after == before then []
     else record { cell = Bytes (record { 0 = page }) at; before = before ∷ []; after = after ∷ [] } ∷ []
-
--- at the place of a page's PFS byte it is what a plan says
-pub byte_changes_at : (sight : Sight) (p byte : ℕ) →
-    byte_changes sight p byte
-    ≡ changes_of_byte (pfs_place sight.geometry p).page (pfs_place sight.geometry p).at (pfs_byte sight.geometry sight.view p) byte
-byte_changes_at sight p byte = refl

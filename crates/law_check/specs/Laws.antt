@@ -2,6 +2,7 @@
 use Rattle.std.specs.Prelude.{◌≡◌, ◌<◌, ◌-◌, ◌+◌, ◌==◌, if◌then◌else◌, nat_lt, ℕ, List, length, Option, Some, None, option_map}
 use Rattle.spec_file.specs.declared.data.Kind.{Kind}
 use Rattle.spec_file.specs.declared.geometry.Geometry.{Geometry}
+use Rattle.spec_file.specs.declared.page_type.TheConstants.{DATA_TYPE, INDEX_TYPE}
 use Rattle.spec_file.specs.Header.{page_type}
 use Rattle.spec_file.specs.Image.{Image, page, page_size}
 use Rattle.spec_log.specs.Cells.{HasWholePages}
@@ -30,10 +31,10 @@ abbrev pub child_in : Option PageRow → ℕ
 child_in None = 0
 child_in (Some row) = child_of row
 
--- data rows stand on pages of type 1, index rows on pages of type 2
+-- data rows stand on pages of one type, index rows on those of another
 abbrev pub StandsOn : ℕ → PageRow → Type 0
-StandsOn type (DataRow key payload) = type ≡ 1
-StandsOn type (IndexRow key child) = type ≡ 2
+StandsOn type (DataRow key payload) = type ≡ DATA_TYPE
+StandsOn type (IndexRow key child) = type ≡ INDEX_TYPE
 
 -- the row that the grammar reads in slot i of a page, where the page has that slot
 abbrev pub row_at : List ℕ → ℕ → Option PageRow

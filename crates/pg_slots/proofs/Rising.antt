@@ -2,7 +2,7 @@
 use Rattle.std.proofs.Common.{◌≡◌, refl, ℕ, zero, suc, ◌+◌, ◌<◌, ◌≤◌, List, arith, ap, inl, inr}
 use Rattle.std.proofs.lemmas.Bool.{cases_order}
 use Rattle.spec_rows.specs.Slots.{slot_limit, slot_count, slot_at}
-use Rattle.spec_rows.specs.OrderLaws.{IsInOrder}
+use Rattle.spec_rows.specs.Order.{IsInOrder}
 
 climbs : (bytes : List ℕ) (n : ℕ) → ((i : ℕ) → i + 1 < n → slot_at bytes i ≤ slot_at bytes (i + 1))
     → (i j : ℕ) → i ≤ j → j < n → slot_at bytes i ≤ slot_at bytes j

@@ -1,5 +1,5 @@
 -- Where no slot of a page has a fault, its rows stand on the page.
-use Rattle.std.proofs.Common.{◌≡◌, ℕ, ◌+◌, ◌*◌, ◌≤◌, IsTrue, List, arith}
+use Rattle.std.proofs.Common.{ℕ, ◌+◌, ◌*◌, ◌≤◌, IsTrue, List, arith}
 use Rattle.std.proofs.lemmas.Bool.{eqb-true}
 use Rattle.spec_file.specs.declared.data.Kind.{Kind}
 use Rattle.spec_file.specs.Header.{header_of}

@@ -4,7 +4,8 @@ use Rattle.std.proofs.lemmas.Bool.{cases_order}
 use Rattle.spec_rows.specs.declared.fault.SlotFault.{SlotFault}
 use Rattle.spec_rows.specs.Slots.{slot_count, slot_at, row_end}
 use Rattle.spec_rows.specs.PageTest.{fault, IsFirstOverlap, OrderPasses}
-use Rattle.spec_rows.specs.OrderLaws.{IsInOrder, overlap_in_order, no_overlap_in_order}
+use Rattle.spec_rows.specs.Order.{IsInOrder}
+use Rattle.spec_rows.proofs.OrderLaws.{overlap_in_order, no_overlap_in_order}
 
 -- before place k no row begins before the end of the one before
 abbrev pub AreApartBelow : List ℕ → (ℕ → ℕ) → ℕ → Type 0

@@ -1,7 +1,7 @@
 -- Slots that are sorted by where their rows begin.
 use Rattle.std.specs.Prelude.{ℕ, List, slice_index_or}
 use Rattle.spec_rows.specs.Slots.{slot_at}
-use Rattle.spec_rows.specs.OrderLaws.{IsInOrder}
+use Rattle.spec_rows.specs.Order.{IsInOrder}
 use Rattle.pg_slots.specs.declared.order.RowStart.{RowStart}
 
 -- where the row of slot i begins

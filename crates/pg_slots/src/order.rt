@@ -3,7 +3,7 @@ ghost use Rattle.std.specs.Prelude.{◌≡◌, ◌<◌, ◌≤◌, IsTrue, Match
 ghost use Rattle.std.specs.List.{range_with_len};
 ghost use Rattle.spec_rows.specs.Slots as slots;
 ghost use Rattle.spec_rows.specs.PageTest as spec;
-ghost use Rattle.spec_rows.specs.OrderLaws.{IsInOrder};
+ghost use Rattle.spec_rows.specs.Order.{IsInOrder};
 ghost use Rattle.pg_slots.specs.Sizes.{RowsStand};
 ghost use Rattle.pg_slots.specs.Starts.{start_of, AreInOrder};
 

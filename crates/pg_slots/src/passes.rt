@@ -66,7 +66,7 @@ fn header_fault(
 // The first test of its rows that the page fails.
 fn rows_fault(page: &Page, header: &Header, kind: Kind) -> Option<SlotFault>
     requires header { header.now ≡ header_of page.now.bytes }
-    requires room { IsTrue (spec.has_room header.now) }
+    requires room { IsTrue (spec.has_room (header_of page.now.bytes)) }
     ensures { MatchOption result (RowsPass kind page.now.bytes) (IsRowsFault kind page.now.bytes) }
 {
     if let Some(fault) = first_slot_fault(page, header, kind) {
@@ -84,7 +84,7 @@ fn rows_fault(page: &Page, header: &Header, kind: Kind) -> Option<SlotFault>
 // What is wrong with the first slot that has a fault.
 fn first_slot_fault(page: &Page, header: &Header, kind: Kind) -> Option<SlotFault>
     requires header { header.now ≡ header_of page.now.bytes }
-    requires room { IsTrue (spec.has_room header.now) }
+    requires room { IsTrue (spec.has_room (header_of page.now.bytes)) }
     ensures { MatchOption result (spec.SlotsPass kind page.now.bytes) (spec.IsFirstSlotFault kind page.now.bytes) }
 {
     for slot in 0..header.slots {

@@ -1,5 +1,5 @@
 // One slot and its row.
-ghost use Rattle.std.specs.Prelude.{◌≡◌, ◌<◌, ◌≤◌, IsTrue};
+ghost use Rattle.std.specs.Prelude.{◌≡◌, ◌<◌, ◌≤◌};
 ghost use Rattle.spec_file.specs.Header.{header_of};
 ghost use Rattle.spec_rows.specs.Rows.{is_data_status};
 ghost use Rattle.spec_rows.specs.Slots as slots;

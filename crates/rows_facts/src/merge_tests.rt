@@ -1,4 +1,6 @@
 // Facts of pages, in one part and in several, and the errors that they show together.
+ghost use Rattle.std.specs.Prelude.{◌≡◌, [], IfOk};
+
 use crate::made::{error, extent, object};
 use ck_facts::{AllocMap, CheckError, Fact};
 use ck_merge::Parts;
@@ -9,7 +11,9 @@ use std::process::Abort;
 use std::test::Fail;
 
 // Object 1 is a clustered table with root 10; 2 and 3 are heaps.
-fn one_table(alloc: Global) -> Result<AllocMap, NoMemory> {
+fn one_table(alloc: Global) -> Result<AllocMap, NoMemory>
+    ensures { IfOk result (λ map. map.system.items ≡ []) }
+{
     let mut objects = Vec::new(alloc);
     objects.push(object(alloc, 1, Kind::Clustered, 10)?)?;
     objects.push(object(alloc, 2, Kind::Heap, 0)?)?;

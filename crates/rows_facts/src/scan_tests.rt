@@ -129,33 +129,29 @@ fn line(object: u32, rows: u64) -> TableLine {
 #[test]
 fn each_page_that_objects_own_is_read_once(rt: HostRuntime) -> Result<(), Fail> {
     let alloc = rt.alloc();
-    let cases: [(&[PageUse], u64, u32); 4] = [
-        (&[used(11, 1, 8), used(12, 2, 8)], 1, 2),
-        (&[used(10, 1, 0), used(11, 1, 8), used(12, 2, 8)], 2, 3),
-        (
-            &[
-                used(10, 1, 0),
-                used(10, 2, 0),
-                used(11, 1, 8),
-                used(12, 2, 8),
-            ],
-            2,
-            3,
-        ),
-        (
-            &[used(3, 1, 0), used(9, 2, 0), used(11, 1, 8), used(12, 2, 8)],
-            1,
-            2,
-        ),
+    let chains: &[PageUse] = &[used(11, 1, 8), used(12, 2, 8)];
+    let one: &[PageUse] = &[used(10, 1, 0), used(11, 1, 8), used(12, 2, 8)];
+    let both: &[PageUse] = &[
+        used(10, 1, 0),
+        used(10, 2, 0),
+        used(11, 1, 8),
+        used(12, 2, 8),
     ];
-    for (uses, rows, wanted) in cases {
+    let not_ordinary: &[PageUse] = &[used(3, 1, 0), used(9, 2, 0), used(11, 1, 8), used(12, 2, 8)];
+    let cases = [
+        ("chains alone", chains, 1, 2),
+        ("a page that one object owns", one, 2, 3),
+        ("a page that two objects own", both, 2, 3),
+        ("pages that aren't ordinary", not_ordinary, 1, 2),
+    ];
+    for (name, uses, rows, wanted) in cases {
         let (report, reads) = scanned(alloc, uses)?;
         assert_eq!(rt;
             report.tables.as_slice(),
             &[line(1, rows), line(2, 0)][..],
-            "{uses:?}"
+            "{name}"
         );
-        assert_eq!(rt; reads, wanted, "{uses:?}");
+        assert_eq!(rt; reads, wanted, "{name}");
     }
     Ok(())
 }

@@ -181,25 +181,25 @@ fn put(page: &mut Page, i: u16, row: &[u8]) -> Option<Result<(), NoRoom>> {
     if !passes(page) || !is_data_row(row) || i > read_header(page).slots {
         return None;
     }
-    Some(insert_at(page, i, row))
+    Some(insert_at(page, Kind::Heap, i, row))
 }
 
 fn exchange(page: &mut Page, i: u16, row: &[u8]) -> Option<Result<(), NoRoom>> {
     if !passes(page) || !is_data_row(row) || i >= read_header(page).slots {
         return None;
     }
-    Some(replace_at(page, i, row))
+    Some(replace_at(page, Kind::Heap, i, row))
 }
 
 fn take(page: &mut Page, i: u16) {
     if passes(page) && i < read_header(page).slots {
-        remove_at(page, i);
+        remove_at(page, Kind::Heap, i);
     }
 }
 
 fn together(page: &mut Page) {
     if passes(page) {
-        compact(page);
+        compact(page, Kind::Heap);
     }
 }
 

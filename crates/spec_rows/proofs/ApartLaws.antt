@@ -4,7 +4,8 @@ use Rattle.std.proofs.Common.{arith, ap, inl, inr}
 use Rattle.std.proofs.lemmas.Bool.{cases_order, cases_lt}
 use Rattle.spec_rows.specs.Slots.{slot_limit, slot_count, slot_at, row_size, row_end}
 use Rattle.spec_rows.specs.PageTest.{OrderPasses}
-use Rattle.spec_rows.specs.OrderLaws.{order_key, key_from_order, order_from_key}
+use Rattle.spec_rows.specs.Order.{order_key}
+use Rattle.spec_rows.proofs.OrderLaws.{key_from_order, order_from_key}
 
 -- of two rows one ends before the other begins
 abbrev pub AreApart : List ℕ → Type 0

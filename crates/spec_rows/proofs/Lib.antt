@@ -4,3 +4,4 @@ pub mod RowLaws
 pub mod SlotLaws
 pub mod TestLaws
 pub mod WholeRows
+pub mod OrderLaws

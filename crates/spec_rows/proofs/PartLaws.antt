@@ -30,13 +30,6 @@ part_in_part k n m at bytes within =
     ∙ take-take n (m - k) (drop k (drop at bytes)) (omega arith)
     ∙ ap (take n) (drop-drop k at bytes)
 
-pub number_stays_in : (a b n at : ℕ) (before now : List ℕ) → Stays a b before now → a ≤ at → at + n ≤ b → number_at n at now ≡ number_at n at before
-number_stays_in a b n at before now stays above below =
-    let there : a + (at - a) ≡ at = omega arith in
-    let of = λ (bytes : List ℕ). number_in_part n (at - a) (b - a) a bytes (omega arith) in
-    ap (λ (i : ℕ). number_at n i now) (sym there) ∙ sym (of now) ∙ ap (number_at n (at - a)) stays ∙ of before
-    ∙ ap (λ (i : ℕ). number_at n i before) there
-
 pub byte_stays_in : (a b at : ℕ) (before now : List ℕ) → Stays a b before now → a ≤ at → at < b → slice_index now at ≡ slice_index before at
 byte_stays_in a b at before now stays above below =
     let there : a + (at - a) ≡ at = omega arith in

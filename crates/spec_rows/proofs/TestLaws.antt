@@ -1,7 +1,7 @@
 -- The page test has one answer: a page either passes, or has one first fault.
-use Rattle.std.specs.Prelude.{◌≡◌, ℕ, ◌+◌, ◌*◌, ◌<◌, ◌≤◌, ◌==◌, ◌&&◌, ◌||◌, nat_le, Bool, true, false, not, IsTrue, List, if◌then◌else◌, Option, Some, None, refl}
+use Rattle.std.specs.Prelude.{◌≡◌, ℕ, ◌<◌, ◌≤◌, ◌==◌, ◌||◌, Bool, true, false, not, IsTrue, List, if◌then◌else◌, Option, Some, None, refl}
 use Rattle.std.proofs.Common.{arith, ap, sym, ◌∙◌, inl, inr}
-use Rattle.std.proofs.lemmas.Bool.{cases_order, or_left, eq-eqb, eqb-true, leb-true, and_parts, both_ways}
+use Rattle.std.proofs.lemmas.Bool.{cases_order, or_left, eq-eqb, eqb-true, both_ways}
 use Rattle.spec_file.specs.declared.data.Kind.{Kind}
 use Rattle.spec_file.specs.Kinds.{is_clustered}
 use Rattle.spec_file.specs.declared.header.Header.{Header}
@@ -9,7 +9,9 @@ use Rattle.spec_file.specs.Header.{header_of, header_version}
 use Rattle.spec_rows.specs.declared.fault.SlotFault.{SlotFault}
 use Rattle.spec_rows.specs.Slots.{slot_count, slot_at}
 use Rattle.spec_rows.specs.PageTest as spec
-use Rattle.spec_rows.specs.OrderLaws.{order_key, order_from_key}
+use Rattle.spec_rows.specs.Order.{order_key}
+use Rattle.spec_rows.proofs.OrderLaws.{order_from_key}
+use Rattle.spec_rows.proofs.SlotLaws.{rows_room}
 
 -- none of three tests fails exactly where all pass
 owner_none : (a b c : Bool) (x y z : SlotFault)
@@ -125,12 +127,14 @@ one_overlap bytes x y few one two =
           absurd (omega (arith, two.overlaps, one.earlier two.one_before two.slot two.next (order_from_key bytes two.slot one.slot second first above)))
     ]
 
-few_slots : (p o : ℕ) (kind : Kind) (bytes : List ℕ) → spec.HeaderPasses p o kind bytes → slot_count bytes ≤ 4048
-few_slots p o kind bytes header =
+-- a header that passes leaves room between it and the slots
+pub room_passes : (p o : ℕ) (kind : Kind) (bytes : List ℕ) → spec.HeaderPasses p o kind bytes → IsTrue (spec.has_room (header_of bytes))
+room_passes p o kind bytes header =
     let h = header_of bytes in
-    let form = form_none (header_version bytes == 1) (spec.has_level h) (spec.has_rows h) (spec.has_links kind h) (spec.has_room h) (spec.has_no_ghosts h) _ _ _ _ _ _ header.form in
-    let outer = and_parts (nat_le h.slots 4048 && nat_le 96 h.free_from) (nat_le (h.free_from + 2 * h.slots) 8192) form.4 in
-    leb-true h.slots 4048 (and_parts (nat_le h.slots 4048) (nat_le 96 h.free_from) outer.0).0
+    (form_none (header_version bytes == 1) (spec.has_level h) (spec.has_rows h) (spec.has_links kind h) (spec.has_room h) (spec.has_no_ghosts h) _ _ _ _ _ _ header.form).4
+
+few_slots : (p o : ℕ) (kind : Kind) (bytes : List ℕ) → spec.HeaderPasses p o kind bytes → slot_count bytes ≤ 4048
+few_slots p o kind bytes header = (rows_room (header_of bytes) (room_passes p o kind bytes header)).few
 
 -- whether a slot has a fault where none may
 slots_clash : (kind : Kind) (bytes : List ℕ) (x : SlotFault) → spec.SlotsPass kind bytes → spec.IsFirstSlotFault kind bytes x → ⊥

@@ -2,4 +2,4 @@ pub mod Rows
 pub mod Slots
 pub mod PageTest
 pub mod Changes
-pub mod OrderLaws
+pub mod Order

@@ -8,7 +8,7 @@ use Rattle.spec_file.specs.declared.sizes.TheConstants.{MAPS_START}
 use Rattle.spec_file.specs.Image.{number_at}
 use Rattle.spec_file.specs.Header.{header_of, page_type}
 use Rattle.spec_rows.specs.declared.sizes.TheConstants.{SLOT_LIMIT}
-use Rattle.spec_rows.specs.Rows.{index_status, data_head, row_limit, index_length, is_data_status, is_leaf_row, is_index_row, row_key}
+use Rattle.spec_rows.specs.Rows.{index_status, data_head, row_limit, index_length, is_data_status, is_leaf_row, is_index_row}
 
 -- the most slots for which a page has room
 abbrev pub slot_limit : ℕ
@@ -58,9 +58,6 @@ page_row bytes i = slice_range bytes (slot_at bytes i) (row_end bytes i)
 -- the rows of a page, in the order of their slots
 abbrev pub page_rows : List ℕ → List (List ℕ)
 page_rows bytes = map (page_row bytes) (range_with_len 0 (slot_count bytes))
-
-abbrev pub page_keys : List ℕ → List ℕ
-page_keys bytes = map row_key (page_rows bytes)
 
 -- how many bytes the rows of the first n slots have
 abbrev pub rows_size : List ℕ → ℕ → ℕ

@@ -25,6 +25,6 @@ pub record AreSeen (g : Geometry) (image : Image) (row : CatalogRow) (pages : Li
   pub sound : (p : ℕ) → Contains pages p → IsSeen g image row p
   pub complete : (p : ℕ) → IsSeen g image row p → Contains pages p
 
--- how many data rows a page has: they stand on pages of type 1
+-- how many data rows a page has: they stand on pages of one type
 abbrev pub rows_on : List ℕ → ℕ
 rows_on bytes = if page_type bytes == DATA_TYPE then slot_count bytes else 0

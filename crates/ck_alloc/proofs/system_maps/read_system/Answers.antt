@@ -16,5 +16,5 @@ returns-clause-maps g c =
       sgam = rw one.image at c.in_ok-mixed.ensures.said;
       pfs = rw (two.image, one.image) at c.in_ok-pfs.ensures.said;
       boot = rw (three.image, two.image, one.image) at c.in_ok-boot.ensures.page;
-      last = rw c.deref.ensures at c.in_ok-note.ensures;
+      last = c.in_ok-boot.ensures.errors;
     })

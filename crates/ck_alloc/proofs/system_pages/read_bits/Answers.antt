@@ -1,4 +1,4 @@
-use Rattle.std.proofs.Common.{◌≡◌, ◌<◌, arith}
+use Rattle.std.proofs.Common.{◌≡◌, arith}
 use Rattle.spec_file.specs.Image.{bit}
 use Rattle.pg_base.proofs.ReadingLaws.{reads_none, reads_then}
 use Rattle.ck_chain.proofs.Exits.{exit_wants}

@@ -1,4 +1,4 @@
-use Rattle.std.proofs.Common.{◌≡◌, ◌<◌, arith}
+use Rattle.std.proofs.Common.{◌≡◌, arith}
 use Rattle.pg_base.proofs.ReadingLaws.{reads_none, reads_then}
 use Rattle.ck_chain.proofs.Exits.{exit_wants}
 use Rattle.ck_alloc.specs.declared.places.SystemKind.TheVariants.{Pfs}
@@ -13,7 +13,7 @@ loop-k-init g c = record {
 }
 
 pub push_bytes-requires : goal.push_bytes-requires
-push_bytes-requires g c = bytes_fit  c.args.g c.args.pages c.loop-k.k _ c.in_ok-n.ensures.place.rest
+push_bytes-requires g c = bytes_fit c.args.g c.args.pages c.loop-k.k _ c.in_ok-n.ensures.place.rest
 
 pub returns-in_err-push_bytes-clause-reads : goal.returns-in_err-push_bytes-clause-reads
 returns-in_err-push_bytes-clause-reads g c = exit_wants _ _ _ _ c.from_residual-in_err-push_bytes.ensures.1

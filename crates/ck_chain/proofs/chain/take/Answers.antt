@@ -1,4 +1,3 @@
-use Rattle.std.proofs.Common.{◌∙◌, ◌/◌, arith, sym, refl, ap}
 use Rattle.ck_chain.proofs.Inside.{interval_below, are_inside, views_own}
 use Rattle.ck_chain.proofs.Looking.{goes_to_iam, goes_to_interval}
 use Rattle.ck_chain.proofs.chain.take.Goals as goal

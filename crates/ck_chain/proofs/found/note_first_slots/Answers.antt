@@ -1,6 +1,7 @@
+use Rattle.std.proofs.lemmas.Result.{on_ok_weaker}
 use Rattle.std.proofs.Common.{arith}
 use Rattle.ck_error.proofs.GatheringLaws.{adds_given}
 use Rattle.ck_chain.proofs.found.note_first_slots.Goals as goal
 
 pub returns : goal.returns
-returns c = adds_given _ _ _ _ (omega (arith, c.if-link-ne0.false)) c.in_ok-note_slots.ensures
+returns c = on_ok_weaker c.note_slots.result (adds_given _ _ _ _ (omega (arith, c.if-link-ne0.false))) c.note_slots.ensures

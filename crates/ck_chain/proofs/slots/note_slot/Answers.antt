@@ -1,5 +1,6 @@
+use Rattle.std.proofs.lemmas.Result.{on_ok_weaker}
 use Rattle.ck_error.proofs.GatheringLaws.{adds_if}
 use Rattle.ck_chain.proofs.slots.note_slot.Goals as goal
 
 pub returns : goal.returns
-returns c = rw c.slot_at-p.ensures at (adds_if _ _ _ _ _ _ c.is_behind.ensures c.slot_error.ensures c.in_ok-push_if.ensures)
+returns c = rw c.slot_at-p.ensures at (on_ok_weaker c.push_if.result (adds_if _ _ _ _ _ _ c.is_behind.ensures c.slot_error.ensures) c.push_if.ensures)

@@ -1,13 +1,10 @@
--- The rows of a page in the order of offset, then slot.
-use Rattle.std.specs.Prelude.{◌≡◌, ℕ, ◌+◌, ◌*◌, ◌<◌, ◌≤◌, List, refl}
+-- Rows that stand in the order of offset, then slot.
+use Rattle.std.specs.Prelude.{◌≡◌, ℕ, ◌+◌, ◌<◌, ◌≤◌, List, refl}
 use Rattle.std.proofs.Common.{arith, subst, sym, ap, inl, inr, ◌∙◌}
 use Rattle.std.proofs.lemmas.Bool.{cases_order}
-use Rattle.spec_rows.specs.Slots.{slot_limit, slot_count, slot_at, row_end}
+use Rattle.spec_rows.specs.Slots.{slot_count, slot_at, row_end}
+use Rattle.spec_rows.specs.Order.{order_key, IsInOrder}
 use Rattle.spec_rows.specs.PageTest.{fault, ComesBefore, IsOneBefore, IsFirstOverlap, OrderPasses}
-
--- a number that rises in that order
-abbrev pub order_key : List ℕ → ℕ → ℕ
-order_key bytes i = slot_at bytes i * 4096 + i
 
 pub key_from_order : (bytes : List ℕ) (i j : ℕ) → i < 4096 → j < 4096 → ComesBefore bytes i j → order_key bytes i < order_key bytes j
 key_from_order bytes i j small small' before = elim before [
@@ -21,13 +18,6 @@ order_from_key bytes i j small small' below = elim (cases_order (slot_at bytes i
   | inr (inl less) ↦ inl less
   | inr (inr more) ↦ absurd (omega (arith, more))
 ]
-
--- the slots as they stand in that order: `at k` is the one with k slots before it
-pub record IsInOrder (bytes : List ℕ) (at : ℕ → ℕ) : Type 0 where
-  pub few : slot_count bytes ≤ slot_limit
-  pub within : (k : ℕ) → k < slot_count bytes → at k < slot_count bytes
-  pub rising : (k l : ℕ) → k < l → l < slot_count bytes → order_key bytes (at k) < order_key bytes (at l)
-  pub whole : (i : ℕ) → i < slot_count bytes → (k : ℕ) × (k < slot_count bytes) × (at k ≡ i)
 
 -- places rise where keys do
 places_rise : (bytes : List ℕ) (at : ℕ → ℕ) → IsInOrder bytes at → (k l : ℕ) → k < slot_count bytes → l < slot_count bytes

@@ -77,15 +77,6 @@ closed run entries items close replies known file file_now log log_now out out_n
       (knows ∙ same_end items (items_of entries) replies is) writes);
 }
 
--- no device is named by the status of a run that is closed
-pub no_device : (d : Device) (log : List Record) (replies : List (List Reply)) → IsDevice d (ended_as log replies) → ⊥
-no_device d log replies = by_cases (list_any (list_any is_terminated) replies) (list_any ends_short log) (list_any (list_any has_errors) replies) where
-  by_cases : (a b e : Bool) → IsDevice d (if a then status.NoReport else (if b then status.Memory else ended e)) → ⊥
-  by_cases true b e h = h
-  by_cases false true e h = h
-  by_cases false false true h = h
-  by_cases false false false h = h
-
 pub close_of : (run : Setting) (entries : List Entry) (items : List Record) (close : Close) (pages : ℕ) (frames : Image) → run.opened ≡ []
     → frames ≡ last_of run entries → pages ≡ length frames → IsCloseOf items pages close → IsCloseOf items (length run.image) close
 close_of run entries items close pages frames opened is many of =

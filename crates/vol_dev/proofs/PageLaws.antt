@@ -93,30 +93,3 @@ pages_of-with_page bytes page p h size =
     let below : k < length bytes / page_size = subst (λ n. k < n) count inside in
     let here : k < length (with_page bytes p page) / page_size = subst (λ n. k < n / page_size) (sym same) below in
     get_or-pages_of (with_page bytes p page) k d here ∙ page_at-set bytes page d p k h size below (cases_order k p))
-
--- page k after page p was added, by the place of k
-page_at-added : (bytes page d : List ℕ) (p k : ℕ) → length bytes ≡ page_size * p → length page ≡ page_size
-    → length (pages_of bytes) ≡ p → (k ≡ p) ⊎ ((k < p) ⊎ (p < k)) → k < p + 1
-    → page_at (with_page bytes p page) k ≡ get_or (pages_of bytes ++ page ∷ []) k d
-page_at-added bytes page d p k whole size had (inl e) below =
-    ap (page_at (with_page bytes p page)) e ∙ page_at-with_page bytes page p (omega arith) size
-    ∙ sym (get_or_push (pages_of bytes) page d k (had ∙ sym e))
-page_at-added bytes page d p k whole size had (inr (inl before)) below =
-    let inside : k < length (pages_of bytes) = omega arith in
-    page_at-with_page_before bytes page p k (omega arith) before
-    ∙ sym (get_or-pages_of bytes k d (subst (λ n. k < n) (length-pages_of bytes) inside))
-    ∙ sym (get_or_append_left (pages_of bytes) (page ∷ []) d k inside)
-page_at-added bytes page d p k whole size had (inr (inr after)) below = absurd (omega arith)
-
--- the image after a page was added to a file of whole pages
-pub pages_of-with_page_added : (bytes page : List ℕ) (p : ℕ) → length bytes ≡ page_size * p → length page ≡ page_size
-    → pages_of (with_page bytes p page) ≡ pages_of bytes ++ page ∷ []
-pages_of-with_page_added bytes page p whole size =
-    let fits : FitsPage p bytes = omega arith in
-    let long : length (with_page bytes p page) ≡ page_size * (p + 1) = length-with_page bytes page p fits size ∙ omega arith in
-    let had : length (pages_of bytes) ≡ p = length-pages_of bytes ∙ omega arith in
-    let has : length (pages_of (with_page bytes p page)) ≡ p + 1 = length-pages_of (with_page bytes p page) ∙ omega arith in
-    let ends : length (pages_of bytes ++ page ∷ []) ≡ p + 1 = omega (arith, length-append (pages_of bytes) (page ∷ []), had) in
-    same_lists _ _ (has ∙ sym ends) (λ k d inside.
-    let here : k < length (with_page bytes p page) / page_size = omega (arith, has, inside, long) in
-    get_or-pages_of (with_page bytes p page) k d here ∙ page_at-added bytes page d p k whole size had (cases_order k p) (omega arith))

@@ -54,10 +54,6 @@ Leaves-as : (f g : Image → Image) (old new : Option (List ℕ)) → Leaves f o
 Leaves-as f g None new left same = record { pages = left.pages; size = left.size }
 Leaves-as f g (Some bytes) new left same = record { pages = left.pages ∙ ap (λ image. Some image) same; size = left.size }
 
--- the image with its first n pages written
-front_of : Image → ℕ → Image → Image
-front_of image n before = take n image ++ drop n before
-
 -- a page behind the written ones is put in its place
 put_behind : (image before : Image) (n : ℕ) (held : List ℕ) → length before ≡ length image → n < length image
     → set (take n image ++ drop n before) n held ≡ take n image ++ held ∷ drop (n + 1) before

@@ -1,5 +1,5 @@
 -- The core's state as a whole, and what a turn makes of it.
-use Rattle.std.specs.Prelude.{◌≡◌, ℕ, ◌+◌, ◌-◌, ◌<◌, ◌≤◌, max, Bool, true, false, List, [], ◌∷◌, ◌++◌, length, map, reverse, sum_by, slice_get, vec_len, vec_capacity, Some, None, ◌⊎◌}
+use Rattle.std.specs.Prelude.{◌≡◌, ◌/◌, ℕ, ◌+◌, ◌-◌, ◌<◌, ◌≤◌, max, Bool, true, false, List, [], ◌∷◌, ◌++◌, length, map, reverse, sum_by, slice_get, vec_len, vec_capacity, Some, None, ◌⊎◌}
 use Rattle.spec_log.specs.declared.limits.TheConstants.{MOST_ITEMS, MOST_BYTES}
 use Rattle.spec_file.specs.declared.geometry.Geometry.TheVariants.{Small}
 use Rattle.spec_log.specs.declared.item.Record.{Record}

@@ -1,5 +1,5 @@
 //! INSERT and COUNT begin, as they were planned.
-ghost use Rattle.std.specs.Prelude.{◌≡◌, ◌+◌, ◌*◌, ◌<◌, ◌≤◌, ◌^◌, ◌==◌, [], ◌++◌, length, reverse, slice_get, Some, Ok, Err, IfOk, true, false, vec_len, vec_capacity};
+ghost use Rattle.std.specs.Prelude.{◌≡◌, ◌+◌, ◌*◌, ◌<◌, ◌≤◌, ◌^◌, ◌==◌, [], ◌++◌, length, reverse, slice_get, Some, Ok, Err, IfOk, true, false, vec_len, vec_capacity, ◌/◌};
 ghost use Rattle.spec_plan.specs.Planned.{planned_size};
 ghost use Rattle.spec_script.specs.declared.reply.Reply.TheVariants as reply;
 ghost use Rattle.law_plan.specs.Good.{HaveCells};

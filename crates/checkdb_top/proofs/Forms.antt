@@ -1,14 +1,13 @@
 -- What page 0 says of a file whose size has passed.
 use Rattle.std.proofs.Common.{◌≡◌, ℕ, Bool, true, false, IsTrue, not, if◌then◌else◌, List, Option, Some, None, IfSome, option_map, length, refl, sym, ◌∙◌}
 use Rattle.std.specs.Option.{ForSome}
-use Rattle.spec_file.specs.declared.geometry.Geometry.{Geometry}
 use Rattle.spec_file.specs.Image.{pages_of, page}
-use Rattle.spec_file.specs.FileForm.{geometry_of, size_passes}
+use Rattle.spec_file.specs.FileForm.{size_passes}
 use Rattle.run_file.specs.declared.why.FileWhy.{FileWhy}
 use Rattle.run_file.specs.declared.why.FileWhy.TheVariants as why
 use Rattle.run_file.specs.Opening.{opening_fault, file_fault}
 use Rattle.run_file.proofs.OpeningLaws.{after_size}
-use Rattle.checkdb_top.specs.Form.{IsRefusedFor, Passes, NamesGeometry}
+use Rattle.checkdb_top.specs.Form.{IsRefusedFor, Passes}
 
 -- the first test that page 0 fails, or that it passes all, is the file's
 pub told_fault : (told : Option (List ℕ)) (pages : ℕ) (first : List ℕ) (fault : Option FileWhy)
@@ -19,11 +18,6 @@ told_fault None pages first fault whole passes is h = tt
 told_fault (Some file) pages first fault whole passes is h =
     let opened : opening_fault (length (pages_of file)) (page (pages_of file) 0) ≡ fault = rw (whole (pages_of file) refl, ← is) h in
     sym (after_size file passes) ∙ opened
-
-pub told_geometry : (told : Option (List ℕ)) (first : List ℕ) (g : Geometry) → IfSome (option_map pages_of told) (λ image. first ≡ page image 0)
-    → geometry_of first ≡ Some g → IfSome told (NamesGeometry g)
-told_geometry None first g is h = tt
-told_geometry (Some file) first g is h = rw (← is) h
 
 -- a file of a wrong size fails that test first
 size_first : (size : Bool) (fault : Option FileWhy) → size ≡ false → (if not size then Some why.Size else fault) ≡ Some why.Size

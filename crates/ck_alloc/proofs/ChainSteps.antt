@@ -11,14 +11,14 @@ use Rattle.spec_file.specs.Image.{Image}
 use Rattle.spec_file.specs.CatalogRows.{CatalogRow}
 use Rattle.spec_chain.specs.Marks.{IsMarked}
 use Rattle.spec_check.specs.Chains.{IsErrorOfChain}
-use Rattle.ck_error.proofs.GatheringLaws.{adds_none, adds_as, adds_both}
+use Rattle.ck_error.proofs.GatheringLaws.{adds_as, adds_both}
 use Rattle.ck_facts.specs.declared.map.ExtentMap.{ExtentMap}
 use Rattle.ck_facts.specs.Maps.{has_mark, rows_of_objects}
 use Rattle.db_cat.specs.declared.rows.CatRow.{CatRow}
 use Rattle.db_cat.specs.Rows.{row_of}
 use Rattle.ck_chain.specs.declared.found.Found.{Found}
 use Rattle.ck_chain.specs.Walks.{IsUseOf, IsChainRead}
-use Rattle.ck_alloc.specs.ChainsRead.{IsBare, AreBare, ChainError, ChainUse, IsMarkedByFirst, AreChainsRead}
+use Rattle.ck_alloc.specs.ChainsRead.{IsBare, AreBare, ChainError, ChainUse, AreChainsRead}
 
 upto : (i n : ℕ) → i < n + 1 → (i < n) ⊎ (i ≡ n)
 upto i n h = search (rules, arith)
@@ -45,19 +45,6 @@ bare_more free mixed xs y h is = record {
   each = λ e z at. ⊎_elim (λ old. h.each e z old)
       (λ here. subst (λ n. IsBare (slice_get free n) (slice_get mixed n) z) (sym here.0) (subst (IsBare (slice_get free (length xs)) (slice_get mixed (length xs))) (sym here.1) is))
       (pushed xs y z e at);
-}
-
-pub read_none : (g : Geometry) (image : Image) (rows : List CatalogRow) (old : Found) → AreChainsRead g image rows 0 old old
-read_none g image rows old = record {
-  errors = adds_none _ (ChainError g image rows 0) (λ x s. omega (arith, s.2.0));
-  uses = adds_none _ (ChainUse g image rows 0) (λ u s. omega (arith, s.2.0));
-  count = refl;
-  extents = λ e x y was now. subst (IsMarkedByFirst g image rows 0 e x) (same_Some x y (sym was ∙ now)) (record {
-    free = refl;
-    mixed = refl;
-    done = λ i row below. absurd (omega (arith, below.0));
-    left = λ i low. refl;
-  });
 }
 
 pub read_more : (g : Geometry) (image : Image) (rows : List CatalogRow) (n : ℕ) (row : CatalogRow) (old mid new : Found)

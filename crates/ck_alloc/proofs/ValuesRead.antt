@@ -150,11 +150,6 @@ ends Gam Small pages = omega arith
 ends Sgam Standard pages = omega arith
 ends Sgam Small pages = omega arith
 
-pub values_few : (kind : SystemKind) (pages : ℕ) → value_count kind pages ≤ pages
-values_few Pfs pages = omega arith
-values_few Gam pages = omega arith
-values_few Sgam pages = omega arith
-
 next : (size all k : ℕ) → size * k ≤ all
     → (min all (size * k) ≡ size * k) × (min all (size * (k + 1)) ≡ size * k + min (all - size * k) size)
 next size all k h =

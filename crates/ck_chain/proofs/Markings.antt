@@ -1,18 +1,11 @@
 -- Marks that one object gets besides.
-use Rattle.std.proofs.Common.{◌≡◌, ◌≢◌, ◌⊎◌, ℕ, ◌+◌, ◌<◌, Bool, rules, IsTrue, List, length, set, get_or, Some, arith, sym, subst, inl, inr, ⊎_elim, refl, ◌∙◌}
-use Rattle.std.proofs.lemmas.Bool.{cases_eq}
-use Rattle.std.proofs.lemmas.List.{get_or-set_other, get_or-set_same, length-set}
-use Rattle.std.proofs.lemmas.Option.{get_or_from_slice_get, slice_get_read, slice_get_within, slice_get-get_or, same_Some}
+use Rattle.std.proofs.Common.{◌≡◌, ◌⊎◌, ℕ, ◌+◌, ◌<◌, Bool, rules, IsTrue, List, length, set, get_or, Some, arith, sym, subst, inl, inr, ⊎_elim, refl, ◌∙◌}
+use Rattle.std.proofs.lemmas.List.{get_or-set_same}
+use Rattle.std.proofs.lemmas.Option.{get_or_from_slice_get, slice_get_within, slice_get-get_or, same_Some}
 use Rattle.std.specs.List.{slice_get}
 use Rattle.ck_facts.specs.declared.map.ExtentMap.{ExtentMap}
 use Rattle.spec_file.specs.Iam.{iam_mark}
 use Rattle.ck_chain.specs.Marking.{IsMarkedAs, AreMarkedAs, MarksFront}
-
--- an element elsewhere is as before a write
-pub set_elsewhere : {X : Type 0} (xs : List X) (i j : ℕ) (y z : X) → j ≢ i → slice_get (set xs i y) j ≡ Some z → slice_get xs j ≡ Some z
-set_elsewhere {X} xs i j y z other h =
-    let below : j < length xs = subst (λ n. j < n) (length-set xs i y) (slice_get_within (set xs i y) j z h) in
-    slice_get_read xs (length xs) j z refl below (sym (get_or_from_slice_get (set xs i y) j z z h) ∙ get_or-set_other xs i j y z other)
 
 -- the element that was written
 pub set_here : {X : Type 0} (xs : List X) (i : ℕ) (y z : X) → i < length xs → slice_get (set xs i y) i ≡ Some z → z ≡ y
@@ -69,30 +62,6 @@ marked_both i A B xs ys zs a b = record {
               (λ new. ⊎_elim (λ p. inl (first.mark.1 (inr p))) (λ q. inr q) new) m),
         );
       };
-}
-
--- one extent is marked
-pub marked_set : (i at : ℕ) (P : Type 0) (xs : List ExtentMap) (x y : ExtentMap) → at < length xs → get_or xs at x ≡ x → P
-    → IsMarkedAs i (Unit {0}) x y → AreMarkedAs i (λ e. P × (e ≡ at)) xs (set xs at y)
-marked_set i at P xs x y inside is holds marks = record {
-  count = length-set xs at y;
-  each = λ e w z was now. ⊎_elim
-      (λ here.
-      let became : z ≡ y = set_here xs at y z inside (subst (λ n. slice_get (set xs at y) n ≡ Some z) here now) in
-      let had : x ≡ w = sym is ∙ get_or_from_slice_get xs at w x (subst (λ n. slice_get xs n ≡ Some w) here was) in
-      subst (λ v. IsMarkedAs i (P × (e ≡ at)) v z) had (subst (IsMarkedAs i (P × (e ≡ at)) x) (sym became) (record {
-        free = marks.free;
-        mixed = marks.mixed;
-        others = marks.others;
-        mark = (
-          λ m. ⊎_elim (λ old. inl old) (λ any. inr (holds, here)) (marks.mark.0 m),
-          λ m. marks.mark.1 (⊎_elim (λ old. inl old) (λ any. inr tt) m),
-        );
-      })))
-      (λ other.
-      let same : w ≡ z = same_Some w z (sym was ∙ set_elsewhere xs at e y z other now) in
-      subst (IsMarkedAs i (P × (e ≡ at)) w) same (unmarked i (P × (e ≡ at)) w (λ b. other b.1)))
-      (cases_eq e at);
 }
 
 upto : (k n : ℕ) → k < n + 1 → (k < n) ⊎ (k ≡ n)

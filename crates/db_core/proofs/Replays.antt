@@ -6,7 +6,7 @@ use Rattle.spec_log.specs.declared.item.Record.{Record}
 use Rattle.spec_log.specs.declared.item.Record.TheVariants.{Snap, CheckEnd}
 use Rattle.spec_run.specs.Entries.{Entry, items_of}
 use Rattle.spec_run.specs.Begun.{Setting}
-use Rattle.spec_run.specs.Progress.{Progress, progress_of, at_work, with_statement, script_of, first_of, next_of}
+use Rattle.spec_run.specs.Progress.{Progress, progress_of, script_of, next_of}
 use Rattle.spec_run.specs.Turns.{IsLegal, Turn, Rests, Appends, EndsAtOnce, Goes, Marks, Run}
 use Rattle.law_run.specs.Laws.{IsStart}
 use Rattle.law_run.proofs.Keeps.{progress_other}
@@ -154,11 +154,6 @@ session_ends old new at n x f here done = record {
   follows = f;
   done = subst (λ r. IsDone r (at + 1) (log_of new)) f.same (session_done new at x f.good here done);
 }
-
-pub done_none : (run : Setting) (s : ℕ) (log : List Record) → IsDone run s log → next_of run s log ≡ None
-done_none run s log done =
-    let p = progress_of run s log in
-    ap (λ d. first_of (at_work run log s p d).due) done.0 ∙ ap (λ o. first_of (with_statement run log s p o).due) done.1 ∙ ap first_of done.0
 
 -- what a turn leaves of legality, read backwards
 legal_before : (run : Setting) (s : ℕ) (old new : List Entry) → Turn run s old new → IsLegal run (items_of new) → IsLegal run (items_of old)

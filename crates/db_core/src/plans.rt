@@ -221,7 +221,13 @@ fn write(
 }
 
 /// The record of a statement by its plan; `last` is the greatest transaction so far.
-fn start_by(alloc: Global, session: &mut Session, place: StatementNo, last: u64, plan: Plan) -> Record
+fn start_by(
+    alloc: Global,
+    session: &mut Session,
+    place: StatementNo,
+    last: u64,
+    plan: Plan,
+) -> Record
     requires replies { vec_len session.old.replies < vec_capacity session.old.replies }
     requires small { IsProper plan }
     requires used { session.old.used ≤ MOST_CHANGES }

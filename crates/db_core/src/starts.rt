@@ -44,7 +44,12 @@ pub fn plain_start(alloc: Global, place: StatementNo, tran: u64, number: u16) ->
 }
 
 /// The statement is refused, with what refuses it, and its transaction stands as before.
-pub fn refuse_by(alloc: Global, session: &mut Session, place: StatementNo, refusal: Refusal) -> Record
+pub fn refuse_by(
+    alloc: Global,
+    session: &mut Session,
+    place: StatementNo,
+    refusal: Refusal,
+) -> Record
     requires { vec_len session.old.replies < vec_capacity session.old.replies }
     ensures ended { IsEnded place refusal.number (Refused refusal) session.old session.new result }
     ensures kept_room { KeepsRoom session.old session.new }
@@ -112,7 +117,13 @@ pub fn start_undo(alloc: Global, session: &mut Session, place: StatementNo) -> R
 }
 
 /// The record of a statement that needs no plan; `last` is the greatest transaction so far.
-pub fn start(alloc: Global, session: &mut Session, place: StatementNo, last: u64, word: Word) -> Record
+pub fn start(
+    alloc: Global,
+    session: &mut Session,
+    place: StatementNo,
+    last: u64,
+    word: Word,
+) -> Record
     requires room { vec_len session.old.replies < vec_capacity session.old.replies }
     requires low { last + 1 < 2 ^ 64 }
     ensures starts { StartsBy word last place session.old session.new result }

@@ -1,5 +1,5 @@
 -- What the file shows of the view.
-use Rattle.std.proofs.Common.{◌≡◌, refl, ℕ, ◌<◌, true, false, Bool, List, length, ap, sym, ◌∙◌, None, IsTrue}
+use Rattle.std.proofs.Common.{◌≡◌, refl, ℕ, ◌<◌, true, Bool, List, length, ap, sym, ◌∙◌, None, IsTrue}
 use Rattle.std.specs.Prelude.{◌&&◌, ◌==◌, not, is_none}
 use Rattle.std.specs.List.{list_any}
 use Rattle.spec_file.specs.declared.data.Resource.TheVariants as resource
@@ -25,9 +25,6 @@ inside_seen sight file p n b shown count e = ap (λ m. is_inside m p) (sym shown
 and_known : (a b c d : Bool) → a ≡ true → b ≡ d → (a && b && c) ≡ (d && c)
 and_known a b c d e f = rw (e, f) refl
 
-and_none : (a b c : Bool) → a ≡ false → (a && b && c) ≡ false
-and_none a b c e = rw e refl
-
 pub page_seen : (sight : Sight) (file : Image) (p : ℕ) → IsShown sight file → p < length file → sight.other (resource.Page (record { 0 = p })) ≡ None
     → is_ordinary sight.geometry p ≡ true → page file p ≡ page sight.view p
 page_seen sight file p shown inside free ordinary = shown.ordinary p inside ordinary free
@@ -43,9 +40,6 @@ chain_page_is sight file row met p iam shown inside free ordinary is =
     ∙ ap (λ bytes. is_none (fault_of_bytes sight.geometry (length file) row.id p bytes)) (sym (page_seen sight file p shown inside free ordinary))
     ∙ sym is in
     and_known _ _ _ _ ordinary same
-
-pub no_chain_page : (sight : Sight) (row : CatalogRow) (met : List ℕ) (p : ℕ) → is_ordinary sight.geometry p ≡ false → is_chain_page sight row met p ≡ false
-no_chain_page sight row met p e = and_none _ _ _ e
 
 pub iam_seen : (sight : Sight) (file : Image) (p : ℕ) → IsShown sight file → p < length file → sight.other (resource.Page (record { 0 = p })) ≡ None
     → is_ordinary sight.geometry p ≡ true → IsTrue (is_iam_page sight.geometry (length file) p (page file p)) → IsSeenIam sight file p

@@ -1,7 +1,7 @@
 -- What stays where a number is put.
 use Rattle.std.specs.Prelude.{◌≡◌, ℕ, ◌+◌, ◌-◌, ◌<◌, ◌≤◌, List, take, drop, slice_index}
 use Rattle.std.proofs.Common.{arith, ap, sym, ◌∙◌}
-use Rattle.std.proofs.lemmas.List.{take-take, drop-drop, drop-take, get_or-take, get_or-drop}
+use Rattle.std.proofs.lemmas.List.{take-take, drop-drop, drop-take, get_or-take}
 use Rattle.byteorder.specs.Endian.{little_number}
 use Rattle.byteorder.specs.Numbers.{little_from-take}
 use Rattle.spec_file.specs.Image.{number_at}
@@ -41,12 +41,6 @@ same_number_behind n at k xs ys same within = ap (little_number n) (same_back at
 pub same_byte : (i k : ℕ) (xs ys : List ℕ) → take k xs ≡ take k ys → i < k → slice_index xs i ≡ slice_index ys i
 same_byte i k xs ys same within =
     sym (get_or-take k xs i 0 within) ∙ ap (λ (l : List ℕ). slice_index l i) same ∙ get_or-take k ys i 0 within
-
-pub same_byte_behind : (i k : ℕ) (xs ys : List ℕ) → drop k xs ≡ drop k ys → k ≤ i → slice_index xs i ≡ slice_index ys i
-same_byte_behind i k xs ys same within =
-    let there : k + (i - k) ≡ i = omega arith in
-    ap (slice_index xs) (sym there) ∙ sym (get_or-drop k xs (i - k) 0) ∙ ap (λ (l : List ℕ). slice_index l (i - k)) same
-    ∙ get_or-drop k ys (i - k) 0 ∙ ap (slice_index ys) there
 
 -- where a number is put, the bytes before it and behind it stay, and the numbers before it
 pub front_stays : (k n at value : ℕ) (xs ys : List ℕ) → PutsNumber n at value xs ys → k ≤ at → take k ys ≡ take k xs

@@ -17,10 +17,8 @@ pub use page::{Page, is_whole};
 pub use read::read_page;
 pub use reader::{ReadStop, SnapReader};
 pub use spec_file::{
-    BOOT_TYPE, DATA_TYPE, FILE_HEADER_TYPE, GAM_TYPE, IAM_TYPE, INDEX_TYPE, PFS_TYPE, SGAM_TYPE,
+    BOOT_TYPE, DATA_TYPE, ExtentNo, FILE_HEADER_TYPE, GAM_TYPE, Geometry, Header, IAM_TYPE,
+    INDEX_TYPE, Kind, Lsn, MAPS_START, NoMemory, ObjId, PAGE_SIZE, PFS_TYPE, PageNo, Resource,
+    Role, SGAM_TYPE, Tran,
 };
-pub use spec_file::{
-    ExtentNo, Geometry, Header, Kind, Lsn, NoMemory, ObjId, PageNo, Resource, Role, Tran,
-};
-pub use spec_file::{MAPS_START, PAGE_SIZE};
 pub use words::Words;

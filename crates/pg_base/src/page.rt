@@ -16,7 +16,12 @@ impl Page {
     pub fn zeroed(alloc: Global) -> Result<Box<Page>, NoMemory>
         ensures { IfOk result (λ page. page.value.bytes ≡ zero_page) }
     {
-        Ok(Box::new(alloc, Page { bytes: [0; PAGE_SIZE] })?)
+        Ok(Box::new(
+            alloc,
+            Page {
+                bytes: [0; PAGE_SIZE],
+            },
+        )?)
     }
 }
 

@@ -1,6 +1,5 @@
 -- Who holds what, read item by item.
 use Rattle.std.proofs.Common.{◌≡◌, ℕ, ◌+◌, ◌<◌, ◌≤◌, eqb, Bool, true, false, ◌&&◌, ◌||◌, not, ltb, List, [], ◌∷◌, length, get_or, take, take_all, reverse, ◌⊎◌, inl, inr, refl, sym, ap, ◌∙◌, subst, eq-eqb}
-use Rattle.std.specs.Prelude.{◌↔◌, IsTrue}
 use Rattle.std.specs.List.{list_any}
 use Rattle.std.proofs.lemmas.Bool.{eqb-true, false≢true, and_parts, cases_Bool}
 use Rattle.spec_file.specs.declared.data.Resource.{Resource}
@@ -35,9 +34,6 @@ among_more log items t r i x lt e before here = subst (FreeAmong log t r) (sym (
 pub free_all : (items : List Record) (t : ℕ) (r : Resource) (i : ℕ) → length items ≤ i → FreeAmong (reverse items) t r (reverse (take i items)) → IsFreeFor (reverse items) t r
 free_all items t r i end free u h =
     free_by_start (reverse items) (reverse items) t u r (subst (λ part. FreeAmong (reverse items) t r (reverse part)) (take_all i items end) free) h (holder_started (reverse items) u r h)
-
-pub free_answer : (log : List Record) (t u : ℕ) (r : Resource) → (u ≡ t → ⊥) → holds log u r ≡ true → IsTrue false ↔ IsFreeFor log t r
-free_answer log t u r other h = (λ e. absurd (false≢true e), λ free. absurd (other (free u h)))
 
 -- resources of one grain and number are taken together
 same_among : (r s : Resource) (takes : List Resource) → is_same r s ≡ true → list_any (is_same r) takes ≡ list_any (is_same s) takes

@@ -29,13 +29,6 @@ any_hit p (x ∷ xs) (suc i) d lt h =
 pub any_more_false : {X : Type 0} (p : X → Bool) (xs : List X) (i : ℕ) (d : X) → i < length xs → list_any p (reverse (take i xs)) ≡ false → p (get_or xs i d) ≡ false → list_any p (reverse (take (i + 1) xs)) ≡ false
 any_more_false p xs i d lt none miss = ap (list_any p) (reverse_take_more xs i d lt) ∙ ap (λ b. b || list_any p (reverse (take i xs))) miss ∙ none
 
-pub not_by_own : {b : Bool} → (b ≡ true → ⊥) → b ≡ false
-not_by_own {b} h = by_case b h
-  where
-    by_case : (b : Bool) → (b ≡ true → ⊥) → b ≡ false
-    by_case true h = absurd (h refl)
-    by_case false h = refl
-
 -- the same, where the element is known as one that stands there
 pub any_hit_at : {X : Type 0} (p : X → Bool) (xs : List X) (i : ℕ) (x : X) → i < length xs → x ≡ get_or xs i x → p x ≡ true → list_any p (reverse xs) ≡ true
 any_hit_at p xs i x lt e h = any_hit p xs i x lt (subst (λ y. p y ≡ true) e h)

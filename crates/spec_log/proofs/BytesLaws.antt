@@ -1,12 +1,9 @@
 -- Vectors of the bytes of items, and how many a Change has.
-use Rattle.std.specs.Prelude.{◌≡◌, ℕ, List, [], ◌∷◌, length, refl}
-use Rattle.std.proofs.Common.{arith, length-append}
+use Rattle.std.specs.Prelude.{◌≡◌, [], ◌∷◌, refl}
 use Rattle.spec_file.specs.declared.data.Resource.TheVariants.{Catalog, Table, Extent, Byte, Page}
-use Rattle.spec_file.specs.declared.data.Tran.{Tran}
-use Rattle.spec_log.specs.declared.item.Cell.{Cell}
-use Rattle.spec_log.specs.declared.item.Cell.TheVariants.{Bytes, Bit}
+use Rattle.spec_log.specs.declared.item.Cell.TheVariants.{Bytes}
 use Rattle.spec_log.specs.declared.item.Record.TheVariants.{Start, Change, Commit, Snap}
-use Rattle.spec_log.specs.Bytes.{item_bytes, change_length}
+use Rattle.spec_log.specs.Bytes.{item_bytes}
 
 -- the record of CREATE HEAP in a new file: five resources, three changes of 130 bytes
 start_vector : item_bytes (Start 1 1 (record { 0 = 1 }) 0 3 130
@@ -25,9 +22,3 @@ commit_vector = refl
 
 snap_vector : item_bytes (Snap 1 1) ≡ 6 ∷ 1 ∷ 0 ∷ 1 ∷ 0 ∷ 0 ∷ 0 ∷ []
 snap_vector = refl
-
--- a Change of n bytes has 20 bytes and twice n
-pub length-change : (tran : Tran) (cell : Cell) (before after : List ℕ) → length before ≡ length after →
-    length (item_bytes (Change tran cell before after)) ≡ change_length (length after)
-length-change tran (Bytes page off) before after e = simp length-append (omega (arith, e))
-length-change tran (Bit page n) before after e = simp length-append (omega (arith, e))

@@ -72,11 +72,6 @@ view_of t opened log b = applied (λ u. u == t) opened log (committed_image open
 abbrev pub undone_image : List Record → List Record → Image → Image
 undone_image opened log b = taken_back (is_unfinished (log ++ opened)) (log ++ opened) (final_image opened log b)
 
--- what stands in the cell of a change is what it left, or what it found
-abbrev pub shows_after : Option Record → Image → Bool
-shows_after (Some (Change tran cell before after)) image = bytes_eq (read_cell image cell (length after)) after
-shows_after other image = true
-
 abbrev pub shows_before : Option Record → Image → Bool
 shows_before (Some (Change tran cell before after)) image = bytes_eq (read_cell image cell (length before)) before
 shows_before other image = true

@@ -11,7 +11,6 @@ mod values;
 pub use bits::byte_with_bit;
 pub use item::{Cell, Record, tran_of_item};
 pub use limits::{
-    DAMAGED, FAULTED, LONGEST_LOG, MOST_BYTES, MOST_CHANGES, MOST_ITEMS, MOST_SIZE,
-    REPORTED, SHORT,
+    DAMAGED, FAULTED, LONGEST_LOG, MOST_BYTES, MOST_CHANGES, MOST_ITEMS, MOST_SIZE, REPORTED, SHORT,
 };
 pub use values::Values;

@@ -4,7 +4,7 @@
 use Rattle.std.specs.Prelude.{◌≡◌, ℕ, ◌==◌, ◌&&◌, Bool, true, false, not, List, [], ◌∷◌}
 use Rattle.std.specs.List.{list_any}
 use Rattle.spec_log.specs.declared.item.Record.{Record}
-use Rattle.spec_log.specs.declared.item.Record.TheVariants.{Snap, Failed, CheckEnd}
+use Rattle.spec_log.specs.declared.item.Record.TheVariants.{Snap, CheckEnd}
 
 pub data Entry : Type 0 where
   Item : Record → Entry
@@ -24,11 +24,6 @@ snaps s i other = false
 abbrev pub ends_check : ℕ → ℕ → Record → Bool
 ends_check s i (CheckEnd session index outcome) = (session == s) && (index == i)
 ends_check s i other = false
-
--- the item is a Failed of this statement that names the page
-abbrev pub fails_at : ℕ → ℕ → ℕ → Record → Bool
-fails_at s i p (Failed session index page) = (session == s) && ((index == i) && (page.0 == p))
-fails_at s i p other = false
 
 -- the check of this statement is under way
 abbrev pub is_checking : List Record → ℕ → ℕ → Bool

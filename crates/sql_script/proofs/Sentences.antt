@@ -13,10 +13,6 @@ use Rattle.sql_script.specs.Stops.{Tells}
 use Rattle.sql_script.proofs.Spelling.{bind_ok, map_ok, after_parts, cut_spelled, cut_parts}
 use Rattle.sql_script.proofs.Figures.{decimal_no_space, name_no_space, number_spelled, number_parts, within_spelled, within_parts, name_spelled, name_parts, payload_spelled, payload_parts}
 
--- the words of a row
-row_words : List ℕ → ℕ → List ℕ → List ℕ
-row_words table key payload = table ++ (codes " " ++ (decimal key ++ (codes " '" ++ (payload ++ codes "'"))))
-
 row_spelled : (table : List ℕ) (key : ℕ) (payload : List ℕ) → IsTrue (is_name table) → key < 2 ^ 64 → is_payload payload ≡ true
     → row_of (table ++ (codes " " ++ (decimal key ++ (codes " '" ++ (payload ++ codes "'"))))) ≡ Some (table, key, payload)
 unfolding row_of
@@ -61,18 +57,6 @@ row_parts words row e =
       small = number.1;
       plain = quoted.1;
     })
-
-not_insert : (rest : List ℕ) → after (codes "INSERT ") (codes "COUNT " ++ rest) ≡ None
-unfolding after
-not_insert rest = refl
-
-check_not_insert : (rest : List ℕ) → after (codes "INSERT ") (codes "DBCC CHECKDB WITH MAXDOP = " ++ rest) ≡ None
-unfolding after
-check_not_insert rest = refl
-
-check_not_count : (rest : List ℕ) → after (codes "COUNT ") (codes "DBCC CHECKDB WITH MAXDOP = " ++ rest) ≡ None
-unfolding after
-check_not_count rest = refl
 
 -- the line of a statement is read into it
 pub spelled : (s : Statement) → IsTrue (is_statement s) → statement_of (statement_line s) ≡ Some s

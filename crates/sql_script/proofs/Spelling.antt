@@ -11,9 +11,6 @@ use Rattle.std.proofs.lemmas.Slice.Eq.{bytes_eq-Decides}
 use Rattle.sql_script.specs.Reading.{◌>>=◌, after, before, is_space, cut_at_space}
 use Rattle.sql_script.proofs.FirstLines.{found_at}
 
-pub bind_some : {A B : Type 0} (o : Option A) (f : A → Option B) (x : A) → o ≡ Some x → (o >>= f) ≡ f x
-bind_some o f x e = ap (λ (u : Option _). u >>= f) e
-
 pub bind_ok : {A B : Type 0} (o : Option A) (f : A → Option B) (y : B) → (o >>= f) ≡ Some y → (x : A) × (o ≡ Some x) × (f x ≡ Some y)
 bind_ok None f y e = absurd (none-some y e)
 bind_ok (Some x) f y e = (x, refl, e)

@@ -22,23 +22,6 @@ pub append_known-then : (a b c : Option (List ℕ)) (xs ys : List ℕ) → b ≡
     → c ≡ append_known a (xs ++ ys)
 append_known-then a b c xs ys p q = q ∙ ap (λ t. append_known t ys) p ∙ append_known-append_known a xs ys
 
--- what an addition leaves where the bytes are told
-pub append_known-told : (old new : Option (List ℕ)) (bytes : List ℕ) → new ≡ append_known old bytes
-    → IfSome old (λ before. new ≡ Some (before ++ bytes))
-append_known-told None new bytes h = tt
-append_known-told (Some x) new bytes h = h
-
--- nothing taken
-pub prepend_known-nil : (told : Option (List ℕ)) → prepend_known [] told ≡ told
-prepend_known-nil None = refl
-prepend_known-nil (Some x) = refl
-
--- two calls that took
-pub prepend_known-then : (a b c : Option (List ℕ)) (xs ys : List ℕ) → a ≡ prepend_known xs b → b ≡ prepend_known ys c
-    → a ≡ prepend_known (xs ++ ys) c
-prepend_known-then a b None xs ys p q = p ∙ ap (prepend_known xs) q
-prepend_known-then a b (Some x) xs ys p q = p ∙ ap (prepend_known xs) q ∙ ap (λ l. Some l) (sym (append_assoc xs ys x))
-
 -- what was taken when nothing is left is the whole
 pub prepend_known-whole : (old new : Option (List ℕ)) (bytes : List ℕ) → old ≡ prepend_known bytes new → IsAtEnd new
     → IfSome old (λ whole. bytes ≡ whole)

@@ -86,11 +86,6 @@ more_written image old now new n whole below so_far left =
     said None same = tt
     said (Some bytes) same = next_front image (pages_of bytes) n same below
 
--- no page yet
-pub none_written : (image : Image) (old : Option (List ℕ)) → Leaves (λ before. take 0 image ++ drop 0 before) old old
-none_written image None = record { pages = refl; size = refl }
-none_written image (Some bytes) = record { pages = refl; size = refl }
-
 -- all pages
 pub all_written : (image : Image) (old now : Option (List ℕ)) (n : ℕ) → ForSome old (λ bytes. length bytes ≡ 8192 * length image) → n ≡ length image
     → Leaves (λ before. take n image ++ drop n before) old now → Leaves (λ before. image) old now
@@ -120,17 +115,6 @@ stops marks image old now new n whole below marked so_far spoiled = record {
         → IfSome old (λ bytes. set (take n image ++ drop n (pages_of bytes)) n spoiled.held ≡ take n image ++ spoiled.held ∷ drop (n + 1) (pages_of bytes))
     said None same = tt
     said (Some bytes) same = put_behind image (pages_of bytes) n spoiled.held same below
-
--- the file has the next page
-pub has_next : (image : Image) (old now : Option (List ℕ)) (n : ℕ) → ForSome old (λ bytes. length bytes ≡ 8192 * length image) → n < length image
-    → Leaves (λ before. take n image ++ drop n before) old now → ForSome now (HasPage n)
-has_next image None None n whole below so_far bytes is = cc
-has_next image None (Some now) n whole below so_far bytes is = let no_ = so_far.size in cc
-has_next image (Some old) None n whole below so_far bytes is = cc
-has_next image (Some old) (Some now) n whole below so_far bytes is =
-    let same : length now ≡ length old = same_Some (length now) (length old) so_far.size in
-    let size : length old ≡ 8192 * length image = whole old refl in
-    subst (HasPage n) (same_Some now bytes is) (omega (arith, same, size, below))
 
 -- where the next page isn't marked it stands in the file
 pub next_stands : (marks : List Bool) (image : Image) (old now : Option (List ℕ)) (n : ℕ) → ForSome old (λ bytes. length bytes ≡ 8192 * length image)

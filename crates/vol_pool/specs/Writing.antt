@@ -46,11 +46,6 @@ Leaves-then f g (Some a) (Some b) (Some c) p q = record {
   size = q.size ∙ p.size;
 }
 
--- where nothing is written all stays
-pub Leaves-same : (a : Option (List ℕ)) → Leaves (λ before. before) a a
-Leaves-same None = record { pages = refl; size = refl }
-Leaves-same (Some a) = record { pages = refl; size = refl }
-
 -- a told file of whole pages whose pages are all written has the bytes of the image
 pub written_bytes : (image : Image) (old new : List ℕ) → length old ≡ page_size * length image → Leaves (λ before. image) (Some old) (Some new)
     → new ≡ bytes_of image

@@ -8,7 +8,7 @@ use Rattle.spec_file.specs.Places.{interval_size, is_inside}
 use Rattle.spec_file.specs.CatalogRows.{CatalogRow}
 use Rattle.spec_file.specs.Iam.{iam_interval, iam_mark, iam_slot}
 use Rattle.spec_chain.specs.Chains.{pointer, holder, GoesOn, HasPages, HasLength, IsChainPage}
-use Rattle.spec_chain.specs.ChainLaws.{chain_has_one_length, page_below, below_page}
+use Rattle.spec_chain.proofs.ChainLaws.{chain_has_one_length, page_below, below_page}
 use Rattle.spec_check.specs.declared.report.CheckError.{CheckError}
 use Rattle.spec_check.specs.Chains.{before, interval_at, error, end_error, IsFirstOf, IsErrorOfChain, RepeatsInterval}
 use Rattle.ck_error.specs.Gathered.{Adds, Below}

@@ -14,7 +14,7 @@ use Rattle.ck_chain.specs.declared.walk.Owner.{Owner}
 use Rattle.std.proofs.lemmas.Bool.{and_parts}
 use Rattle.spec_file.specs.Header.{says}
 use Rattle.spec_file.specs.Iam.{iam_interval, has_interval, is_iam_page}
-use Rattle.spec_chain.specs.Pointers.{goes_inside}
+use Rattle.spec_chain.proofs.Pointers.{goes_inside}
 use Rattle.ck_chain.proofs.Inside.{goes_iam}
 use Rattle.ck_chain.specs.Walks.{IsWalk, looked_at, met_end}
 

@@ -16,8 +16,8 @@ use Rattle.ck_chain.specs.Walks.{IsWalk, IsFound, IsChainRead, TakesPage, GoesOn
 use Rattle.ck_chain.proofs.Looking.{IsOwner, none_of, look_goes, look_ends, goes_to_interval, goes_to_number}
 use Rattle.ck_chain.proofs.Stepping.{step_walk}
 use Rattle.ck_chain.proofs.Finding.{step_found, found_none, finish}
-use Rattle.spec_chain.specs.ChainLaws.{chain_is_short}
-use Rattle.spec_chain.specs.Pointers.{goes_nonzero}
+use Rattle.spec_chain.proofs.ChainLaws.{chain_is_short}
+use Rattle.spec_chain.proofs.Pointers.{goes_nonzero}
 use Rattle.ck_chain.proofs.Inside.{interval_below}
 
 -- the walk stands before the k-th page of the object's chain, with what the pages before it give

@@ -13,14 +13,14 @@ use Rattle.spec_file.specs.Places.{interval_size, interval_of_page}
 use Rattle.spec_file.specs.CatalogRows.{CatalogRow}
 use Rattle.spec_file.specs.Iam.{single_slot_count, iam_interval, iam_slot, iam_slots, iam_mark}
 use Rattle.spec_chain.specs.Chains.{pointer}
-use Rattle.spec_chain.specs.ChainLaws.{page_below, below_page}
+use Rattle.spec_chain.proofs.ChainLaws.{page_below, below_page}
 use Rattle.spec_chain.specs.Marks.{IsMarked}
 use Rattle.spec_chain.specs.Uses.{HoldsPage, is_allocated, IsAllocatedTo}
 use Rattle.spec_check.proofs.Members.{filter_from, filter_in, range_from, range_in, range_sorted}
 use Rattle.spec_plan.specs.Sight.{Sight}
 use Rattle.spec_plan.specs.Reading.{first_page, is_single, is_marked, object_pages}
 use Rattle.law_chains.specs.Laws.{chain_pages, IsWhole, PagesAreAllocated, PagesRise}
-use Rattle.spec_chain.specs.Pointers.{whole_last, last_parts, inside_below, inside_nonzero}
+use Rattle.spec_chain.proofs.Pointers.{whole_last, last_parts, inside_below, inside_nonzero}
 use Rattle.law_chains.proofs.Ranges.{found_from, found_in}
 
 -- a whole chain has a page

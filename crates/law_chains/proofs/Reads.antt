@@ -17,9 +17,9 @@ use Rattle.spec_plan.specs.Sight.{Sight, Outcome, Refuses}
 use Rattle.spec_plan.specs.Reading.{are_slots_inside, is_chain_page, chain_from}
 use Rattle.law_chains.specs.Laws.{chain_pages, IsReadable, Reads, ChainIsRead}
 use Rattle.law_chains.specs.Laws.Reads.{Goes, Stops}
-use Rattle.spec_chain.specs.Pointers.{goes_good, good_fault, whole_last, last_whole, last_parts}
+use Rattle.spec_chain.proofs.Pointers.{goes_good, good_fault, whole_last, last_whole, last_parts}
 use Rattle.law_chains.proofs.Ranges.{found_from, found_in}
-use Rattle.spec_chain.specs.ChainLaws.{chain_is_short}
+use Rattle.spec_chain.proofs.ChainLaws.{chain_is_short}
 
 count : (image : Image) (row : CatalogRow) (k : ℕ) → length (chain_pages image row k) ≡ k
 count image row k = length-map-range_with_len (pointer image row) 0 k

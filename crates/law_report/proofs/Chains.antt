@@ -5,8 +5,8 @@ use Rattle.spec_file.specs.declared.geometry.Geometry.{Geometry}
 use Rattle.spec_file.specs.Image.{Image, page}
 use Rattle.spec_file.specs.CatalogRows.{CatalogRow, rows_of}
 use Rattle.spec_chain.specs.Chains.{IsObject, pointer, first_fault, IsMet, GoesOn, HasPages, IsChainPage, IsInChain, HasLength}
-use Rattle.spec_chain.specs.ChainLaws.{chain_is_short, chain_has_one_length, page_below, below_page}
-use Rattle.spec_chain.specs.Pointers.{goes_good, inside_below}
+use Rattle.spec_chain.proofs.ChainLaws.{chain_is_short, chain_has_one_length, page_below, below_page}
+use Rattle.spec_chain.proofs.Pointers.{goes_good, inside_below}
 use Rattle.law_report.proofs.Decisions.{dec_like, dec_not, dec_and, dec_none, dec_eq, dec_lt}
 use Rattle.law_report.proofs.Listings.{Listing, like, numbers, listed, only, dec_exists}
 

@@ -10,7 +10,7 @@ use Rattle.spec_file.specs.CatalogRows.{CatalogRow}
 use Rattle.spec_file.specs.Iam.{iam_interval, iam_mark, iam_slot, single_slot_count}
 use Rattle.spec_chain.specs.Chains.{pointer}
 use Rattle.spec_chain.specs.Marks.{IsMarked, IsMarker, AreMarkers, HasMarker}
-use Rattle.spec_chain.specs.Pointers.{inside_below}
+use Rattle.spec_chain.proofs.Pointers.{inside_below}
 use Rattle.spec_chain.specs.Uses.{IsSlot, HoldsPage, Use, use_cmp, IsUseBy, IsUse, AreUses, HasUse, is_allocated, IsAllocatedTo}
 use Rattle.law_report.proofs.Decisions.{dec_like, dec_and, dec_and3, dec_or, dec_true, dec_eq, dec_lt}
 use Rattle.law_report.proofs.Listings.{Listing, like, only, one, either, when, among, such, numbers, dec_some, dec_exists}

@@ -2,5 +2,3 @@ pub mod Chains
 pub mod ChainLaws
 pub mod Marks
 pub mod Uses
-pub mod Pigeons
-pub mod Pointers

@@ -1,5 +1,5 @@
 -- A mark changes no image.
-use Rattle.std.specs.Prelude.{◌≡◌, ℕ, List, ◌∷◌, refl}
+use Rattle.std.specs.Prelude.{◌≡◌, ℕ, List, ◌∷◌}
 use Rattle.spec_file.specs.Image.{Image}
 use Rattle.spec_log.specs.declared.item.Record.{Record}
 use Rattle.spec_log.specs.Images.{final_image, committed_image, view_of}
@@ -13,6 +13,3 @@ pub record SameImages (opened : List Record) (longer entries : List Entry) (b : 
 
 abbrev pub MarksChangeNothing : Type 0
 MarksChangeNothing = (opened : List Record) (entries : List Entry) (b : Image) (s i : ℕ) → SameImages opened (Undone s i ∷ entries) entries b
-
-pub marks_change_nothing : MarksChangeNothing
-marks_change_nothing opened entries b s i = record { final = refl; committed = refl; views = λ t. refl }

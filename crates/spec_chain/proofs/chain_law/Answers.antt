@@ -1,4 +1,4 @@
-use Rattle.spec_chain.specs.ChainLaws.{chain_has_one_length, chain_is_short}
+use Rattle.spec_chain.proofs.ChainLaws.{chain_has_one_length, chain_is_short}
 use Rattle.spec_chain.proofs.chain_law.Goals as goal
 
 -- src/lib.rt:8:1

@@ -1,5 +1,5 @@
 use Rattle.std.proofs.Common.{arith, sym, ◌∙◌}
-use Rattle.spec_chain.specs.Pointers.{goes_inside}
+use Rattle.spec_chain.proofs.Pointers.{goes_inside}
 use Rattle.ck_chain.proofs.chain.look.Goals as goal
 
 pub met-requires : goal.met-requires

@@ -1,5 +1,6 @@
 -- What is known of the pages that a statement has read.
 use Rattle.std.specs.Prelude.{◌≡◌, ℕ, ◌<◌, ◌/◌, ◌%◌, ◌==◌, ◌&&◌, ◌||◌, not, Bool, true, IsTrue, List, length, map, None}
+use Rattle.spec_file.specs.declared.page_type.TheConstants.{PFS_TYPE}
 use Rattle.spec_file.specs.declared.data.PageNo.{PageNo}
 use Rattle.spec_file.specs.declared.data.Resource.TheVariants as resource
 use Rattle.spec_file.specs.declared.geometry.Geometry.{Geometry}
@@ -47,7 +48,7 @@ link_read sight row met from p next =
 abbrev pub byte_read : Sight → ℕ → Outcome → Outcome
 byte_read sight p next =
     unless_held sight (resource.Byte (record { 0 = p }))
-    (where_good (says 11 (pfs_page sight.geometry p) (page sight.view (pfs_page sight.geometry p))) (pfs_page sight.geometry p) next)
+    (where_good (says PFS_TYPE (pfs_page sight.geometry p) (page sight.view (pfs_page sight.geometry p))) (pfs_page sight.geometry p) next)
 
 -- page q of a chain marks the extent of page p
 abbrev pub marks : Geometry → Image → ℕ → ℕ → Bool

@@ -10,7 +10,7 @@ ghost use Rattle.db_heap.specs.Heaps.{numbers, byte_read, IsByteFree};
 
 use crate::reading::{unless_held, where_good};
 use crate::{PlanView, Stop};
-use pg_base::{PageNo, Resource, is_page_of};
+use pg_base::{PFS_TYPE, PageNo, Resource, is_page_of};
 use pg_geom::pfs_of;
 use std::alloc::Global;
 
@@ -26,10 +26,10 @@ pub(crate) fn pfs_byte<V: PlanView>(view: &V, p: PageNo) -> u8
 // The PFS page of page p is one.
 fn has_pfs_page<V: PlanView>(view: &V, p: PageNo) -> bool
     requires { p.0 < length (V.file view.now) }
-    ensures { result ≡ header.says 11 (pfs_page (V.sight view.now).geometry p.0) (page (V.sight view.now).view (pfs_page (V.sight view.now).geometry p.0)) }
+    ensures { result ≡ header.says PFS_TYPE (pfs_page (V.sight view.now).geometry p.0) (page (V.sight view.now).view (pfs_page (V.sight view.now).geometry p.0)) }
 {
     let (page, _) = pfs_of(view.geometry(), p);
-    is_page_of(view.page(page), 11, page)
+    is_page_of(view.page(page), PFS_TYPE, page)
 }
 
 // Reads the PFS byte of page p.

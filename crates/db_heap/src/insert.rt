@@ -20,6 +20,7 @@ use db_cat::CatRow;
 use heap_page::{has_room, heap_row};
 use pg_base::{NoMemory, PageNo};
 use pg_geom::is_ordinary;
+use spec_file::{PAYLOAD_LIMIT, ROW_LIMIT};
 use spec_script::Name;
 use std::alloc::Global;
 
@@ -40,7 +41,7 @@ fn test_room<V: PlanView>(
     p: PageNo,
 ) -> Result<bool, Stop>
     requires free { IsByteFree (V.sight view.now) (V.file view.now) p.0 }
-    requires small { length bytes.now ≤ 1024 }
+    requires small { length bytes.now ≤ ROW_LIMIT }
     ensures reads { Reads (room_read (V.sight view.now) (row_of row.now) p.0 (length bytes.now)) (λ yes. yes) result }
     ensures takes { IfOk result (λ yes. IsTrue yes → TakesRow (V.sight view.now) (V.file view.now) (row_of row.now) p.0 (length bytes.now)) }
 {
@@ -60,7 +61,7 @@ fn find_room<V: PlanView>(
     pages: &[PageNo],
 ) -> Result<PageNo, Stop>
     requires free { All (IsByteFree (V.sight view.now) (V.file view.now)) (numbers pages.now) }
-    requires small { length bytes.now ≤ 1024 }
+    requires small { length bytes.now ≤ ROW_LIMIT }
     ensures reads { Answers (spec.inserted (V.sight view.now) (row_of row.now) bytes.now (numbers pages.now))
         (λ p. spec.row_put (V.sight view.now) (row_of row.now) p.0 bytes.now) result }
     ensures takes { IfOk result (λ p. TakesRow (V.sight view.now) (V.file view.now) (row_of row.now) p.0 (length bytes.now)) }
@@ -92,10 +93,10 @@ pub fn plan_insert<V: PlanView>(
     key: u64,
     payload: &[u8],
 ) -> Result<Plan, NoMemory>
-    requires { length payload.now ≤ 1013 }
+    requires { length payload.now ≤ PAYLOAD_LIMIT }
     ensures { IfOk result (λ plan. outcome_of plan ≡ spec.insert_outcome (V.sight view.now) table.now key payload.now) }
 {
-    let mut buffer = [0; 1024];
+    let mut buffer = [0; ROW_LIMIT];
     let size = heap_row(key, payload, &mut buffer);
     match insert(alloc, view, table, &buffer[..size as usize]) {
         Ok(plan) => Ok(plan),

@@ -11,7 +11,7 @@ use crate::stop::{bad_page, no_table};
 use crate::{PlanView, Stop};
 use db_cat::{CatRow, CatStop, read_catalog};
 use law_rows::row_laws;
-use pg_base::{Page, PageNo, Resource, is_page_of};
+use pg_base::{BOOT_TYPE, Page, PageNo, Resource, is_page_of};
 use spec_script::Name;
 use std::alloc::Global;
 
@@ -20,7 +20,7 @@ fn read_rows(alloc: Global, boot: &Page) -> Result<Vec<CatRow>, Stop>
     ensures { Reads (catalog_read boot.now.bytes) (λ rows. map row_of rows.items) result }
 {
     row_laws();
-    if !is_page_of(boot, 13, PageNo(9)) {
+    if !is_page_of(boot, BOOT_TYPE, PageNo(9)) {
         return Err(Stop::Refused(bad_page(alloc, PageNo(9))));
     }
     match read_catalog(alloc, boot) {

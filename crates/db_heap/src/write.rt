@@ -21,6 +21,7 @@ use heap_page::{byte_change, put_row, with_page_changes};
 use pg_base::{NoMemory, ObjId, Page, PageNo, Resource, read_header};
 use pg_geom::pfs_of;
 use pg_pfs::fullness_of;
+use spec_file::ROOM;
 use spec_log::Values;
 use spec_plan::Planned;
 use std::alloc::Global;
@@ -49,7 +50,7 @@ fn page_with<V: PlanView>(
 
 // A PFS byte with the fullness of a page with so many free bytes.
 fn byte_with(before: u8, free: u16) -> u8
-    requires { free ≤ 8096 }
+    requires { free ≤ ROOM }
     ensures { result ≡ spec.with_fullness before (spec_fullness_of free) }
 {
     before - before % 8 + fullness_of(free)

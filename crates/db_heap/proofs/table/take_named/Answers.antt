@@ -1,4 +1,4 @@
-use Rattle.std.proofs.Common.{arith, true, false, sym, ap, ◌∙◌, Some, ◌<◌, length}
+use Rattle.std.proofs.Common.{arith, sym, ap, ◌∙◌, Some, ◌<◌, length}
 use Rattle.db_cat.specs.Rows.{row_of}
 use Rattle.db_cat.specs.declared.rows.CatRow.{CatRow}
 use Rattle.db_heap.proofs.Lists.{named_at, named_behind, named_end, same_at}

@@ -30,22 +30,30 @@ fn a_page_shows_its_rows(rt: HostRuntime) -> Result<(), Fail> {
     Ok(())
 }
 
-#[test]
-fn the_first_fault_of_a_header_is_told(rt: HostRuntime) -> Result<(), Fail> {
-    let cases = [
+static HEADER_CASES: [(Header, Option<SlotFault>); 11] = [
         (
             Header {
                 page_id: PageNo(11),
                 ..HEADER
             },
-            fault(8909, 0, 0, 11),
+            Some(SlotFault {
+                number: 8909,
+                other: 0,
+                slot: 0,
+                value: 11,
+            }),
         ),
         (
             Header {
                 page_type: 2,
                 ..HEADER
             },
-            fault(8938, 0, 0, 2),
+            Some(SlotFault {
+                number: 8938,
+                other: 0,
+                slot: 0,
+                value: 2,
+            }),
         ),
         (
             Header {
@@ -53,59 +61,102 @@ fn the_first_fault_of_a_header_is_told(rt: HostRuntime) -> Result<(), Fail> {
                 level: 1,
                 ..HEADER
             },
-            fault(2534, 2, 0, 0),
+            Some(SlotFault {
+                number: 2534,
+                other: 2,
+                slot: 0,
+                value: 0,
+            }),
         ),
-        (Header { level: 1, ..HEADER }, fault(8939, 0, 0, 2)),
+        (Header { level: 1, ..HEADER }, Some(SlotFault {
+                number: 8939,
+                other: 0,
+                slot: 0,
+                value: 2,
+            })),
         (
             Header {
                 next: PageNo(9),
                 ..HEADER
             },
-            fault(8939, 0, 0, 4),
+            Some(SlotFault {
+                number: 8939,
+                other: 0,
+                slot: 0,
+                value: 4,
+            }),
         ),
         (
             Header {
                 free_from: 8191,
                 ..HEADER
             },
-            fault(8939, 0, 0, 5),
+            Some(SlotFault {
+                number: 8939,
+                other: 0,
+                slot: 0,
+                value: 5,
+            }),
         ),
         (
             Header {
                 ghosts: 1,
                 ..HEADER
             },
-            fault(8939, 0, 0, 6),
+            Some(SlotFault {
+                number: 8939,
+                other: 0,
+                slot: 0,
+                value: 6,
+            }),
         ),
         (
             Header {
                 free_from: 98,
                 ..HEADER
             },
-            fault(8941, 0, 0, 96),
+            Some(SlotFault {
+                number: 8941,
+                other: 0,
+                slot: 0,
+                value: 96,
+            }),
         ),
         (
             Header {
                 free_from: 107,
                 ..HEADER
             },
-            fault(8943, 0, 0, 108),
+            Some(SlotFault {
+                number: 8943,
+                other: 0,
+                slot: 0,
+                value: 108,
+            }),
         ),
         (
             Header {
                 free_count: 8081,
                 ..HEADER
             },
-            fault(8939, 0, 0, 7),
+            Some(SlotFault {
+                number: 8939,
+                other: 0,
+                slot: 0,
+                value: 7,
+            }),
         ),
         (HEADER, None),
     ];
-    for (header, expected) in cases {
+
+#[test]
+fn the_first_fault_of_a_header_is_told(rt: HostRuntime) -> Result<(), Fail> {
+    for (header, expected) in HEADER_CASES.iter() {
         let mut page = Page::zeroed(rt.alloc())?;
-        put_page(&mut page, &header, 96);
+        put_page(&mut page, header, 96);
         assert_eq!(rt;
             test_page(&page, PageNo(10), ObjId(1), Kind::Heap).err(),
-            expected,
+            *expected,
             "{header:?}"
         );
     }

@@ -48,6 +48,44 @@ has_no_page (Some file) pages p whole passes past = record {
   none = λ bytes has. absurd (omega (arith, has.0, whole (pages_of file) refl, past));
 }
 
+no_device : (b : Bool) (d : Device) → IsDevice d (ended b) → ⊥
+no_device true d is = is
+no_device false d is = is
+
+no_word : (b : Bool) (at : ℕ) → IsWordsAt at (ended b) → ⊥
+no_word true at is = is
+no_word false at is = is
+
+-- a command names no device but the file's and the output's
+not_named : (c : Printing) (told before after : Option (List ℕ)) (s : Status) (d : Device) → Answers c told before after s
+    → d ≢ device.Volume → d ≢ device.Sink → IsDevice d s → ⊥
+not_named c told before after s d (Printed x has (AllPrinted said wrote)) volume sink is = no_device (c.tells_error x) d (subst (IsDevice d) said is)
+not_named c told before after s d (Printed x has (FrontPrinted said wrote)) volume sink is = sink (sym (subst (IsDevice d) said is))
+not_named c told before after s d (Lacking at word none said kept) volume sink is = subst (IsDevice d) said is
+not_named c told before after s d (Stopped (Refused why said for) kept) volume sink is = subst (IsDevice d) said is
+not_named c told before after s d (Stopped (Unread said) kept) volume sink is = volume (sym (subst (IsDevice d) said is))
+not_named c told before after s d (Stopped (OutOfMemory said right) kept) volume sink is = subst (IsDevice d) said is
+
+-- a word that a command names is the one that is wrong where an image lacks what it prints
+word_named : (c : Printing) (told before after : Option (List ℕ)) (s : Status) (at : ℕ) → Answers c told before after s
+    → IsWordsAt at s → c.word ≡ Some at
+word_named c told before after s at (Printed x has (AllPrinted said wrote)) is = absurd (no_word (c.tells_error x) at (subst (IsWordsAt at) said is))
+word_named c told before after s at (Printed x has (FrontPrinted said wrote)) is = absurd (subst (IsWordsAt at) said is)
+word_named c told before after s at (Lacking place word none said kept) is = word ∙ ap (λ n. Some n) (subst (IsWordsAt at) said is)
+word_named c told before after s at (Stopped (Refused why said for) kept) is = absurd (subst (IsWordsAt at) said is)
+word_named c told before after s at (Stopped (Unread said) kept) is = absurd (subst (IsWordsAt at) said is)
+word_named c told before after s at (Stopped (OutOfMemory said right) kept) is = absurd (subst (IsWordsAt at) said is)
+
+pub never_log : (c : Printing) (told before after : Option (List ℕ)) (s : Status) → Answers c told before after s → IsDevice device.Log s → ⊥
+never_log c told before after s answers is = not_named c told before after s device.Log answers (λ same. cc) (λ same. cc) is
+
+pub never_source : (c : Printing) (told before after : Option (List ℕ)) (s : Status) → Answers c told before after s → IsDevice device.Source s → ⊥
+never_source c told before after s answers is = not_named c told before after s device.Source answers (λ same. cc) (λ same. cc) is
+
+-- a check names no word
+pub check_names_no_word : (told before after : Option (List ℕ)) (s : Status) (at : ℕ) → Answers check_printing told before after s → IsWordsAt at s → ⊥
+check_names_no_word told before after s at answers is = let none : None ≡ Some at = word_named check_printing told before after s at answers is in cc
+
 -- words ask for one page
 pub same_page : (words : List (List ℕ)) (p q : PageNo) → Asks (ShowPage p) words → Asks (ShowPage q) words → p ≡ q
 same_page words p q one other = let same : Some (ShowPage p) ≡ Some (ShowPage q) = sym one.0 ∙ other.0 in cc

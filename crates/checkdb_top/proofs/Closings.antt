@@ -1,5 +1,5 @@
 -- What the close of a run wrote, said of its history.
-use Rattle.std.proofs.Common.{◌≡◌, ℕ, ◌*◌, ◌≤◌, Bool, true, false, List, [], length, reverse, Option, Some, None, IfSome, option_map, refl, sym, ap, ◌∙◌, subst, arith, if◌then◌else◌}
+use Rattle.std.proofs.Common.{◌≡◌, ℕ, ◌*◌, ◌≤◌, List, [], length, reverse, Option, Some, None, IfSome, option_map, refl, sym, ap, ◌∙◌, subst, arith, if◌then◌else◌}
 use Rattle.std.specs.Option.{ForSome}
 use Rattle.std.specs.List.{list_any}
 use Rattle.std.proofs.lemmas.List.{reverse-reverse}
@@ -18,10 +18,9 @@ use Rattle.run_file.specs.Opening.{AreAllPages}
 use Rattle.run_close.specs.declared.close.Close.{Close}
 use Rattle.run_close.specs.Close.{IsCloseOf, MayClose}
 use Rattle.run_close.proofs.Closing.{length_final, may_close}
-use Rattle.checkdb_top.specs.declared.status.Device.{Device}
 use Rattle.checkdb_top.specs.declared.status.Status.{Status}
 use Rattle.checkdb_top.specs.declared.status.Status.TheVariants as status
-use Rattle.checkdb_top.specs.Answers.{IsDevice, ended}
+use Rattle.checkdb_top.specs.Answers.{ended}
 use Rattle.db_core.specs.Reports.{is_terminated}
 use Rattle.db_core.proofs.Reports.{any_reverse}
 use Rattle.checkdb_top.specs.Runs.{ends_short, has_errors, ended_as, replies_to, AreAllAnswered, last_of, MarkChanged, Closes}

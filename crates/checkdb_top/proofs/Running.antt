@@ -1,5 +1,5 @@
 -- Lists of scripts and replies, one after another.
-use Rattle.std.proofs.Common.{◌≡◌, ℕ, zero, suc, ◌+◌, ◌-◌, ◌<◌, ◌≤◌, ◌⊎◌, subst, Bool, true, false, ◌||◌, List, [], ◌∷◌, ◌++◌, length, take, drop, map, get_or, Option, Some, All, refl, sym, ap, ◌∙◌, inl, inr, ⊎_elim, append_assoc, append-nil, arith}
+use Rattle.std.proofs.Common.{◌≡◌, ℕ, zero, suc, ◌+◌, ◌-◌, ◌<◌, ◌≤◌, ◌⊎◌, subst, Bool, true, false, ◌||◌, List, [], ◌∷◌, ◌++◌, length, take, drop, map, get_or, Some, All, refl, sym, ap, ◌∙◌, inl, inr, ⊎_elim, append_assoc, append-nil, arith}
 use Rattle.std.specs.Prelude.{slice_get}
 use Rattle.std.specs.List.{list_any, list_all}
 use Rattle.std.proofs.lemmas.Bool.{and_parts}
@@ -81,3 +81,11 @@ pub told_more : (P : ℕ → List Reply → Type 0) (xs : List (List Reply)) (x 
     → (k : ℕ) (r : List Reply) → slice_get (xs ++ x ∷ []) k ≡ Some r → P k r
 told_more P xs x n many before last k r is =
     ⊎_elim (λ at. before k r at) (λ here. subst (λ m. P m r) (sym (here.0 ∙ many)) (subst (P n) here.1 last)) (in_longer xs x r k is)
+
+-- the same by the sessions' numbers, from 1
+pub told_each : (P : ℕ → List Reply → Type 0) (xs : List (List Reply)) (n : ℕ) → length xs ≡ n
+    → ((k : ℕ) (r : List Reply) → slice_get xs k ≡ Some r → P (k + 1) r) → (s : ℕ) → 0 < s → s ≤ n → P s (replies_to xs s)
+told_each P xs n many each s above within =
+    let same : s - 1 + 1 ≡ s = omega (arith, above) in
+    let below : s - 1 < length xs = omega (arith, above, within, many) in
+    subst (λ m. P m (replies_to xs s)) same (each (s - 1) (replies_to xs s) (slice_get-get_or xs (s - 1) [] below))

@@ -1,4 +1,4 @@
-use Rattle.std.proofs.Common.{length, subst, sym, ap, ◌∙◌, ◌≤◌}
+use Rattle.std.proofs.Common.{◌≡◌, map, length, subst, sym, ap, ◌∙◌, ◌≤◌}
 use Rattle.std.specs.List.{list_all}
 use Rattle.std.proofs.lemmas.List.{length-map}
 use Rattle.spec_script.specs.Lines.{is_statement}
@@ -16,3 +16,18 @@ replay-requires c = λ k p at.
     let turn = at_place (IsTurnOf (length c.args.start.texts.scripts.items)) _ k p c.requires.inside (rw (← c.deref.ensures.value) at) in
     let many = ap (λ (r : Setting). length r.scripts) c.in_ok-core.ensures.0 ∙ length-map c.args.start.texts.scripts.items (λ script. script.items) in
     (turn.0, subst (λ m. p.0 ≤ m) (sym many) turn.1)
+
+pub returns : goal.returns
+returns c =
+    let begun = c.in_ok-core.ensures in
+    let made = c.replay.ensures.run in
+    let same = c.replay.ensures.same in
+    let size : length made.0 ≡ length (map (λ script. script.items) c.args.start.texts.scripts.items) =
+    made.1 ∙ ap (λ (r : Setting). length r.scripts) begun.0 in
+    record {
+      run = same ∙ begun.0;
+      counts = made.0;
+      rest = size;
+      taken = rw same (rw (begun.1, c.deref.ensures.value) at made.2);
+      whole = c.replay.ensures.whole;
+    }

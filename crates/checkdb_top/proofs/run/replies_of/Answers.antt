@@ -5,7 +5,7 @@ use Rattle.std.proofs.lemmas.List.Elements.{All-push}
 use Rattle.spec_run.specs.Entries.{items_of}
 use Rattle.spec_run.specs.Turns.{AreTold, told_to}
 use Rattle.checkdb_top.specs.Readiness.{AreFew}
-use Rattle.checkdb_top.proofs.Running.{told_more}
+use Rattle.checkdb_top.proofs.Running.{told_more, told_each}
 use Rattle.checkdb_top.proofs.run.replies_of.Goals as goal
 
 pub loop-k-preserved : goal.loop-k-preserved
@@ -24,3 +24,12 @@ loop-k-preserved c =
       (λ k session at. told k session (subst (λ l. slice_get l k ≡ Some session) grown at)),
       subst AreFew (sym grown) few,
     )
+
+pub returns-clause-told : goal.returns-clause-told
+returns-clause-told c =
+    let run = c.args.core.now.run in
+    let log = items_of c.args.core.now.entries in
+    let all = map (λ r. r.now) c.loop-k.all.items in
+    let many : length all ≡ length run.scripts =
+    omega (arith, length-map c.loop-k.all.items (λ r. r.now), c.loop-k.invariant.0, c.loop-k-test.false, c.loop-k.auto.k-end, c.sessions-k-end.ensures) in
+    λ s mine. told_each (λ k session. AreTold run.geometry (told_to run k log) session) all (length run.scripts) many c.loop-k.invariant.1 s mine.0 mine.1

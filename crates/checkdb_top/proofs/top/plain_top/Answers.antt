@@ -4,7 +4,8 @@ use Rattle.run_file.proofs.SourcesLaws.{failed_rose}
 use Rattle.spec_file.specs.declared.data.PageNo.{PageNo}
 use Rattle.checkdb_top.specs.Answers.{Answers}
 use Rattle.checkdb_top.specs.Printings.{page_printing}
-use Rattle.checkdb_top.proofs.Answering.{same_page}
+use Rattle.pg_base.proofs.FaultLaws.{counts_none}
+use Rattle.checkdb_top.proofs.Answering.{same_page, never_log, never_source, check_names_no_word}
 use Rattle.checkdb_top.proofs.Completeness.{completes}
 use Rattle.checkdb_top.proofs.RunCompleteness.{completes_run, never_without}
 use Rattle.checkdb_top.proofs.top.plain_top.Goals as goal
@@ -50,3 +51,18 @@ returns-in-Ok-Replay-clause-count g c =
     let now = c.run-status.new.sources in
     ap length (take_at now (drop (length now) c.args.sources.now.items) c.args.sources.now.len (c.run-status.auto.sources ∙ c.as_mut_slice.ensures.len))
     ∙ c.run-status.auto.sources ∙ ap length c.as_mut_slice.ensures.value
+
+pub returns-in-Ok-Check-clause-words_only : goal.returns-in-Ok-Check-clause-words_only
+returns-in-Ok-Check-clause-words_only g c = λ at is. absurd (check_names_no_word _ _ _ _ at c.check-status.ensures.answers is)
+
+pub returns-in-Ok-Check-clause-log_faults : goal.returns-in-Ok-Check-clause-log_faults
+returns-in-Ok-Check-clause-log_faults g c = counts_none _ _ (never_log _ _ _ _ _ c.check-status.ensures.answers)
+
+pub returns-in-Ok-Check-clause-source_fault : goal.returns-in-Ok-Check-clause-source_fault
+returns-in-Ok-Check-clause-source_fault g c = λ is. absurd (never_source _ _ _ _ _ c.check-status.ensures.answers is)
+
+pub returns-in-Ok-ShowPage-clause-log_faults : goal.returns-in-Ok-ShowPage-clause-log_faults
+returns-in-Ok-ShowPage-clause-log_faults g c = counts_none _ _ (never_log _ _ _ _ _ c.show-status.ensures.answers)
+
+pub returns-in-Ok-ShowPage-clause-source_fault : goal.returns-in-Ok-ShowPage-clause-source_fault
+returns-in-Ok-ShowPage-clause-source_fault g c = λ is. absurd (never_source _ _ _ _ _ c.show-status.ensures.answers is)

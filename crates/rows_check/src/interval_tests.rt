@@ -2,7 +2,7 @@
 use checkdb_top::Status;
 use rows_files::files::{PAGE, put};
 use rows_files::objects::{Iam, heap, iam_page, marks, only, pfs, two_intervals, two_spans};
-use rows_files::still::reports;
+use rows_files::still::expect_report;
 use std::alloc::Global;
 use std::test::Fail;
 
@@ -37,28 +37,46 @@ fn in_two_intervals(alloc: Global, bits: u8) -> Result<Vec<u8>, Fail> {
 }
 
 #[test]
-fn maps_of_two_intervals(rt: HostRuntime) -> Result<(), Fail> {
+fn a_new_file_of_two_intervals_is_clean(rt: HostRuntime) -> Result<(), Fail> {
     let alloc = rt.alloc();
-    assert!(rt; reports(alloc, two_intervals(alloc)?, Status::Clean, &[CLEAN])?);
-    let mut file = two_intervals(alloc)?;
-    put(&mut file, 513 * PAGE + 96, &[0b0100_0000]);
-    let both = "Msg 8903: object 0, page 560, other 0, slot 0, value 0\n";
-    assert!(rt; reports(alloc, file, Status::Errors, &[both, ONE])?);
-    let owned = in_two_intervals(alloc, 0b0100_0000)?;
-    assert!(rt; reports(alloc, owned, Status::Clean, &[EMPTY_ONE, CLEAN])?);
-    let lost = "Msg 8905: object 0, page 560, other 0, slot 0, value 0\n";
-    let unmarked = in_two_intervals(alloc, 0)?;
-    assert!(rt; reports(alloc, unmarked, Status::Errors, &[lost, EMPTY_ONE, ONE])?);
-    Ok(())
+    expect_report(alloc, two_intervals(alloc)?, Status::Clean, &[CLEAN])
 }
 
 #[test]
-fn pfs_pages_of_the_standard_geometry(rt: HostRuntime) -> Result<(), Fail> {
+fn an_extent_of_both_maps(rt: HostRuntime) -> Result<(), Fail> {
     let alloc = rt.alloc();
-    assert!(rt; reports(alloc, two_spans(alloc)?, Status::Clean, &[CLEAN])?);
+    let mut file = two_intervals(alloc)?;
+    put(&mut file, 513 * PAGE + 96, &[0b0100_0000]);
+    let both = "Msg 8903: object 0, page 560, other 0, slot 0, value 0\n";
+    expect_report(alloc, file, Status::Errors, &[both, ONE])
+}
+
+#[test]
+fn an_extent_of_the_second_interval_is_owned(rt: HostRuntime) -> Result<(), Fail> {
+    let alloc = rt.alloc();
+    let owned = in_two_intervals(alloc, 0b0100_0000)?;
+    expect_report(alloc, owned, Status::Clean, &[EMPTY_ONE, CLEAN])
+}
+
+#[test]
+fn an_extent_of_the_second_interval_is_lost(rt: HostRuntime) -> Result<(), Fail> {
+    let alloc = rt.alloc();
+    let lost = "Msg 8905: object 0, page 560, other 0, slot 0, value 0\n";
+    let unmarked = in_two_intervals(alloc, 0)?;
+    expect_report(alloc, unmarked, Status::Errors, &[lost, EMPTY_ONE, ONE])
+}
+
+#[test]
+fn a_new_file_of_two_spans_is_clean(rt: HostRuntime) -> Result<(), Fail> {
+    let alloc = rt.alloc();
+    expect_report(alloc, two_spans(alloc)?, Status::Clean, &[CLEAN])
+}
+
+#[test]
+fn a_page_that_the_second_pfs_page_reserves(rt: HostRuntime) -> Result<(), Fail> {
+    let alloc = rt.alloc();
     let mut file = two_spans(alloc)?;
     put(&mut file, 8088 * PAGE + 98, &[0x40]);
     let reserved = "Msg 8948: object 0, page 8090, other 0, slot 0, value 64\n";
-    assert!(rt; reports(alloc, file, Status::Errors, &[reserved, ONE])?);
-    Ok(())
+    expect_report(alloc, file, Status::Errors, &[reserved, ONE])
 }

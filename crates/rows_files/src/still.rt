@@ -59,9 +59,31 @@ pub fn joined(alloc: Global, lines: &[&str]) -> Result<Vec<u8>, AllocError> {
     Ok(text)
 }
 
-/// Whether the check of the file ends so, and its report has these lines, one after another.
-pub fn reports(alloc: Global, file: Vec<u8>, status: Status, lines: &[&str]) -> Result<bool, Fail> {
-    let (found, text) = check(alloc, file)?;
+/// Fails where a run ended otherwise than so, or wrote another text.
+pub fn expect_end(ended: &(Status, Vec<u8>), status: Status, text: &[u8]) -> Result<(), Fail> {
+    let (found, written) = ended;
+    if *found == status && written.as_slice() == text {
+        return Ok(());
+    }
+    Err(differs(*found, written.as_slice()))
+}
+
+// How a run ended that was to end otherwise, and the front of what it wrote.
+fn differs(found: Status, written: &[u8]) -> Fail {
+    match str::from_utf8(written) {
+        Ok(text) => Fail::new(format_args!("{found:?}: {text}")),
+        Err(_) => Fail::new(format_args!("{found:?}, and no text")),
+    }
+}
+
+/// Fails where the check of the file ends otherwise than so, or its report has other lines than these, one after
+/// another.
+pub fn expect_report(
+    alloc: Global,
+    file: Vec<u8>,
+    status: Status,
+    lines: &[&str],
+) -> Result<(), Fail> {
     let wanted = joined(alloc, lines)?;
-    Ok(found == status && text.as_slice() == wanted.as_slice())
+    expect_end(&check(alloc, file)?, status, wanted.as_slice())
 }

@@ -100,24 +100,38 @@ fn two_sessions(alloc: Global) -> Result<Core, Fail>
 #[test]
 fn a_core_begins_with_nothing_done(rt: HostRuntime) -> Result<(), Fail> {
     let core = two_sessions(rt.alloc())?;
-    assert_eq!(rt; core.sessions(), 2);
-    assert_eq!(rt; core.items().len(), 0);
-    assert_eq!(rt; core.frames().count(), 16);
-    assert_eq!(rt; core.replies(1).len(), 0);
+    let counts = [
+        core.items().len(),
+        core.frames().count(),
+        core.replies(1).len(),
+    ];
+    assert!(rt; core.sessions() == 2 && counts == [0, 16, 0]);
     Ok(())
 }
+
+// The turns of both sessions.
+const DONE: [TurnOut; 5] = [
+    TurnOut::Answered(1),
+    TurnOut::Moved,
+    TurnOut::Finished,
+    TurnOut::Answered(2),
+    TurnOut::Finished,
+];
 
 #[test]
 fn each_turn_does_one_thing(rt: HostRuntime) -> Result<(), Fail> {
     let mut core = two_sessions(rt.alloc())?;
-    assert_eq!(rt; core.turn(1), TurnOut::Answered(1));
-    assert_eq!(rt; core.turn(1), TurnOut::Moved);
-    assert_eq!(rt; core.turn(2), TurnOut::Finished);
-    assert_eq!(rt; core.turn(1), TurnOut::Answered(2));
-    assert_eq!(rt; core.turn(1), TurnOut::Finished);
-    assert_eq!(rt; core.items().len(), 3);
-    assert!(rt; matches!(core.replies(1), [Reply::Done, Reply::Done]));
-    assert_eq!(rt; core.replies(2).len(), 0);
+    let turns = [
+        core.turn(1),
+        core.turn(1),
+        core.turn(2),
+        core.turn(1),
+        core.turn(1),
+    ];
+    assert!(rt; turns == DONE);
+    let counts = [core.items().len(), core.replies(2).len()];
+    let is_done = matches!(core.replies(1), [Reply::Done, Reply::Done]);
+    assert!(rt; counts == [3, 0] && is_done);
     Ok(())
 }
 
@@ -125,9 +139,9 @@ fn each_turn_does_one_thing(rt: HostRuntime) -> Result<(), Fail> {
 fn a_replay_ends_all_scripts(rt: HostRuntime) -> Result<(), Fail> {
     let mut core = two_sessions(rt.alloc())?;
     core.replay(&[(1, 1), (2, 3)]);
-    assert_eq!(rt; core.items().len(), 3);
-    assert!(rt; matches!(core.replies(1), [Reply::Done, Reply::Done]));
-    assert_eq!(rt; core.turn(1), TurnOut::Finished);
+    let is_done = matches!(core.replies(1), [Reply::Done, Reply::Done]);
+    assert!(rt; core.items().len() == 3 && is_done);
+    assert!(rt; core.turn(1) == TurnOut::Finished);
     Ok(())
 }
 
@@ -235,23 +249,30 @@ fn is_one_row(reply: Option<&Reply>) -> bool {
     matches!(reply, Some(Reply::Rows { count: 1, .. }))
 }
 
+// Those of no transaction meet both, that with transaction 5 only table 2.
+fn are_held(first: &[Reply], second: &[Reply]) -> bool {
+    is_held(second.get(3), 1, 5) && is_held(second.get(4), 2, 3) && is_held(first.get(2), 2, 3)
+}
+
+// What a session holds itself, what it held in a transaction that has ended, and the catalog, which nobody holds,
+// are in nobody's way.
+fn are_rows(first: &[Reply], third: &[Reply]) -> bool {
+    is_one_row(first.get(1))
+        && is_one_row(first.get(3))
+        && is_one_row(third.get(1))
+        && is_one_row(third.get(2))
+}
+
 #[test]
 fn another_holder_is_told_and_a_session_meets_none_of_its_own(rt: HostRuntime) -> Result<(), Fail> {
     let core = three_sessions(rt.alloc(), TURNS, [FIRST, SECOND, THIRD])?;
     let (first, second, third) = (core.replies(1), core.replies(2), core.replies(3));
-    assert_eq!(rt; (first.len(), second.len(), third.len()), (4, 6, 3));
-    // Those of no transaction meet both, that with transaction 5 only table 2.
-    assert!(rt; is_held(second.get(3), 1, 5));
-    assert!(rt; is_held(second.get(4), 2, 3));
-    assert!(rt; is_held(first.get(2), 2, 3));
-    // What a session holds itself, what it held in a transaction that has ended, and the catalog, which nobody holds,
-    // are in nobody's way.
-    for reply in [first.get(1), first.get(3), third.get(1), third.get(2)] {
-        assert!(rt; is_one_row(reply), "{reply:?}");
-    }
-    for reply in second.iter().take(3) {
-        assert!(rt; is_one_row(Some(reply)), "{reply:?}");
-    }
+    assert!(rt; first.len() == 4 && second.len() == 6 && third.len() == 3);
+    assert!(rt; are_held(first, second) && are_rows(first, third));
+    let are_own = is_one_row(second.get(0))
+        && is_one_row(second.get(1))
+        && is_one_row(second.get(2));
+    assert!(rt; are_own);
     Ok(())
 }
 

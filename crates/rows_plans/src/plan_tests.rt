@@ -227,6 +227,31 @@ fn an_empty_heap_has_no_rows(rt: HostRuntime) -> Result<(), Fail> {
     Ok(())
 }
 
+// Page, offset, and the bytes before and after.
+type Due = (u32, u32, &'static [u8], &'static [u8]);
+
+static FIRST_ROW: [Due; 4] = [
+    (1, 106, &[0x60], &[0x61]),
+    (10, 96, &[0; 14], &ROW),
+    (10, 8190, &[0], &[96]),
+    (10, 20, &[0, 0, 0xA0, 0x1F, 96], &[1, 0, 0x90, 0x1F, 110]),
+];
+
+static FIRST_TAKES: [Resource; 3] = [
+    Resource::Table(ObjId(1)),
+    Resource::Byte(PageNo(10)),
+    Resource::Page(PageNo(10)),
+];
+
+fn are_changes(changes: &[Planned], due: &[Due]) -> bool {
+    for (change, (page, off, before, after)) in changes.iter().zip(due.iter()) {
+        if !is_change(change, *page, *off, before, after) {
+            return false;
+        }
+    }
+    changes.len() == due.len()
+}
+
 #[test]
 fn the_first_row_makes_four_changes(rt: HostRuntime) -> Result<(), Fail> {
     let alloc = rt.alloc();
@@ -234,18 +259,8 @@ fn the_first_row_makes_four_changes(rt: HostRuntime) -> Result<(), Fail> {
     let name = Name::copied(alloc, "t")?;
     let plan = plan_insert(alloc, &view, &name, 7, b"abc")?;
     let (takes, changes) = written(plan).ok_or("refused")?;
-    let due = [
-        Resource::Table(ObjId(1)),
-        Resource::Byte(PageNo(10)),
-        Resource::Page(PageNo(10)),
-    ];
-    assert_eq!(rt; takes.as_slice(), &due[..]);
-    assert_eq!(rt; changes.len(), 4);
-    assert!(rt; is_change(&changes[0], 1, 106, &[0x60], &[0x61]));
-    assert!(rt; is_change(&changes[1], 10, 96, &[0; 14], &ROW));
-    assert!(rt; is_change(&changes[2], 10, 8190, &[0], &[96]));
-    let before = [0, 0, 0xA0, 0x1F, 96];
-    assert!(rt; is_change(&changes[3], 10, 20, &before, &[1, 0, 0x90, 0x1F, 110]));
+    let is_right = takes.as_slice() == FIRST_TAKES.as_slice() && are_changes(&changes, &FIRST_ROW);
+    assert!(rt; is_right);
     Ok(())
 }
 
@@ -257,8 +272,8 @@ fn what_is_held_already_is_not_taken(rt: HostRuntime) -> Result<(), Fail> {
     let name = Name::copied(alloc, "t")?;
     let plan = plan_insert(alloc, &view, &name, 7, b"abc")?;
     let (takes, changes) = written(plan).ok_or("refused")?;
-    assert_eq!(rt; takes.as_slice(), &[Resource::Table(ObjId(1))][..]);
-    assert_eq!(rt; changes.len(), 3);
+    let is_right = takes.as_slice() == &[Resource::Table(ObjId(1))][..] && changes.len() == 3;
+    assert!(rt; is_right);
     Ok(())
 }
 
@@ -278,34 +293,36 @@ fn meets(
     Ok(refusal.number == number && refusal.page == PageNo(page) && refusal.by == Tran(by))
 }
 
+static CAUSES: [(u32, u8, &str, u16, u32); 3] = [
+    (1, 0x60, "u", 208, 0),
+    (2, 0x60, "t", 824, 10),
+    (1, 0x64, "t", 1105, 0),
+];
+
 #[test]
 fn each_refusal_has_its_cause(rt: HostRuntime) -> Result<(), Fail> {
     let alloc = rt.alloc();
-    let cases = [
-        (1, 0x60, "u", 208, 0),
-        (2, 0x60, "t", 824, 10),
-        (1, 0x64, "t", 1105, 0),
-    ];
-    for (object, byte, table, number, page) in cases {
-        let view = view_of(alloc, object, byte, None, None)?;
-        assert!(rt; meets(alloc, &view, table, number, page, 0)?, "{number}");
+    for (object, byte, table, number, page) in CAUSES.iter() {
+        let view = view_of(alloc, *object, *byte, None, None)?;
+        assert!(rt; meets(alloc, &view, table, *number, *page, 0)?);
     }
     Ok(())
 }
 
+static HELD: [Resource; 5] = [
+    Resource::Catalog,
+    Resource::Table(ObjId(1)),
+    Resource::Page(PageNo(8)),
+    Resource::Byte(PageNo(10)),
+    Resource::Page(PageNo(10)),
+];
+
 #[test]
 fn what_another_holds_is_not_read(rt: HostRuntime) -> Result<(), Fail> {
     let alloc = rt.alloc();
-    let held = [
-        Resource::Catalog,
-        Resource::Table(ObjId(1)),
-        Resource::Page(PageNo(8)),
-        Resource::Byte(PageNo(10)),
-        Resource::Page(PageNo(10)),
-    ];
-    for resource in held {
-        let view = view_of(alloc, 2, 0x60, Some(resource), None)?;
-        assert!(rt; meets(alloc, &view, "t", 1222, 0, 5)?, "{resource:?}");
+    for resource in HELD.iter() {
+        let view = view_of(alloc, 2, 0x60, Some(*resource), None)?;
+        assert!(rt; meets(alloc, &view, "t", 1222, 0, 5)?);
     }
     Ok(())
 }

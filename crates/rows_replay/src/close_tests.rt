@@ -1,7 +1,7 @@
 // The close of a run: items, changed pages and replies, and what stands where a device fails.
 use checkdb_top::{Device, Status};
 use rows_files::objects::pfs;
-use rows_files::replays::{Fault, replay_failing};
+use rows_files::replays::{Fault, Ran, replay_failing};
 use rows_files::trees::{empty_heap, put_in};
 use std::alloc::Global;
 use std::test::Fail;
@@ -75,39 +75,62 @@ fn written(alloc: Global, pages: u8) -> Result<Vec<u8>, Fail> {
     Ok(file)
 }
 
-fn failed(which: Device) -> Status {
-    Status::Device { which }
+const SOURCE: Status = Status::Device {
+    which: Device::Source,
+};
+
+const VOLUME: Status = Status::Device {
+    which: Device::Volume,
+};
+
+const LOG: Status = Status::Device { which: Device::Log };
+
+const SINK: Status = Status::Device {
+    which: Device::Sink,
+};
+
+fn one_insert(alloc: Global, fault: Fault) -> Result<Ran, Fail> {
+    let file = empty_heap(alloc, 0x60)?;
+    let script = ["INSERT t 1 'a'\n"];
+    replay_failing(alloc, file, Vec::new(alloc), "", &script, fault)
+}
+
+// Whether a run has left a front of the items, so many of the changed pages, and these replies.
+fn has_written(alloc: Global, ran: &Ran, pages: u8, replies: &str) -> Result<bool, Fail> {
+    let due = items(alloc)?;
+    let file = written(alloc, pages)?;
+    Ok(
+        due.as_slice().starts_with(ran.log.as_slice())
+            && ran.file.as_slice() == file.as_slice()
+            && ran.output.as_slice() == replies.as_bytes(),
+    )
 }
 
 // Each fault, the status of the run, and what stands after it: so many bytes of the items, so many of the changed
 // pages, and the replies. Nothing is changed before the close; there the log is appended to first, then the pages are written, rising, then
 // the replies.
+static FAULTS: [(Fault, Status, usize, u8, &str); 12] = [
+    (Fault::Never, Status::Clean, 175, 2, "1.1 ROWS 1\n"),
+    (Fault::Schedule(1), SOURCE, 0, 0, ""),
+    (Fault::Script(1), SOURCE, 0, 0, ""),
+    (Fault::Script(2), SOURCE, 0, 0, ""),
+    (Fault::Read(0), VOLUME, 0, 0, ""),
+    (Fault::Read(10), VOLUME, 0, 0, ""),
+    (Fault::LogRead, LOG, 0, 0, ""),
+    (Fault::LogAppend(0), LOG, 0, 0, ""),
+    (Fault::LogAppend(47), LOG, 47, 0, ""),
+    (Fault::Write(1), VOLUME, 175, 0, ""),
+    (Fault::Write(10), VOLUME, 175, 1, ""),
+    (Fault::Output(1), SINK, 175, 2, ""),
+];
+
 #[test]
 fn what_stands_after_each_fault(rt: HostRuntime) -> Result<(), Fail> {
     let alloc = rt.alloc();
-    let ends = [
-        (Fault::Never, Status::Clean, 175, 2, "1.1 ROWS 1\n"),
-        (Fault::Schedule(1), failed(Device::Source), 0, 0, ""),
-        (Fault::Script(1), failed(Device::Source), 0, 0, ""),
-        (Fault::Script(2), failed(Device::Source), 0, 0, ""),
-        (Fault::Read(0), failed(Device::Volume), 0, 0, ""),
-        (Fault::Read(10), failed(Device::Volume), 0, 0, ""),
-        (Fault::LogRead, failed(Device::Log), 0, 0, ""),
-        (Fault::LogAppend(0), failed(Device::Log), 0, 0, ""),
-        (Fault::LogAppend(47), failed(Device::Log), 47, 0, ""),
-        (Fault::Write(1), failed(Device::Volume), 175, 0, ""),
-        (Fault::Write(10), failed(Device::Volume), 175, 1, ""),
-        (Fault::Output(1), failed(Device::Sink), 175, 2, ""),
-    ];
-    for (fault, status, log, pages, replies) in ends {
-        let file = empty_heap(alloc, 0x60)?;
-        let script = ["INSERT t 1 'a'\n"];
-        let ran = replay_failing(alloc, file, Vec::new(alloc), "", &script, fault)?;
-        assert_eq!(rt; ran.status, status);
-        assert_eq!(rt; ran.output.as_slice(), replies.as_bytes());
-        assert_eq!(rt; ran.log.len(), log);
-        assert!(rt; items(alloc)?.as_slice().starts_with(ran.log.as_slice()));
-        assert_eq!(rt; ran.file.as_slice(), written(alloc, pages)?.as_slice());
+    for (fault, status, log, pages, replies) in FAULTS.iter() {
+        let ran = one_insert(alloc, *fault)?;
+        assert!(rt; ran.status == *status && ran.log.len() == *log);
+        assert!(rt; has_written(alloc, &ran, *pages, replies)?);
     }
     Ok(())
 }
@@ -120,8 +143,7 @@ fn a_run_without_items_writes_nothing(rt: HostRuntime) -> Result<(), Fail> {
         let file = empty_heap(alloc, 0x60)?;
         let fault = Fault::Write(page);
         let ran = replay_failing(alloc, file, Vec::new(alloc), "", &[""], fault)?;
-        assert_eq!(rt; ran.status, Status::Clean, "page {page}");
-        assert!(rt; ran.log.is_empty(), "page {page}");
+        assert!(rt; ran.status == Status::Clean && ran.log.is_empty());
     }
     Ok(())
 }

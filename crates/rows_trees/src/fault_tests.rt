@@ -1,6 +1,6 @@
 // The page test in a check: its first fault is the one error of a page, which then isn't seen.
 use checkdb_top::Status;
-use rows_files::still::reports;
+use rows_files::still::expect_report;
 use rows_files::trees::{add_row, data_row, empty_heap, offset, one_leaf, put_in};
 use std::alloc::Global;
 use std::test::Fail;
@@ -38,208 +38,218 @@ fn two_rows(alloc: Global) -> Result<Vec<u8>, Fail> {
 }
 
 // Each damage of the heap page is the only error, and the page isn't seen.
-fn all_reported(alloc: Global, damages: &[Damage<'_>]) -> Result<bool, Fail> {
+fn expect_all(alloc: Global, damages: &[Damage<'_>]) -> Result<(), Fail> {
     for damage in damages.iter() {
         let mut file = two_rows(alloc)?;
         damaged(&mut file, damage);
-        if !reports(alloc, file, Status::Errors, &[damage.line, UNSEEN, ONE])? {
-            return Ok(false);
-        }
+        expect_report(alloc, file, Status::Errors, &[damage.line, UNSEEN, ONE])?;
     }
-    Ok(true)
+    Ok(())
 }
+
+static HEADER_FAULTS: [Damage<'static>; 14] = [
+    Damage {
+        changes: &[(4, &[11])],
+        line: "Msg 8909: object 1, page 10, other 0, slot 0, value 11\n",
+    },
+    Damage {
+        changes: &[(1, &[2])],
+        line: "Msg 8938: object 1, page 10, other 0, slot 0, value 2\n",
+    },
+    Damage {
+        changes: &[(1, &[10])],
+        line: "Msg 8938: object 1, page 10, other 0, slot 0, value 10\n",
+    },
+    Damage {
+        changes: &[(8, &[2])],
+        line: "Msg 2534: object 1, page 10, other 2, slot 0, value 0\n",
+    },
+    Damage {
+        changes: &[(0, &[2])],
+        line: "Msg 8939: object 1, page 10, other 0, slot 0, value 1\n",
+    },
+    Damage {
+        changes: &[(2, &[1])],
+        line: "Msg 8939: object 1, page 10, other 0, slot 0, value 2\n",
+    },
+    Damage {
+        changes: &[(12, &[11])],
+        line: "Msg 8939: object 1, page 10, other 0, slot 0, value 4\n",
+    },
+    Damage {
+        changes: &[(16, &[11])],
+        line: "Msg 8939: object 1, page 10, other 0, slot 0, value 4\n",
+    },
+    // 4,049 slots.
+    Damage {
+        changes: &[(20, &[0xd1, 0x0f])],
+        line: "Msg 8939: object 1, page 10, other 0, slot 0, value 5\n",
+    },
+    // The rows end at 95, and at 8,189, where the slots begin at 8,188.
+    Damage {
+        changes: &[(24, &[95, 0])],
+        line: "Msg 8939: object 1, page 10, other 0, slot 0, value 5\n",
+    },
+    Damage {
+        changes: &[(24, &[0xfd, 0x1f])],
+        line: "Msg 8939: object 1, page 10, other 0, slot 0, value 5\n",
+    },
+    Damage {
+        changes: &[(26, &[1])],
+        line: "Msg 8939: object 1, page 10, other 0, slot 0, value 6\n",
+    },
+    // The free count is 8,096 - 32 - 4 = 8,060, which is 0x1f7c.
+    Damage {
+        changes: &[(22, &[0x7b])],
+        line: "Msg 8939: object 1, page 10, other 0, slot 0, value 7\n",
+    },
+    Damage {
+        changes: &[(22, &[0x7d])],
+        line: "Msg 8939: object 1, page 10, other 0, slot 0, value 7\n",
+    },
+];
 
 #[test]
 fn each_fault_of_a_header(rt: HostRuntime) -> Result<(), Fail> {
     let alloc = rt.alloc();
-    let damages = [
-        Damage {
-            changes: &[(4, &[11])],
-            line: "Msg 8909: object 1, page 10, other 0, slot 0, value 11\n",
-        },
-        Damage {
-            changes: &[(1, &[2])],
-            line: "Msg 8938: object 1, page 10, other 0, slot 0, value 2\n",
-        },
-        Damage {
-            changes: &[(1, &[10])],
-            line: "Msg 8938: object 1, page 10, other 0, slot 0, value 10\n",
-        },
-        Damage {
-            changes: &[(8, &[2])],
-            line: "Msg 2534: object 1, page 10, other 2, slot 0, value 0\n",
-        },
-        Damage {
-            changes: &[(0, &[2])],
-            line: "Msg 8939: object 1, page 10, other 0, slot 0, value 1\n",
-        },
-        Damage {
-            changes: &[(2, &[1])],
-            line: "Msg 8939: object 1, page 10, other 0, slot 0, value 2\n",
-        },
-        Damage {
-            changes: &[(12, &[11])],
-            line: "Msg 8939: object 1, page 10, other 0, slot 0, value 4\n",
-        },
-        Damage {
-            changes: &[(16, &[11])],
-            line: "Msg 8939: object 1, page 10, other 0, slot 0, value 4\n",
-        },
-        // 4,049 slots.
-        Damage {
-            changes: &[(20, &[0xd1, 0x0f])],
-            line: "Msg 8939: object 1, page 10, other 0, slot 0, value 5\n",
-        },
-        // The rows end at 95, and at 8,189, where the slots begin at 8,188.
-        Damage {
-            changes: &[(24, &[95, 0])],
-            line: "Msg 8939: object 1, page 10, other 0, slot 0, value 5\n",
-        },
-        Damage {
-            changes: &[(24, &[0xfd, 0x1f])],
-            line: "Msg 8939: object 1, page 10, other 0, slot 0, value 5\n",
-        },
-        Damage {
-            changes: &[(26, &[1])],
-            line: "Msg 8939: object 1, page 10, other 0, slot 0, value 6\n",
-        },
-        // The free count is 8,096 - 32 - 4 = 8,060, which is 0x1f7c.
-        Damage {
-            changes: &[(22, &[0x7b])],
-            line: "Msg 8939: object 1, page 10, other 0, slot 0, value 7\n",
-        },
-        Damage {
-            changes: &[(22, &[0x7d])],
-            line: "Msg 8939: object 1, page 10, other 0, slot 0, value 7\n",
-        },
-    ];
-    assert!(rt; all_reported(alloc, &damages)?);
-    Ok(())
+    expect_all(alloc, &HEADER_FAULTS)
 }
 
 // The entry of slot 0 stands at 8,190, that of slot 1 at 8,188; the rows end at 128.
+static ROW_FAULTS: [Damage<'static>; 12] = [
+    Damage {
+        changes: &[(8190, &[95, 0])],
+        line: "Msg 8941: object 1, page 10, other 0, slot 0, value 95\n",
+    },
+    Damage {
+        changes: &[(8188, &[128, 0])],
+        line: "Msg 8941: object 1, page 10, other 0, slot 1, value 128\n",
+    },
+    Damage {
+        changes: &[(8188, &[0xff, 0xff])],
+        line: "Msg 8941: object 1, page 10, other 0, slot 1, value 65535\n",
+    },
+    // An index row.
+    Damage {
+        changes: &[(108, &[6])],
+        line: "Msg 8941: object 1, page 10, other 0, slot 1, value 108\n",
+    },
+    // Lengths 10 and 1,025.
+    Damage {
+        changes: &[(109, &[10])],
+        line: "Msg 8941: object 1, page 10, other 0, slot 1, value 108\n",
+    },
+    Damage {
+        changes: &[(109, &[1, 4])],
+        line: "Msg 8941: object 1, page 10, other 0, slot 1, value 108\n",
+    },
+    // The rows end inside the header of the second.
+    Damage {
+        changes: &[(24, &[110])],
+        line: "Msg 8941: object 1, page 10, other 0, slot 1, value 108\n",
+    },
+    // They end right behind that header, and before the last byte of the row.
+    Damage {
+        changes: &[(24, &[111])],
+        line: "Msg 8943: object 1, page 10, other 0, slot 1, value 128\n",
+    },
+    Damage {
+        changes: &[(24, &[127])],
+        line: "Msg 8943: object 1, page 10, other 0, slot 1, value 128\n",
+    },
+    Damage {
+        changes: &[(97, &[33])],
+        line: "Msg 8943: object 1, page 10, other 0, slot 0, value 129\n",
+    },
+    // The first row goes one byte into the second.
+    Damage {
+        changes: &[(97, &[13])],
+        line: "Msg 8942: object 1, page 10, other 0, slot 1, value 108\n",
+    },
+    Damage {
+        changes: &[(8190, &[108, 0])],
+        line: "Msg 8942: object 1, page 10, other 0, slot 1, value 108\n",
+    },
+];
+
 #[test]
 fn each_fault_of_a_row(rt: HostRuntime) -> Result<(), Fail> {
     let alloc = rt.alloc();
-    let damages = [
-        Damage {
-            changes: &[(8190, &[95, 0])],
-            line: "Msg 8941: object 1, page 10, other 0, slot 0, value 95\n",
-        },
-        Damage {
-            changes: &[(8188, &[128, 0])],
-            line: "Msg 8941: object 1, page 10, other 0, slot 1, value 128\n",
-        },
-        Damage {
-            changes: &[(8188, &[0xff, 0xff])],
-            line: "Msg 8941: object 1, page 10, other 0, slot 1, value 65535\n",
-        },
-        // An index row.
-        Damage {
-            changes: &[(108, &[6])],
-            line: "Msg 8941: object 1, page 10, other 0, slot 1, value 108\n",
-        },
-        // Lengths 10 and 1,025.
-        Damage {
-            changes: &[(109, &[10])],
-            line: "Msg 8941: object 1, page 10, other 0, slot 1, value 108\n",
-        },
-        Damage {
-            changes: &[(109, &[1, 4])],
-            line: "Msg 8941: object 1, page 10, other 0, slot 1, value 108\n",
-        },
-        // The rows end inside the header of the second.
-        Damage {
-            changes: &[(24, &[110])],
-            line: "Msg 8941: object 1, page 10, other 0, slot 1, value 108\n",
-        },
-        // They end right behind that header, and before the last byte of the row.
-        Damage {
-            changes: &[(24, &[111])],
-            line: "Msg 8943: object 1, page 10, other 0, slot 1, value 128\n",
-        },
-        Damage {
-            changes: &[(24, &[127])],
-            line: "Msg 8943: object 1, page 10, other 0, slot 1, value 128\n",
-        },
-        Damage {
-            changes: &[(97, &[33])],
-            line: "Msg 8943: object 1, page 10, other 0, slot 0, value 129\n",
-        },
-        // The first row goes one byte into the second.
-        Damage {
-            changes: &[(97, &[13])],
-            line: "Msg 8942: object 1, page 10, other 0, slot 1, value 108\n",
-        },
-        Damage {
-            changes: &[(8190, &[108, 0])],
-            line: "Msg 8942: object 1, page 10, other 0, slot 1, value 108\n",
-        },
-    ];
-    assert!(rt; all_reported(alloc, &damages)?);
-    Ok(())
+    expect_all(alloc, &ROW_FAULTS)
 }
+
+static TWO_FAULTS: [Damage<'static>; 12] = [
+    Damage {
+        changes: &[(0, &[2, 3]), (4, &[9])],
+        line: "Msg 8909: object 1, page 10, other 0, slot 0, value 9\n",
+    },
+    Damage {
+        changes: &[(0, &[2, 3]), (8, &[2])],
+        line: "Msg 8938: object 1, page 10, other 0, slot 0, value 3\n",
+    },
+    Damage {
+        changes: &[(0, &[2]), (8, &[2])],
+        line: "Msg 2534: object 1, page 10, other 2, slot 0, value 0\n",
+    },
+    Damage {
+        changes: &[(0, &[2, 1, 1])],
+        line: "Msg 8939: object 1, page 10, other 0, slot 0, value 1\n",
+    },
+    Damage {
+        changes: &[(2, &[1]), (12, &[11])],
+        line: "Msg 8939: object 1, page 10, other 0, slot 0, value 2\n",
+    },
+    Damage {
+        changes: &[(16, &[11]), (24, &[95])],
+        line: "Msg 8939: object 1, page 10, other 0, slot 0, value 4\n",
+    },
+    Damage {
+        changes: &[(24, &[95, 0, 1])],
+        line: "Msg 8939: object 1, page 10, other 0, slot 0, value 5\n",
+    },
+    Damage {
+        changes: &[(26, &[1]), (8190, &[95])],
+        line: "Msg 8939: object 1, page 10, other 0, slot 0, value 6\n",
+    },
+    Damage {
+        changes: &[(22, &[0]), (8188, &[95])],
+        line: "Msg 8941: object 1, page 10, other 0, slot 1, value 95\n",
+    },
+    // Slot 0 ends behind the rows, and slot 1 begins no row.
+    Damage {
+        changes: &[(97, &[33]), (8188, &[95])],
+        line: "Msg 8943: object 1, page 10, other 0, slot 0, value 129\n",
+    },
+    // Slot 0 goes into slot 1, which ends behind the rows.
+    Damage {
+        changes: &[(97, &[13]), (109, &[21])],
+        line: "Msg 8943: object 1, page 10, other 0, slot 1, value 129\n",
+    },
+    Damage {
+        changes: &[(97, &[13]), (22, &[0])],
+        line: "Msg 8942: object 1, page 10, other 0, slot 1, value 108\n",
+    },
+];
 
 #[test]
 fn the_first_of_two_faults(rt: HostRuntime) -> Result<(), Fail> {
     let alloc = rt.alloc();
-    let damages = [
-        Damage {
-            changes: &[(0, &[2, 3]), (4, &[9])],
-            line: "Msg 8909: object 1, page 10, other 0, slot 0, value 9\n",
-        },
-        Damage {
-            changes: &[(0, &[2, 3]), (8, &[2])],
-            line: "Msg 8938: object 1, page 10, other 0, slot 0, value 3\n",
-        },
-        Damage {
-            changes: &[(0, &[2]), (8, &[2])],
-            line: "Msg 2534: object 1, page 10, other 2, slot 0, value 0\n",
-        },
-        Damage {
-            changes: &[(0, &[2, 1, 1])],
-            line: "Msg 8939: object 1, page 10, other 0, slot 0, value 1\n",
-        },
-        Damage {
-            changes: &[(2, &[1]), (12, &[11])],
-            line: "Msg 8939: object 1, page 10, other 0, slot 0, value 2\n",
-        },
-        Damage {
-            changes: &[(16, &[11]), (24, &[95])],
-            line: "Msg 8939: object 1, page 10, other 0, slot 0, value 4\n",
-        },
-        Damage {
-            changes: &[(24, &[95, 0, 1])],
-            line: "Msg 8939: object 1, page 10, other 0, slot 0, value 5\n",
-        },
-        Damage {
-            changes: &[(26, &[1]), (8190, &[95])],
-            line: "Msg 8939: object 1, page 10, other 0, slot 0, value 6\n",
-        },
-        Damage {
-            changes: &[(22, &[0]), (8188, &[95])],
-            line: "Msg 8941: object 1, page 10, other 0, slot 1, value 95\n",
-        },
-        // Slot 0 ends behind the rows, and slot 1 begins no row.
-        Damage {
-            changes: &[(97, &[33]), (8188, &[95])],
-            line: "Msg 8943: object 1, page 10, other 0, slot 0, value 129\n",
-        },
-        // Slot 0 goes into slot 1, which ends behind the rows.
-        Damage {
-            changes: &[(97, &[13]), (109, &[21])],
-            line: "Msg 8943: object 1, page 10, other 0, slot 1, value 129\n",
-        },
-        Damage {
-            changes: &[(97, &[13]), (22, &[0])],
-            line: "Msg 8942: object 1, page 10, other 0, slot 1, value 108\n",
-        },
-    ];
-    assert!(rt; all_reported(alloc, &damages)?);
-    Ok(())
+    expect_all(alloc, &TWO_FAULTS)
 }
 
 // The rows at 96 and 108, and that inside the second at 112, by slots that don't rise.
+static MEETINGS: [Damage<'static>; 2] = [
+    Damage {
+        changes: &[(8188, &[108, 0, 112, 0])],
+        line: "Msg 8942: object 1, page 10, other 0, slot 0, value 112\n",
+    },
+    // Slots 0 to 3 at 112, 108, 96 and 96. Slot 3 is the first to meet the one before it.
+    Damage {
+        changes: &[(20, &[4]), (8184, &[96, 0, 96, 0, 108, 0, 112, 0])],
+        line: "Msg 8942: object 1, page 10, other 0, slot 3, value 96\n",
+    },
+];
+
 #[test]
 fn rows_meet_in_the_order_of_offsets(rt: HostRuntime) -> Result<(), Fail> {
     let alloc = rt.alloc();
@@ -247,20 +257,8 @@ fn rows_meet_in_the_order_of_offsets(rt: HostRuntime) -> Result<(), Fail> {
     let mut file = two_rows(alloc)?;
     offset(&mut file, 10, 0, 108);
     offset(&mut file, 10, 1, 96);
-    assert!(rt; reports(alloc, file, Status::Clean, &[rows, CLEAN])?);
-    let damages = [
-        Damage {
-            changes: &[(8188, &[108, 0, 112, 0])],
-            line: "Msg 8942: object 1, page 10, other 0, slot 0, value 112\n",
-        },
-        // Slots 0 to 3 at 112, 108, 96 and 96. Slot 3 is the first to meet the one before it.
-        Damage {
-            changes: &[(20, &[4]), (8184, &[96, 0, 96, 0, 108, 0, 112, 0])],
-            line: "Msg 8942: object 1, page 10, other 0, slot 3, value 96\n",
-        },
-    ];
-    assert!(rt; all_reported(alloc, &damages)?);
-    Ok(())
+    expect_report(alloc, file, Status::Clean, &[rows, CLEAN])?;
+    expect_all(alloc, &MEETINGS)
 }
 
 // Byte 3, the bytes behind the header's fields and those before the slots say nothing; the rows may end where
@@ -278,51 +276,52 @@ fn what_no_test_asks_of_a_page(rt: HostRuntime) -> Result<(), Fail> {
     for (at, bytes) in changes.iter() {
         let mut file = two_rows(alloc)?;
         put_in(&mut file, 10, *at, bytes);
-        assert!(rt; reports(alloc, file, Status::Clean, &[rows, CLEAN])?);
+        expect_report(alloc, file, Status::Clean, &[rows, CLEAN])?;
     }
     Ok(())
 }
 
 // A root that fails its test isn't seen, which is an error of the tree.
+static TREE_PAGE_FAULTS: [Damage<'static>; 7] = [
+    Damage {
+        changes: &[(1, &[3])],
+        line: "Msg 8938: object 1, page 10, other 0, slot 0, value 3\n",
+    },
+    Damage {
+        changes: &[(2, &[1])],
+        line: "Msg 8939: object 1, page 10, other 0, slot 0, value 2\n",
+    },
+    Damage {
+        changes: &[(1, &[2, 0])],
+        line: "Msg 8939: object 1, page 10, other 0, slot 0, value 2\n",
+    },
+    Damage {
+        changes: &[(1, &[2, 16])],
+        line: "Msg 8939: object 1, page 10, other 0, slot 0, value 2\n",
+    },
+    Damage {
+        changes: &[(1, &[2, 15]), (20, &[0])],
+        line: "Msg 8939: object 1, page 10, other 0, slot 0, value 3\n",
+    },
+    // A data row on an index page, and an index row on a leaf.
+    Damage {
+        changes: &[(1, &[2, 15])],
+        line: "Msg 8941: object 1, page 10, other 0, slot 0, value 96\n",
+    },
+    Damage {
+        changes: &[(96, &[6])],
+        line: "Msg 8941: object 1, page 10, other 0, slot 0, value 96\n",
+    },
+];
+
 #[test]
 fn each_fault_of_a_page_of_a_tree(rt: HostRuntime) -> Result<(), Fail> {
     let alloc = rt.alloc();
-    let damages = [
-        Damage {
-            changes: &[(1, &[3])],
-            line: "Msg 8938: object 1, page 10, other 0, slot 0, value 3\n",
-        },
-        Damage {
-            changes: &[(2, &[1])],
-            line: "Msg 8939: object 1, page 10, other 0, slot 0, value 2\n",
-        },
-        Damage {
-            changes: &[(1, &[2, 0])],
-            line: "Msg 8939: object 1, page 10, other 0, slot 0, value 2\n",
-        },
-        Damage {
-            changes: &[(1, &[2, 16])],
-            line: "Msg 8939: object 1, page 10, other 0, slot 0, value 2\n",
-        },
-        Damage {
-            changes: &[(1, &[2, 15]), (20, &[0])],
-            line: "Msg 8939: object 1, page 10, other 0, slot 0, value 3\n",
-        },
-        // A data row on an index page, and an index row on a leaf.
-        Damage {
-            changes: &[(1, &[2, 15])],
-            line: "Msg 8941: object 1, page 10, other 0, slot 0, value 96\n",
-        },
-        Damage {
-            changes: &[(96, &[6])],
-            line: "Msg 8941: object 1, page 10, other 0, slot 0, value 96\n",
-        },
-    ];
-    for damage in damages.iter() {
+    for damage in TREE_PAGE_FAULTS.iter() {
         let mut file = one_leaf(alloc, &[1])?;
         damaged(&mut file, damage);
         let lines = [UNSEEN_ROOT, damage.line, UNSEEN, TWO];
-        assert!(rt; reports(alloc, file, Status::Errors, &lines)?);
+        expect_report(alloc, file, Status::Errors, &lines)?;
     }
     Ok(())
 }

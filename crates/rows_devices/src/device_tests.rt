@@ -52,7 +52,7 @@ fn expect_byte<V: Volume>(
     wanted: Result<u8, DeviceFailed>,
 ) {
     let mut into = Page { bytes: [0; PAGE] };
-    assert_eq!(rt; last_byte(volume, p, &mut into), wanted, "page {p}");
+    expect(rt, last_byte(volume, p, &mut into) == wanted);
 }
 
 fn expect_append<L: LogFile>(
@@ -61,11 +61,11 @@ fn expect_append<L: LogFile>(
     bytes: &[u8],
     wanted: Result<(), DeviceFailed>,
 ) {
-    assert_eq!(rt; log.append(bytes), wanted, "{bytes:?}");
+    expect(rt, log.append(bytes) == wanted);
 }
 
 fn expect_log<L: LogFile>(rt: &impl Abort, log: &mut L, read: &mut Vec<u8>, wanted: &[u8]) {
-    assert_eq!(rt; log.read_all(read), Ok(()));
+    expect(rt, log.read_all(read) == Ok(()));
     expect_bytes(rt, read, wanted);
 }
 
@@ -79,7 +79,7 @@ fn expect_read<S: Source>(
     into: &mut [u8],
     wanted: Result<usize, DeviceFailed>,
 ) {
-    assert_eq!(rt; source.read(into), wanted);
+    expect(rt, source.read(into) == wanted);
 }
 
 fn expect_write<S: Sink>(
@@ -88,7 +88,7 @@ fn expect_write<S: Sink>(
     bytes: &[u8],
     wanted: Result<(), DeviceFailed>,
 ) {
-    assert_eq!(rt; sink.write(bytes), wanted, "{bytes:?}");
+    expect(rt, sink.write(bytes) == wanted);
 }
 
 static SECOND_READ: FailAt = FailAt {
@@ -134,28 +134,41 @@ fn a_data_file_in_memory_fails_where_it_was_told_to(rt: HostRuntime) -> Result<(
     Ok(())
 }
 
+fn log_of(
+    alloc: Global,
+    bytes: &[u8],
+    fail_read: bool,
+    fail_append: Option<u32>,
+) -> Result<MemLog, Fail> {
+    Ok(MemLog::of(bytes.to_vec(alloc)?, fail_read, fail_append))
+}
+
+fn expect_half_of_second(rt: &impl Abort, log: &mut MemLog, read: &mut Vec<u8>) {
+    expect_append(rt, log, b"cd", Ok(()));
+    expect_append(rt, log, b"efg", Err(DeviceFailed));
+    expect_log(rt, log, read, b"abcdef");
+}
+
 #[test]
 fn a_log_in_memory_fails_where_it_was_told_to(rt: HostRuntime) -> Result<(), Fail> {
-    let alloc = rt.alloc();
-    let mut read = b"old".to_vec(alloc)?;
-    let mut log = MemLog::of(b"ab".to_vec(alloc)?, false, Some(2));
-    expect_append(&rt, &mut log, b"cd", Ok(()));
-    expect_append(&rt, &mut log, b"efg", Err(DeviceFailed));
-    expect_log(&rt, &mut log, &mut read, b"abcdef");
-    let bytes = log.into_bytes();
-    expect_bytes(&rt, &bytes, b"abcdef");
+    let mut read = b"old".to_vec(rt.alloc())?;
+    let mut log = log_of(rt.alloc(), b"ab", false, Some(2))?;
+    expect_half_of_second(&rt, &mut log, &mut read);
+    expect_bytes(&rt, &log.into_bytes(), b"abcdef");
     Ok(())
+}
+
+fn expect_unread_log(rt: &impl Abort, log: &mut MemLog, mut read: Vec<u8>) {
+    expect(rt, is_unreadable(log, &mut read));
+    expect_append(rt, log, b"g", Ok(()));
 }
 
 #[test]
 fn a_log_in_memory_that_is_not_read_grows(rt: HostRuntime) -> Result<(), Fail> {
-    let alloc = rt.alloc();
-    let mut read = b"old".to_vec(alloc)?;
-    let mut log = MemLog::of(b"abcdef".to_vec(alloc)?, true, None);
-    expect(&rt, is_unreadable(&mut log, &mut read));
-    expect_append(&rt, &mut log, b"g", Ok(()));
-    let bytes = log.into_bytes();
-    expect_bytes(&rt, &bytes, b"abcdefg");
+    let read = b"old".to_vec(rt.alloc())?;
+    let mut log = log_of(rt.alloc(), b"abcdef", true, None)?;
+    expect_unread_log(&rt, &mut log, read);
+    expect_bytes(&rt, &log.into_bytes(), b"abcdefg");
     Ok(())
 }
 
@@ -214,7 +227,7 @@ fn expect_unread<F: Read + Write + Seek + Drop>(
     p: u32,
 ) {
     let mut into = Page { bytes: [0; PAGE] };
-    assert_eq!(rt; volume.read(PageNo(p), &mut into), Err(DeviceFailed));
+    expect(rt, volume.read(PageNo(p), &mut into) == Err(DeviceFailed));
 }
 
 fn expect_no_file<F: Read + Write + Seek + Drop>(
@@ -231,9 +244,8 @@ static DATA_FILE: &'static str = "/tmp/rows_devices_data_file";
 
 #[test]
 fn a_data_file_of_the_system_is_read_and_written(rt: HostRuntime) -> Result<(), Fail> {
-    let old = page_of(rt.alloc(), 7)?;
     let new = page_of(rt.alloc(), 9)?;
-    fs::write(&rt, DATA_FILE, &old.bytes)?;
+    fs::write(&rt, DATA_FILE, &[7; PAGE])?;
     let mut volume = FileVolume::at(&rt, DATA_FILE);
     expect_growth(&rt, &mut volume, &new);
     expect_unread(&rt, &mut volume, 2);
@@ -268,13 +280,17 @@ fn a_log_of_the_system_is_made_and_grows(rt: HostRuntime) -> Result<(), Fail> {
     Ok(())
 }
 
+fn expect_no_log<L: LogFile>(rt: &impl Abort, log: &mut L, read: &mut Vec<u8>) {
+    expect(rt, is_unreadable(log, read));
+    expect_append(rt, log, b"e", Err(DeviceFailed));
+    expect_bytes(rt, read, b"abcd");
+}
+
 #[test]
 fn a_log_that_is_not_opened_fails(rt: HostRuntime) -> Result<(), Fail> {
     let mut read = b"abcd".to_vec(rt.alloc())?;
     let mut none = FileLog::at(&rt, "");
-    expect(&rt, is_unreadable(&mut none, &mut read));
-    expect_append(&rt, &mut none, b"e", Err(DeviceFailed));
-    expect_bytes(&rt, &read, b"abcd");
+    expect_no_log(&rt, &mut none, &mut read);
     Ok(())
 }
 

@@ -104,7 +104,7 @@ fn all_pages_are_read(rt: HostRuntime) -> Result<(), Fail> {
 #[test]
 fn a_page_that_is_not_read_is_named(rt: HostRuntime) -> Result<(), Fail> {
     let stop = stop_at(rt.alloc(), 1)?;
-    assert_eq!(rt; stop, Some(ReadStop::Fault(PageNo(1))));
+    expect(&rt, stop == Some(ReadStop::Fault(PageNo(1))));
     expect(&rt, stop_at(rt.alloc(), 0)?.is_none());
     Ok(())
 }
@@ -158,8 +158,8 @@ fn expect_written(
 )
     requires { length frames.now ≡ 3 }
 {
-    assert_eq!(rt; frames.write_back(volume, &MARKS), wanted);
-    assert_eq!(rt; volume.written.as_slice(), numbers);
+    expect(rt, frames.write_back(volume, &MARKS) == wanted);
+    expect(rt, volume.written.as_slice() == numbers);
 }
 
 #[test]
@@ -192,10 +192,14 @@ fn records(alloc: Global) -> Result<Vec<Record>, Fail> {
     Ok(vec![in alloc; change, undo, Record::Commit { tran: Tran(1) }]?)
 }
 
+fn marks_page_two(alloc: Global, items: &[Record]) -> Result<bool, Fail> {
+    let marks = changed_pages(alloc, items, 4)?;
+    Ok(marks.as_slice() == [false, false, true, false].as_slice())
+}
+
 #[test]
 fn the_changes_of_a_log_name_its_pages(rt: HostRuntime) -> Result<(), Fail> {
     let items = records(rt.alloc())?;
-    let marks = changed_pages(rt.alloc(), &items, 4)?;
-    assert_eq!(rt; marks.as_slice(), [false, false, true, false].as_slice());
+    expect(&rt, marks_page_two(rt.alloc(), &items)?);
     Ok(())
 }

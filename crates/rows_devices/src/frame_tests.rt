@@ -1,11 +1,12 @@
 // The pages of a file in memory: read, changed, and written back.
-ghost use Rattle.std.specs.Prelude.{None};
+ghost use Rattle.std.specs.Prelude.{◌≡◌, ◌<◌, None, IfOk, length};
 
-use crate::made::page_of;
+use crate::made::{expect, page_of};
 use pg_base::{Page, PageNo, ReadStop, SnapReader};
 use spec_file::{Lsn, Tran};
 use spec_log::{Cell, Record, Values};
 use std::alloc::Global;
+use std::process::Abort;
 use std::test::Fail;
 use vol_dev::{DeviceFailed, Volume};
 use vol_pool::{Frames, FramesReader, changed_pages};
@@ -67,41 +68,52 @@ fn three(alloc: Global, failing: Option<u32>) -> Result<Untold, Fail> {
     })
 }
 
+// All pages of a file that fails at none of them.
+fn frames_of(alloc: Global, volume: &mut Untold) -> Result<Frames, Fail>
+    ensures { IfOk result (λ frames. length frames ≡ 3) }
+{
+    let first = page_of(alloc, 1)?;
+    Ok(Frames::read_behind(alloc, first, volume, 3)?)
+}
+
+// Why the pages of three were not read, where one page fails.
+fn stop_at(alloc: Global, failing: u32) -> Result<Option<ReadStop>, Fail> {
+    let mut volume = three(alloc, Some(failing))?;
+    let first = page_of(alloc, 1)?;
+    Ok(Frames::read_behind(alloc, first, &mut volume, 3).err())
+}
+
+fn reads_threes(frames: &Frames) -> bool
+    requires { length frames.now ≡ 3 }
+{
+    let mut into = Page { bytes: [0; 8192] };
+    let mut reader = FramesReader::of(frames);
+    reader.page(PageNo(2), &mut into) == Ok(()) && into.bytes[0] == 3
+}
+
 #[test]
 fn all_pages_are_read(rt: HostRuntime) -> Result<(), Fail> {
-    let alloc = rt.alloc();
-    let mut volume = three(alloc, None)?;
-    let Ok(frames) = Frames::read_behind(alloc, page_of(alloc, 1)?, &mut volume, 3) else {
-        panic!(rt; "no failure was asked for");
-    };
-    let mut into = Page { bytes: [0; 8192] };
-    let copied = frames.copied(alloc);
-    assert!(rt; copied.is_ok());
-    assert_eq!(rt; frames.page(0).bytes[8191], 1);
-    let mut reader = FramesReader::of(&frames);
-    assert_eq!(rt; reader.page(PageNo(2), &mut into), Ok(()));
-    assert_eq!(rt; into.bytes[0], 3);
+    let mut volume = three(rt.alloc(), None)?;
+    let frames = frames_of(rt.alloc(), &mut volume)?;
+    expect(&rt, frames.copied(rt.alloc()).is_ok());
+    expect(&rt, frames.page(0).bytes[8191] == 1);
+    expect(&rt, reads_threes(&frames));
     Ok(())
 }
 
 #[test]
 fn a_page_that_is_not_read_is_named(rt: HostRuntime) -> Result<(), Fail> {
-    let alloc = rt.alloc();
-    let mut volume = three(alloc, Some(1))?;
-    let stop = Frames::read_behind(alloc, page_of(alloc, 1)?, &mut volume, 3).err();
-    assert_eq!(rt; stop, Some(ReadStop::Fault(PageNo(1))));
-    let mut untouched = three(alloc, Some(0))?;
-    assert!(rt; Frames::read_behind(alloc, page_of(alloc, 1)?, &mut untouched, 3).is_ok());
+    let stop = stop_at(rt.alloc(), 1)?;
+    expect(&rt, stop == Some(ReadStop::Fault(PageNo(1))));
+    expect(&rt, stop_at(rt.alloc(), 0)?.is_none());
     Ok(())
 }
 
-#[test]
-fn changed_pages_are_written_in_rising_order(rt: HostRuntime) -> Result<(), Fail> {
-    let alloc = rt.alloc();
-    let mut volume = three(alloc, None)?;
-    let Ok(mut frames) = Frames::read_behind(alloc, page_of(alloc, 1)?, &mut volume, 3) else {
-        panic!(rt; "no failure was asked for");
-    };
+// Changes two bytes at the end of page 2, and bit 1 of page 0.
+fn put_both(frames: &mut Frames)
+    requires { length frames.old ≡ 3 }
+    ensures { length frames.new ≡ 3 }
+{
     frames.put(
         Cell::Bytes {
             page: PageNo(2),
@@ -116,23 +128,54 @@ fn changed_pages_are_written_in_rising_order(rt: HostRuntime) -> Result<(), Fail
         },
         &[1],
     );
-    let marks = vec![in alloc; true, false, true]?;
-    assert_eq!(rt; frames.write_back(&mut volume, &marks), Ok(()));
-    assert_eq!(rt; volume.written.as_slice(), [0, 2].as_slice());
-    let bytes = |p: usize, at: usize| volume.pages.get(p).map(|page| page.bytes[at]);
-    assert_eq!(rt; bytes(0, 96), Some(3));
-    assert_eq!(rt; bytes(1, 0), Some(2));
-    assert_eq!(rt; bytes(2, 8190), Some(7));
-    assert_eq!(rt; bytes(2, 8191), Some(8));
-    volume.failing = Some(2);
-    assert_eq!(rt; frames.write_back(&mut volume, &marks), Err(DeviceFailed));
-    assert_eq!(rt; volume.written.as_slice(), [0, 2, 0].as_slice());
-    Ok(())
+}
+
+fn byte_at(volume: &Untold, p: usize, at: usize) -> Option<u8>
+    requires { at < 8192 }
+{
+    match volume.pages.get(p) {
+        Some(page) => Some(page.bytes[at]),
+        None => None,
+    }
+}
+
+fn holds_changes(volume: &Untold) -> bool {
+    byte_at(volume, 0, 96) == Some(3)
+        && byte_at(volume, 1, 0) == Some(2)
+        && byte_at(volume, 2, 8190) == Some(7)
+        && byte_at(volume, 2, 8191) == Some(8)
+}
+
+static MARKS: [bool; 3] = [true, false, true];
+
+// Writes pages 0 and 2 back; the numbers are those of all pages that have been written since the file was made.
+fn expect_written(
+    rt: &impl Abort,
+    frames: &Frames,
+    volume: &mut Untold,
+    wanted: Result<(), DeviceFailed>,
+    numbers: &[u32],
+)
+    requires { length frames.now ≡ 3 }
+{
+    expect(rt, frames.write_back(volume, &MARKS) == wanted);
+    expect(rt, volume.written.as_slice() == numbers);
 }
 
 #[test]
-fn the_changes_of_a_log_name_its_pages(rt: HostRuntime) -> Result<(), Fail> {
-    let alloc = rt.alloc();
+fn changed_pages_are_written_in_rising_order(rt: HostRuntime) -> Result<(), Fail> {
+    let mut volume = three(rt.alloc(), None)?;
+    let mut frames = frames_of(rt.alloc(), &mut volume)?;
+    put_both(&mut frames);
+    expect_written(&rt, &frames, &mut volume, Ok(()), &[0, 2]);
+    expect(&rt, holds_changes(&volume));
+    volume.failing = Some(2);
+    expect_written(&rt, &frames, &mut volume, Err(DeviceFailed), &[0, 2, 0]);
+    Ok(())
+}
+
+// A change of a bit of page 2, its undoing, and a commit.
+fn records(alloc: Global) -> Result<Vec<Record>, Fail> {
     let change = Record::Change {
         tran: Tran(1),
         cell: Cell::Bit {
@@ -146,10 +189,17 @@ fn the_changes_of_a_log_name_its_pages(rt: HostRuntime) -> Result<(), Fail> {
         tran: Tran(1),
         change: Lsn(1),
     };
-    let items = vec![in alloc; change, undo, Record::Commit { tran: Tran(1) }]?;
-    let Ok(marks) = changed_pages(alloc, &items, 4) else {
-        panic!(rt; "memory is ample");
-    };
-    assert_eq!(rt; marks.as_slice(), [false, false, true, false].as_slice());
+    Ok(vec![in alloc; change, undo, Record::Commit { tran: Tran(1) }]?)
+}
+
+fn marks_page_two(alloc: Global, items: &[Record]) -> Result<bool, Fail> {
+    let marks = changed_pages(alloc, items, 4)?;
+    Ok(marks.as_slice() == [false, false, true, false].as_slice())
+}
+
+#[test]
+fn the_changes_of_a_log_name_its_pages(rt: HostRuntime) -> Result<(), Fail> {
+    let items = records(rt.alloc())?;
+    expect(&rt, marks_page_two(rt.alloc(), &items)?);
     Ok(())
 }

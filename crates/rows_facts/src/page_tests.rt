@@ -1,10 +1,12 @@
 // The errors, facts and rows of one page, which is page 10.
 ghost use Rattle.std.specs.Prelude.{◌<◌, ◌≤◌};
 
-use crate::made::{error, object};
-use ck_facts::{CheckError, Fact, facts_of_page};
-use pg_base::{Header, Kind, ObjId, Page, PageNo, put_u16, put_u32, write_header};
+use crate::made::{HEAP, MadeRow, WRONG, catalog_row, expect_errors};
+use ck_facts::{CheckError, Fact, PageFacts, facts_of_page};
+use pg_base::{Header, Kind, NoMemory, ObjId, Page, PageNo, put_u16, put_u32, write_header};
 use spec_tree::{IndexRow, PageHead};
+use std::alloc::Global;
+use std::process::Abort;
 use std::test::Fail;
 
 // Page 10 of object 1, a data page without rows.
@@ -34,8 +36,27 @@ const EMPTY_HEAD: PageHead = PageHead {
 };
 
 // An error of that page, which object 1 owns.
-fn shown_error(number: u32, other: u32, slot: u32, value: u64) -> CheckError {
-    error(number, 1, 10, other, slot, value)
+const SHOWN: CheckError = CheckError { page: 10, ..WRONG };
+
+static A_HEAP: MadeRow = MadeRow { root: 10, ..HEAP };
+
+static A_TABLE: MadeRow = MadeRow {
+    kind: Kind::Clustered,
+    root: 10,
+    ..HEAP
+};
+
+// What the page shows where it is of this object and has this PFS byte.
+fn shown(alloc: Global, page: &Page, object: &MadeRow, pfs: u8) -> Result<PageFacts, NoMemory> {
+    facts_of_page(alloc, page, PageNo(10), &catalog_row(alloc, object)?, pfs)
+}
+
+fn expect_facts(rt: &impl Abort, shown: &PageFacts, wanted: &[Fact]) {
+    assert_eq!(rt; shown.facts.as_slice(), wanted);
+}
+
+fn expect_rows(rt: &impl Abort, shown: &PageFacts, rows: u64, seen: bool) {
+    assert_eq!(rt; (shown.rows, shown.seen), (rows, seen));
 }
 
 fn put_data_row(page: &mut Page, slot: usize, at: usize, size: u16, key: u8)
@@ -75,86 +96,118 @@ fn fill(page: &mut Page, last: u16)
     put_data_row(page, 6, 6240, last, 7);
 }
 
+// How long the last row is, the PFS byte, and the errors.
+type FullnessCase = (u16, u8, &'static [CheckError]);
+
+static FULLNESS_CASES: [FullnessCase; 4] = [
+    (318, 0x62, &[]),
+    (
+        318,
+        0x63,
+        &[CheckError {
+            number: 8914,
+            value: 99,
+            ..SHOWN
+        }],
+    ),
+    (319, 0x63, &[]),
+    (
+        319,
+        0x62,
+        &[CheckError {
+            number: 8914,
+            value: 98,
+            ..SHOWN
+        }],
+    ),
+];
+
+static SEVEN_ROWS: [Fact; 1] = [Fact::Seen(PageHead {
+    first: Some(1),
+    last: Some(7),
+    ..EMPTY_HEAD
+})];
+
+fn expect_fullness(
+    rt: &impl Abort,
+    alloc: Global,
+    last: u16,
+    pfs: u8,
+    wanted: &[CheckError],
+) -> Result<(), NoMemory>
+    requires { last ≤ 1024 }
+{
+    let mut page = Page::zeroed(alloc)?;
+    fill(&mut page, last);
+    let shown = shown(alloc, &page, &A_HEAP, pfs)?;
+    expect_rows(rt, &shown, 7, true);
+    expect_errors(rt, shown.errors.as_slice(), wanted, "fullness");
+    expect_facts(rt, &shown, &SEVEN_ROWS);
+    Ok(())
+}
+
 #[test]
 fn a_heap_page_has_the_fullness_of_its_rows(rt: HostRuntime) -> Result<(), Fail> {
-    let heap = object(rt.alloc(), 1, Kind::Heap, 10)?;
-    let cases = [
-        (318, 0x62, None),
-        (318, 0x63, Some(99)),
-        (319, 0x63, None),
-        (319, 0x62, Some(98)),
-    ];
-    for (last, pfs, wrong) in cases {
-        assert!(rt; last <= 1024);
-        let mut page = Page::zeroed(rt.alloc())?;
-        fill(&mut page, last);
-        let shown = facts_of_page(rt.alloc(), &page, PageNo(10), &heap, pfs)?;
-        assert!(rt; shown.seen);
-        assert_eq!(rt; shown.rows, 7);
-        assert_eq!(rt;
-            shown.errors.as_slice().first().copied(),
-            wrong.map(|value| shown_error(8914, 0, 0, value))
-        );
-        assert_eq!(rt; shown.errors.len(), wrong.iter().count());
-        let head = PageHead {
-            first: Some(1),
-            last: Some(7),
-            ..EMPTY_HEAD
-        };
-        assert_eq!(rt; shown.facts.as_slice(), &[Fact::Seen(head)][..]);
+    for (last, pfs, wanted) in FULLNESS_CASES.iter() {
+        assert!(rt; *last <= 1024);
+        expect_fullness(&rt, rt.alloc(), *last, *pfs, wanted)?;
     }
     Ok(())
 }
 
+static FOUR_ROWS: Header = Header {
+    slots: 4,
+    free_count: 8096 - 4 * 14,
+    free_from: 96 + 4 * 12,
+    ..EMPTY
+};
+
 // Four rows with keys 5, 5, 3 and 8.
 fn put_keys_out_of_order(page: &mut Page) {
-    let header = Header {
-        slots: 4,
-        free_count: 8096 - 4 * 14,
-        free_from: 96 + 4 * 12,
-        ..EMPTY
-    };
-    write_header(page, &header);
+    write_header(page, &FOUR_ROWS);
     put_data_row(page, 0, 96, 12, 5);
     put_data_row(page, 1, 108, 12, 5);
     put_data_row(page, 2, 120, 12, 3);
     put_data_row(page, 3, 132, 12, 8);
 }
 
+static OUT_OF_ORDER: [CheckError; 2] = [
+    CheckError {
+        number: 2511,
+        slot: 1,
+        value: 5,
+        ..SHOWN
+    },
+    CheckError {
+        number: 2511,
+        slot: 2,
+        value: 3,
+        ..SHOWN
+    },
+];
+
 #[test]
 fn keys_out_of_order_are_told_in_a_clustered_table(rt: HostRuntime) -> Result<(), Fail> {
-    let alloc = rt.alloc();
-    let mut page = Page::zeroed(alloc)?;
+    let mut page = Page::zeroed(rt.alloc())?;
     put_keys_out_of_order(&mut page);
-    let leaf = object(alloc, 1, Kind::Clustered, 10)?;
-    let shown = facts_of_page(alloc, &page, PageNo(10), &leaf, 0x40)?;
-    assert_eq!(rt;
-        shown.errors.as_slice(),
-        &[shown_error(2511, 0, 1, 5), shown_error(2511, 0, 2, 3)][..]
-    );
-    assert_eq!(rt; shown.rows, 4);
-    let heap = object(alloc, 1, Kind::Heap, 10)?;
-    let shown = facts_of_page(alloc, &page, PageNo(10), &heap, 0x41)?;
-    assert!(rt; shown.errors.is_empty());
+    let in_table = shown(rt.alloc(), &page, &A_TABLE, 0x40)?;
+    expect_errors(&rt, in_table.errors.as_slice(), &OUT_OF_ORDER, "table");
+    expect_rows(&rt, &in_table, 4, true);
+    let in_heap = shown(rt.alloc(), &page, &A_HEAP, 0x41)?;
+    expect_errors(&rt, in_heap.errors.as_slice(), &[], "heap");
     Ok(())
 }
 
-// Level 1, with rows that name pages 12 and 13.
-fn put_index_page(page: &mut Page) {
-    let header = Header {
-        page_type: 2,
-        level: 1,
-        prev: PageNo(20),
-        next: PageNo(21),
-        slots: 2,
-        free_count: 8096 - 2 * 15,
-        free_from: 96 + 2 * 13,
-        ..EMPTY
-    };
-    write_header(page, &header);
-    put_index_row(page, 0, 96, 0, 12);
-    put_index_row(page, 1, 109, 7, 13);
-}
+static INDEX_HEADER: Header = Header {
+    page_type: 2,
+    level: 1,
+    prev: PageNo(20),
+    next: PageNo(21),
+    slots: 2,
+    free_count: 8096 - 2 * 15,
+    free_from: 96 + 2 * 13,
+    ..EMPTY
+};
 
 // The row that names page 12.
 const FIRST_ROW: IndexRow = IndexRow {
@@ -170,13 +223,8 @@ const FIRST_ROW: IndexRow = IndexRow {
     parent_next: PageNo(21),
 };
 
-#[test]
-fn an_index_page_shows_each_of_its_rows(rt: HostRuntime) -> Result<(), Fail> {
-    let mut page = Page::zeroed(rt.alloc())?;
-    put_index_page(&mut page);
-    let clustered = object(rt.alloc(), 1, Kind::Clustered, 10)?;
-    let shown = facts_of_page(rt.alloc(), &page, PageNo(10), &clustered, 0x40)?;
-    let head = PageHead {
+static INDEX_FACTS: [Fact; 3] = [
+    Fact::Seen(PageHead {
         level: 1,
         prev: PageNo(20),
         next: PageNo(21),
@@ -184,55 +232,63 @@ fn an_index_page_shows_each_of_its_rows(rt: HostRuntime) -> Result<(), Fail> {
         last: Some(7),
         last_child: PageNo(13),
         ..EMPTY_HEAD
-    };
-    let second = IndexRow {
+    }),
+    Fact::Child(FIRST_ROW),
+    Fact::Child(IndexRow {
         slot: 1,
         key: 7,
         next_key: None,
         child: PageNo(13),
         before: PageNo(12),
         ..FIRST_ROW
-    };
-    assert_eq!(rt;
-        shown.facts.as_slice(),
-        &[
-            Fact::Seen(head),
-            Fact::Child(FIRST_ROW),
-            Fact::Child(second)
-        ][..]
-    );
-    assert!(rt; shown.errors.is_empty());
-    assert_eq!(rt; shown.rows, 0);
+    }),
+];
+
+// Level 1, with rows that name pages 12 and 13.
+#[test]
+fn an_index_page_shows_each_of_its_rows(rt: HostRuntime) -> Result<(), Fail> {
+    let mut page = Page::zeroed(rt.alloc())?;
+    write_header(&mut page, &INDEX_HEADER);
+    put_index_row(&mut page, 0, 96, 0, 12);
+    put_index_row(&mut page, 1, 109, 7, 13);
+    let shown = shown(rt.alloc(), &page, &A_TABLE, 0x40)?;
+    expect_facts(&rt, &shown, &INDEX_FACTS);
+    expect_errors(&rt, shown.errors.as_slice(), &[], "index page");
+    expect_rows(&rt, &shown, 0, true);
     Ok(())
 }
+
+static OF_ANOTHER: Header = Header {
+    object: ObjId(2),
+    ..EMPTY
+};
+
+static OWNED_BY_ANOTHER: [CheckError; 1] = [CheckError {
+    number: 2534,
+    other: 2,
+    ..SHOWN
+}];
 
 #[test]
 fn a_page_of_another_object_shows_only_its_fault(rt: HostRuntime) -> Result<(), Fail> {
     let mut page = Page::zeroed(rt.alloc())?;
-    write_header(
-        &mut page,
-        &Header {
-            object: ObjId(2),
-            ..EMPTY
-        },
-    );
-    let heap = object(rt.alloc(), 1, Kind::Heap, 10)?;
-    let shown = facts_of_page(rt.alloc(), &page, PageNo(10), &heap, 0x43)?;
-    assert_eq!(rt; shown.errors.as_slice(), &[shown_error(2534, 2, 0, 0)][..]);
-    assert!(rt; shown.facts.is_empty());
-    assert_eq!(rt; shown.rows, 0);
-    assert!(rt; !shown.seen);
+    write_header(&mut page, &OF_ANOTHER);
+    let shown = shown(rt.alloc(), &page, &A_HEAP, 0x43)?;
+    expect_errors(&rt, shown.errors.as_slice(), &OWNED_BY_ANOTHER, "another's");
+    expect_facts(&rt, &shown, &[]);
+    expect_rows(&rt, &shown, 0, false);
     Ok(())
 }
+
+static ONLY_A_HEAD: [Fact; 1] = [Fact::Seen(EMPTY_HEAD)];
 
 #[test]
 fn an_empty_leaf_has_no_first_and_no_last_key(rt: HostRuntime) -> Result<(), Fail> {
     let mut page = Page::zeroed(rt.alloc())?;
     write_header(&mut page, &EMPTY);
-    let clustered = object(rt.alloc(), 1, Kind::Clustered, 10)?;
-    let shown = facts_of_page(rt.alloc(), &page, PageNo(10), &clustered, 0x40)?;
-    assert_eq!(rt; shown.facts.as_slice(), &[Fact::Seen(EMPTY_HEAD)][..]);
-    assert!(rt; shown.errors.is_empty());
-    assert!(rt; shown.seen);
+    let shown = shown(rt.alloc(), &page, &A_TABLE, 0x40)?;
+    expect_facts(&rt, &shown, &ONLY_A_HEAD);
+    expect_errors(&rt, shown.errors.as_slice(), &[], "empty leaf");
+    expect_rows(&rt, &shown, 0, true);
     Ok(())
 }

@@ -2,8 +2,10 @@
 ghost use Rattle.std.specs.Prelude.{◌<◌, None, false, []};
 
 use ck_alloc::read_maps;
+use ck_facts::{AllocMap, CatRow};
 use db_cat::catalog_passes;
 use pg_base::{Geometry, ObjId, Page, PageNo, ReadStop, SnapReader, put_u32};
+use std::process::Abort;
 use std::test::Fail;
 
 // Puts a heap with first IAM page 8 into an entry.
@@ -60,17 +62,33 @@ impl SnapReader for SystemPages {
     }
 }
 
+// The ids and names of objects, by id.
+static BY_ID: [(u32, &str); 3] = [(2, "c"), (5, "b"), (7, "a")];
+
+fn is_object(row: &CatRow, id: u32, name: &str) -> bool {
+    row.id == ObjId(id) && row.name.as_str() == name
+}
+
+fn expect_objects(rt: &impl Abort, map: &AllocMap) {
+    assert_eq!(rt; map.objects.len(), BY_ID.len());
+    for (row, (id, name)) in map.objects.iter().zip(BY_ID.iter()) {
+        assert!(rt; is_object(row, *id, name), "object {id}");
+    }
+}
+
+#[test]
+fn the_catalog_of_the_file_passes(rt: HostRuntime) -> Result<(), Fail> {
+    let mut reader = SystemPages { pages: 16 };
+    let mut boot = Page::zeroed(rt.alloc())?;
+    assert!(rt; reader.page(PageNo(9), &mut boot).is_ok());
+    assert!(rt; catalog_passes(&boot));
+    Ok(())
+}
+
 #[test]
 fn objects_stand_by_id(rt: HostRuntime) -> Result<(), Fail> {
     let mut reader = SystemPages { pages: 16 };
-    let mut boot = Page::zeroed(rt.alloc())?;
-    assert_eq!(rt; reader.page(PageNo(9), &mut boot), Ok(()));
-    assert!(rt; catalog_passes(&boot));
     let map = read_maps(rt.alloc(), &mut reader, Geometry::Small, 16)?;
-    assert_eq!(rt; map.objects.len(), 3);
-    assert_eq!(rt; map.objects[0].id, ObjId(2));
-    assert_eq!(rt; map.objects[0].name.as_str(), "c");
-    assert_eq!(rt; map.objects[1].id, ObjId(5));
-    assert_eq!(rt; map.objects[2].id, ObjId(7));
+    expect_objects(&rt, &map);
     Ok(())
 }

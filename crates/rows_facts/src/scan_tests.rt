@@ -1,14 +1,12 @@
 // The report of a file's maps and pages, and which pages a scan reads.
-ghost use Rattle.std.specs.Prelude.{◌≡◌, None, IfOk, false, []};
+ghost use Rattle.std.specs.Prelude.{None, false, []};
 
-use crate::made::{error, extent, used};
-use ck_facts::{AllocMap, CatRow, CheckError, CheckReport, PageUse, TableLine};
+use crate::made::{HEAP, MARKED, MIXED, MadeMap, MadeRow, TAKEN, WRONG, expect_errors, map_of};
+use ck_facts::{CheckError, CheckReport, PageUse, TableLine};
 use ck_scan::scan_one;
-use pg_base::{
-    Geometry, Header, Kind, NoMemory, ObjId, Page, PageNo, ReadStop, SnapReader, put_u16,
-    write_header,
-};
+use pg_base::{Header, ObjId, Page, PageNo, ReadStop, SnapReader, put_u16, write_header};
 use std::alloc::Global;
+use std::process::Abort;
 use std::test::Fail;
 
 // Heap pages of object 1, each with one row, but for page 17, which says that it is page 18. It counts the pages
@@ -46,75 +44,178 @@ impl SnapReader for HeapPages {
 
 const ROW: [u8; 12] = [0x10, 12, 0, 1, 0, 0, 0, 0, 0, 0, 0, b'a'];
 
+static HEADER: Header = Header {
+    page_type: 1,
+    level: 0,
+    page_id: PageNo(0),
+    object: ObjId(1),
+    prev: PageNo(0),
+    next: PageNo(0),
+    slots: 1,
+    free_count: 8082,
+    free_from: 108,
+    ghosts: 0,
+};
+
 fn heap_page(page: &mut Page, p: u32) {
     let header = Header {
-        page_type: 1,
-        level: 0,
         page_id: PageNo(p),
-        object: ObjId(1),
-        prev: PageNo(0),
-        next: PageNo(0),
-        slots: 1,
-        free_count: 8082,
-        free_from: 108,
-        ghosts: 0,
+        ..HEADER
     };
     write_header(page, &header);
     page.bytes[96..108].copy_from_slice(&ROW);
     put_u16(page, 8190, 96);
 }
 
-fn row(alloc: Global, id: u32, name: &str, first_iam: u32) -> Result<CatRow, NoMemory> {
-    Ok(CatRow {
-        id: ObjId(id),
-        kind: Kind::Heap,
-        name: String::from_str(alloc, name)?,
-        first_iam: PageNo(first_iam),
-        root: PageNo(0),
-    })
-}
-
-// Heaps 1 and 2 have pages 11 and 12 in their chains, and these pages in slots. Heap 1 marks extent 2, of which 16
-// and 17 are allocated.
-fn two_heaps(alloc: Global, system: Vec<CheckError>, uses: &[PageUse]) -> Result<AllocMap, NoMemory>
-    ensures { IfOk result (λ map. map.pages ≡ 24) }
-{
-    let pfs = [
+// Heaps 1 and 2 have pages 11 and 12 in their chains, and pages in slots. Heap 1 marks extent 2, of which 16 and 17
+// are allocated.
+const TWO_HEAPS: MadeMap = MadeMap {
+    objects: &[
+        MadeRow {
+            first_iam: 11,
+            ..HEAP
+        },
+        MadeRow {
+            id: 2,
+            name: "u",
+            first_iam: 12,
+            ..HEAP
+        },
+    ],
+    chains: &[],
+    uses: &[],
+    extents: &[TAKEN, MIXED, MARKED],
+    pfs: &[
         0x44, 0x44, 0x44, 0x44, 0, 0, 0, 0, 0, 0x64, 0x60, 0x70, 0x70, 0, 0, 0, 0x40, 0x40, 0, 0,
         0, 0, 0, 0,
-    ];
-    let mut objects = Vec::new(alloc);
-    objects.push(row(alloc, 1, "t", 11)?)?;
-    objects.push(row(alloc, 2, "u", 12)?)?;
-    Ok(AllocMap {
-        geometry: Geometry::Small,
-        pages: 24,
-        system,
-        objects,
-        chains: Vec::new(alloc),
-        uses: Vec::from_slice(alloc, uses)?,
-        extents: Vec::from_slice(
-            alloc,
-            &[
-                extent(false, false, 0),
-                extent(false, true, 0),
-                extent(false, false, 1),
-            ],
-        )?,
-        pfs: Vec::from_slice(alloc, &pfs)?,
-    })
-}
+    ],
+};
 
-// The report of two heaps with these uses of pages, and how many pages are read.
-fn scanned(alloc: Global, uses: &[PageUse]) -> Result<(CheckReport, u32), Fail> {
+// The report of these maps, and how many pages are read.
+fn scanned(
+    alloc: Global,
+    map: &MadeMap,
+    system: &[CheckError],
+) -> Result<(CheckReport, u32), Fail> {
     let mut reader = HeapPages {
         pages: 24,
         reads: 0,
     };
-    let map = two_heaps(alloc, Vec::new(alloc), uses)?;
+    let map = map_of(alloc, 24, map, system)?;
     let report = scan_one(alloc, &mut reader, &map).ok().ok_or("no report")?;
     Ok((report, reader.reads))
 }
+
+// What a case is called, its maps, how many rows object 1 has in so many pages, and how many pages are read.
+type Case = (&'static str, MadeMap, u64, u32);
+
+static CASES: [Case; 4] = [
+    (
+        "chains alone",
+        MadeMap {
+            uses: &[
+                PageUse {
+                    page: 11,
+                    object: 1,
+                    place: 8,
+                },
+                PageUse {
+                    page: 12,
+                    object: 2,
+                    place: 8,
+                },
+            ],
+            ..TWO_HEAPS
+        },
+        1,
+        2,
+    ),
+    (
+        "a page that one object owns",
+        MadeMap {
+            uses: &[
+                PageUse {
+                    page: 10,
+                    object: 1,
+                    place: 0,
+                },
+                PageUse {
+                    page: 11,
+                    object: 1,
+                    place: 8,
+                },
+                PageUse {
+                    page: 12,
+                    object: 2,
+                    place: 8,
+                },
+            ],
+            ..TWO_HEAPS
+        },
+        2,
+        3,
+    ),
+    (
+        "a page that two objects own",
+        MadeMap {
+            uses: &[
+                PageUse {
+                    page: 10,
+                    object: 1,
+                    place: 0,
+                },
+                PageUse {
+                    page: 10,
+                    object: 2,
+                    place: 0,
+                },
+                PageUse {
+                    page: 11,
+                    object: 1,
+                    place: 8,
+                },
+                PageUse {
+                    page: 12,
+                    object: 2,
+                    place: 8,
+                },
+            ],
+            ..TWO_HEAPS
+        },
+        2,
+        3,
+    ),
+    (
+        "pages that aren't ordinary",
+        MadeMap {
+            uses: &[
+                PageUse {
+                    page: 3,
+                    object: 1,
+                    place: 0,
+                },
+                PageUse {
+                    page: 9,
+                    object: 2,
+                    place: 0,
+                },
+                PageUse {
+                    page: 11,
+                    object: 1,
+                    place: 8,
+                },
+                PageUse {
+                    page: 12,
+                    object: 2,
+                    place: 8,
+                },
+            ],
+            ..TWO_HEAPS
+        },
+        1,
+        2,
+    ),
+];
 
 fn line(object: u32, rows: u64) -> TableLine {
     TableLine {
@@ -124,51 +225,48 @@ fn line(object: u32, rows: u64) -> TableLine {
     }
 }
 
+fn expect_tables(rt: &impl Abort, found: &CheckReport, wanted: &[TableLine], name: &str) {
+    assert_eq!(rt; found.tables.as_slice(), wanted, "{name}");
+}
+
+fn expect_reads(rt: &impl Abort, found: u32, wanted: u32, name: &str) {
+    assert_eq!(rt; found, wanted, "{name}");
+}
+
 // Pages 16 and 17 are read in each of these, and 17 fails its test. A page that two objects own is read once, and
 // seen by the object that it names. A page that isn't ordinary isn't read, nor is one of a chain.
 #[test]
 fn each_page_that_objects_own_is_read_once(rt: HostRuntime) -> Result<(), Fail> {
-    let alloc = rt.alloc();
-    let chains: &[PageUse] = &[used(11, 1, 8), used(12, 2, 8)];
-    let one: &[PageUse] = &[used(10, 1, 0), used(11, 1, 8), used(12, 2, 8)];
-    let both: &[PageUse] = &[
-        used(10, 1, 0),
-        used(10, 2, 0),
-        used(11, 1, 8),
-        used(12, 2, 8),
-    ];
-    let not_ordinary: &[PageUse] = &[used(3, 1, 0), used(9, 2, 0), used(11, 1, 8), used(12, 2, 8)];
-    let cases = [
-        ("chains alone", chains, 1, 2),
-        ("a page that one object owns", one, 2, 3),
-        ("a page that two objects own", both, 2, 3),
-        ("pages that aren't ordinary", not_ordinary, 1, 2),
-    ];
-    for (name, uses, rows, wanted) in cases {
-        let (report, reads) = scanned(alloc, uses)?;
-        assert_eq!(rt;
-            report.tables.as_slice(),
-            &[line(1, rows), line(2, 0)][..],
-            "{name}"
-        );
-        assert_eq!(rt; reads, wanted, "{name}");
+    for (name, map, rows, wanted) in CASES.iter() {
+        let (report, reads) = scanned(rt.alloc(), map, &[])?;
+        expect_tables(&rt, &report, &[line(1, *rows), line(2, 0)], name);
+        expect_reads(&rt, reads, *wanted, name);
     }
     Ok(())
 }
 
+static ONE_USE: MadeMap = MadeMap {
+    uses: &[PageUse {
+        page: 10,
+        object: 1,
+        place: 0,
+    }],
+    ..TWO_HEAPS
+};
+
+static SYSTEM: [CheckError; 1] = [CheckError {
+    number: 8946,
+    object: 0,
+    page: 2,
+    value: 9,
+    ..WRONG
+}];
+
 #[test]
 fn system_errors_stand_alone(rt: HostRuntime) -> Result<(), Fail> {
-    let alloc = rt.alloc();
-    let wrong = error(8946, 0, 2, 0, 0, 9);
-    let mut reader = HeapPages {
-        pages: 24,
-        reads: 0,
-    };
-    let system = Vec::from_slice(alloc, &[wrong])?;
-    let map = two_heaps(alloc, system, &[used(10, 1, 0)])?;
-    let report = scan_one(alloc, &mut reader, &map).ok().ok_or("no report")?;
-    assert_eq!(rt; report.errors.as_slice(), &[wrong][..]);
-    assert!(rt; report.tables.is_empty());
-    assert_eq!(rt; reader.reads, 0);
+    let (report, reads) = scanned(rt.alloc(), &ONE_USE, &SYSTEM)?;
+    expect_errors(&rt, report.errors.as_slice(), &SYSTEM, "system");
+    expect_tables(&rt, &report, &[], "system");
+    expect_reads(&rt, reads, 0, "system");
     Ok(())
 }

@@ -1,9 +1,11 @@
 // The rows of the catalog, and an IAM page.
 ghost use Rattle.std.specs.Prelude.{◌<◌};
 
-use db_cat::{CatStop, catalog_passes, read_catalog};
+use crate::made::{expect, expect_bytes, expect_case};
+use db_cat::{CatRow, CatStop, catalog_passes, read_catalog};
 use pg_base::{Geometry, Kind, ObjId, Page, PageNo, put_u32};
-use pg_iam::{make_iam, set_mark, set_slot, test_iam};
+use pg_iam::{IamView, make_iam, set_mark, set_slot, test_iam};
+use std::alloc::Global;
 use std::test::Fail;
 
 // Puts a clustered table with first IAM page 8 and root 10 into an entry.
@@ -18,63 +20,104 @@ fn put_entry(page: &mut Page, at: usize, id: u32, name: u8)
     put_u32(page, at + 28, 10);
 }
 
-#[test]
-fn rows_stand_in_the_order_of_their_entries(rt: HostRuntime) -> Result<(), Fail> {
-    let mut page = Page::zeroed(rt.alloc())?;
-    assert_eq!(rt; read_catalog(rt.alloc(), &page)?.len(), 0);
-    put_entry(&mut page, 96, 2, b't');
-    put_entry(&mut page, 96 + 40 * 127, 1, b's');
-    let rows = read_catalog(rt.alloc(), &page)?;
-    assert_eq!(rt; rows.len(), 2);
-    let (first, second) = (&rows[0], &rows[1]);
-    assert_eq!(rt; first.id, ObjId(2));
-    assert_eq!(rt; first.kind, Kind::Clustered);
-    assert_eq!(rt; first.name.as_str(), "t");
-    assert_eq!(rt; first.first_iam, PageNo(8));
-    assert_eq!(rt; first.root, PageNo(10));
-    assert_eq!(rt; second.name.as_str(), "s");
-    Ok(())
+fn is_row(row: &CatRow, id: u32, name: &str) -> bool {
+    row.id == ObjId(id)
+        && row.kind == Kind::Clustered
+        && row.name.as_str() == name
+        && row.first_iam == PageNo(8)
+        && row.root == PageNo(10)
+}
+
+fn has_no_rows(alloc: Global, page: &Page) -> Result<bool, Fail> {
+    Ok(read_catalog(alloc, page)?.is_empty())
+}
+
+fn has_both_rows(alloc: Global, page: &Page) -> Result<bool, Fail> {
+    let rows = read_catalog(alloc, page)?;
+    Ok(rows.len() == 2 && is_row(&rows[0], 2, "t") && is_row(&rows[1], 1, "s"))
 }
 
 #[test]
-fn bad_catalogs_are_told(rt: HostRuntime) -> Result<(), Fail> {
-    let cases = [
-        (1, b's', true),
-        (2, b's', false),
-        (1, b't', false),
-        (0, b's', false),
-        (1, b'S', false),
-        (1, b'9', false),
-    ];
-    for (id, name, passes) in cases {
-        let mut page = Page::zeroed(rt.alloc())?;
-        put_entry(&mut page, 96, 2, b't');
-        put_entry(&mut page, 136, id, name);
-        assert_eq!(rt; catalog_passes(&page), passes, "id {id}, name {name}");
-    }
+fn rows_stand_in_the_order_of_their_entries(rt: HostRuntime) -> Result<(), Fail> {
     let mut page = Page::zeroed(rt.alloc())?;
-    page.bytes[136] = 1;
-    assert_eq!(rt; read_catalog(rt.alloc(), &page).err(), Some(CatStop::Bad));
+    expect(&rt, has_no_rows(rt.alloc(), &page)?);
+    put_entry(&mut page, 96, 2, b't');
+    put_entry(&mut page, 96 + 40 * 127, 1, b's');
+    expect(&rt, has_both_rows(rt.alloc(), &page)?);
     Ok(())
 }
+
+static SECOND_CASES: [(u32, u8, bool); 6] = [
+    (1, b's', true),
+    (2, b's', false),
+    (1, b't', false),
+    (0, b's', false),
+    (1, b'S', false),
+    (1, b'9', false),
+];
+
+#[test]
+fn bad_catalogs_are_told(rt: HostRuntime) -> Result<(), Fail> {
+    for (id, name, passes) in SECOND_CASES.iter() {
+        let mut page = Page::zeroed(rt.alloc())?;
+        put_entry(&mut page, 96, 2, b't');
+        put_entry(&mut page, 136, *id, *name);
+        expect_case(&rt, *id, u32::from(*name), catalog_passes(&page) == *passes);
+    }
+    Ok(())
+}
+
+fn is_bad(alloc: Global, page: &Page) -> bool {
+    match read_catalog(alloc, page) {
+        Ok(_) => false,
+        Err(stop) => stop == CatStop::Bad,
+    }
+}
+
+#[test]
+fn a_bad_catalog_is_not_read(rt: HostRuntime) -> Result<(), Fail> {
+    let mut page = Page::zeroed(rt.alloc())?;
+    page.bytes[136] = 1;
+    expect(&rt, is_bad(rt.alloc(), &page));
+    Ok(())
+}
+
+fn fill_iam(page: &mut Page) {
+    make_iam(page, PageNo(8), ObjId(3), 1, 2, PageNo(7));
+    set_slot(page, 7, PageNo(520));
+    set_mark(page, 9, true);
+}
+
+fn is_view(view: &IamView) -> bool {
+    view.object == ObjId(3)
+        && view.interval == 1
+        && view.sequence == 2
+        && view.prev == PageNo(7)
+        && view.next == PageNo(0)
+        && view.marks(9)
+        && !view.marks(8)
+        && view.slots().contains(&PageNo(520))
+}
+
+// Whether an IAM page shows what was put; none where it is no IAM page.
+fn shows(page: &Page, p: u32, pages: u32) -> Option<bool> {
+    match test_iam(page, PageNo(p), Geometry::Small, pages) {
+        Some(view) => Some(is_view(&view)),
+        None => None,
+    }
+}
+
+static SLOT_AND_MARKS: [u8; 6] = [8, 2, 0, 0, 0, 2];
 
 #[test]
 fn an_iam_page_shows_what_was_put(rt: HostRuntime) -> Result<(), Fail> {
     let mut page = Page::zeroed(rt.alloc())?;
-    make_iam(&mut page, PageNo(8), ObjId(3), 1, 2, PageNo(7));
-    set_slot(&mut page, 7, PageNo(520));
-    set_mark(&mut page, 9, true);
-    assert_eq!(rt; page.bytes[132..136], [8, 2, 0, 0][..]);
-    assert_eq!(rt; page.bytes[137], 2);
-    assert!(rt; test_iam(&page, PageNo(8), Geometry::Small, 512).is_none());
-    assert!(rt; test_iam(&page, PageNo(9), Geometry::Small, 520).is_none());
-    let view = test_iam(&page, PageNo(8), Geometry::Small, 520).ok_or("no IAM page")?;
-    assert_eq!(rt;
-        (view.object, view.interval, view.sequence),
-        (ObjId(3), 1, 2)
+    fill_iam(&mut page);
+    expect_bytes(&rt, &page.bytes[132..138], &SLOT_AND_MARKS);
+    expect(
+        &rt,
+        shows(&page, 8, 512) == None && shows(&page, 9, 520) == None,
     );
-    assert_eq!(rt; (view.prev, view.next), (PageNo(7), PageNo(0)));
-    assert!(rt; view.marks(9) && !view.marks(8));
-    assert!(rt; view.slots().contains(&PageNo(520)));
+    expect(&rt, shows(&page, 8, 520) == Some(true));
     Ok(())
 }

@@ -5,34 +5,20 @@ use plain_log::{
 use spec_file::{ExtentNo, Geometry, Lsn, NoMemory, PageNo, Resource, Tran};
 use spec_log::{Cell, Record, Values};
 use std::alloc::Global;
+use std::process::Abort;
 use std::test::Fail;
 
-fn start(alloc: Global, tran: u64) -> Record {
-    Record::Start {
-        session: 1,
-        index: 1,
-        tran: Tran(tran),
-        number: 0,
-        changes: 0,
-        size: 0,
-        takes: Values::new(alloc),
-    }
+// An item of a log, as the tests write it: first its transaction.
+enum Step {
+    Start(u64, &'static [Resource]),
+    Change(u64, Cell, &'static [u8], &'static [u8]),
+    Undo(u64, u64),
+    Commit(u64),
+    Abort(u64),
+    Snap(u16, u32),
 }
 
-fn change(alloc: Global, tran: u64, off: u32, before: u8, after: u8) -> Result<Record, NoMemory> {
-    Ok(Record::Change {
-        tran: Tran(tran),
-        cell: Cell::Bytes {
-            page: PageNo(0),
-            off,
-        },
-        before: Values::copied(alloc, &[before])?,
-        after: Values::copied(alloc, &[after])?,
-    })
-}
-
-/// A Start of the transaction that takes these.
-fn taking(alloc: Global, tran: u64, takes: &[Resource]) -> Result<Record, NoMemory> {
+fn start(alloc: Global, tran: u64, takes: &[Resource]) -> Result<Record, NoMemory> {
     Ok(Record::Start {
         session: 1,
         index: 1,
@@ -44,51 +30,44 @@ fn taking(alloc: Global, tran: u64, takes: &[Resource]) -> Result<Record, NoMemo
     })
 }
 
-/// A Change of the transaction that puts these bytes into a page.
-fn putting(
+fn change(
     alloc: Global,
     tran: u64,
-    page: u32,
-    off: u32,
+    cell: Cell,
+    before: &[u8],
     after: &[u8],
 ) -> Result<Record, NoMemory> {
     Ok(Record::Change {
         tran: Tran(tran),
-        cell: Cell::Bytes {
-            page: PageNo(page),
-            off,
-        },
-        before: Values::copied(alloc, after)?,
+        cell,
+        before: Values::copied(alloc, before)?,
         after: Values::copied(alloc, after)?,
     })
 }
 
-/// A Change of the transaction that sets a bit of a map page.
-fn marking(alloc: Global, tran: u64, page: u32, n: u32) -> Result<Record, NoMemory> {
-    Ok(Record::Change {
-        tran: Tran(tran),
-        cell: Cell::Bit {
-            page: PageNo(page),
-            n,
-        },
-        before: Values::copied(alloc, &[0])?,
-        after: Values::copied(alloc, &[1])?,
-    })
-}
-
-fn undoing(tran: u64, change: u64) -> Record {
-    Record::Undo {
-        tran: Tran(tran),
-        change: Lsn(change),
+fn item_of(alloc: Global, step: &Step) -> Result<Record, NoMemory> {
+    match step {
+        Step::Start(tran, takes) => start(alloc, *tran, takes),
+        Step::Change(tran, cell, before, after) => change(alloc, *tran, *cell, before, after),
+        Step::Undo(tran, change) => Ok(Record::Undo {
+            tran: Tran(*tran),
+            change: Lsn(*change),
+        }),
+        Step::Commit(tran) => Ok(Record::Commit { tran: Tran(*tran) }),
+        Step::Abort(tran) => Ok(Record::Abort { tran: Tran(*tran) }),
+        Step::Snap(session, index) => Ok(Record::Snap {
+            session: *session,
+            index: *index,
+        }),
     }
 }
 
-fn commit(tran: u64) -> Record {
-    Record::Commit { tran: Tran(tran) }
-}
-
-fn abort(tran: u64) -> Record {
-    Record::Abort { tran: Tran(tran) }
+fn log_of(alloc: Global, steps: &[Step]) -> Result<Vec<Record>, NoMemory> {
+    let mut items = Vec::new(alloc);
+    for step in steps {
+        items.push(item_of(alloc, step)?)?;
+    }
+    Ok(items)
 }
 
 /// One page of these bytes.
@@ -107,100 +86,150 @@ fn first_page(image: &PlainImage) -> &[u8] {
     }
 }
 
+fn expect_page(rt: &impl Abort, image: &PlainImage, wanted: &[u8]) {
+    assert_eq!(rt; first_page(image), wanted);
+}
+
+fn expect_start(
+    rt: &impl Abort,
+    alloc: Global,
+    opened: &[Step],
+    bytes: &[u8],
+    wanted: &[u8],
+) -> Result<(), NoMemory> {
+    let opened = log_of(alloc, opened)?;
+    let image = start_image(alloc, &opened, one_page(alloc, bytes)?)?;
+    expect_page(rt, &image, wanted);
+    Ok(())
+}
+
+fn expect_committed(
+    rt: &impl Abort,
+    alloc: Global,
+    opened: &[Step],
+    log: &[Step],
+    bytes: &[u8],
+    wanted: &[u8],
+) -> Result<(), NoMemory> {
+    let opened = log_of(alloc, opened)?;
+    let log = log_of(alloc, log)?;
+    let image = committed_image(alloc, &opened, &log, one_page(alloc, bytes)?)?;
+    expect_page(rt, &image, wanted);
+    Ok(())
+}
+
+fn expect_final(
+    rt: &impl Abort,
+    alloc: Global,
+    items: &[Step],
+    bytes: &[u8],
+    wanted: &[u8],
+) -> Result<(), NoMemory> {
+    let items = log_of(alloc, items)?;
+    let image = final_image(alloc, &items, 0, one_page(alloc, bytes)?)?;
+    expect_page(rt, &image, wanted);
+    Ok(())
+}
+
+fn expect_damage(
+    rt: &impl Abort,
+    alloc: Global,
+    opened: &[Step],
+    bytes: &[u8],
+    wanted: Option<PageNo>,
+) -> Result<(), NoMemory> {
+    let opened = log_of(alloc, opened)?;
+    let found = damaged_page(alloc, &opened, one_page(alloc, bytes)?)?;
+    assert_eq!(rt; found, wanted);
+    Ok(())
+}
+
+// Bytes 0 and 1 of the images' page.
+const BYTE_0: Cell = Cell::Bytes {
+    page: PageNo(0),
+    off: 0,
+};
+
+const BYTE_1: Cell = Cell::Bytes {
+    page: PageNo(0),
+    off: 1,
+};
+
+static LEFT_OPEN: [Step; 2] = [Step::Start(1, &[]), Step::Change(1, BYTE_0, &[0], &[97])];
+
+static NEXT_LOG: [Step; 3] = [
+    Step::Start(2, &[]),
+    Step::Change(2, BYTE_1, &[0], &[98]),
+    Step::Commit(2),
+];
+
 #[test]
 fn what_was_left_open_is_in_the_file_alone(rt: HostRuntime) -> Result<(), Fail> {
     let a = rt.alloc();
-    let opened = vec![in a; start(a, 1), change(a, 1, 0, 0, 97)?]?;
-    let log = vec![in a;
-        start(a, 2),
-        change(a, 2, 1, 0, 98)?,
-        Record::Commit { tran: Tran(2) },
-    ]?;
-    let began = start_image(a, opened.as_slice(), one_page(a, &[97, 0, 7])?)?;
-    assert_eq!(rt; first_page(&began), [0, 0, 7].as_slice());
-    let committed = committed_image(
-        a,
-        opened.as_slice(),
-        log.as_slice(),
-        one_page(a, &[97, 0, 7])?,
-    )?;
-    assert_eq!(rt; first_page(&committed), [0, 98, 7].as_slice());
+    expect_start(&rt, a, &LEFT_OPEN, &[97, 0, 7], &[0, 0, 7])?;
+    expect_committed(&rt, a, &LEFT_OPEN, &NEXT_LOG, &[97, 0, 7], &[0, 98, 7])?;
     Ok(())
 }
+
+static HALF_BACK: [Step; 4] = [
+    Step::Start(1, &[]),
+    Step::Change(1, BYTE_0, &[0], &[1]),
+    Step::Change(1, BYTE_1, &[0], &[2]),
+    Step::Undo(1, 3),
+];
 
 #[test]
 fn a_rollback_half_done_is_half_in_the_file(rt: HostRuntime) -> Result<(), Fail> {
     let a = rt.alloc();
-    let items = vec![in a;
-        start(a, 1),
-        change(a, 1, 0, 0, 1)?,
-        change(a, 1, 1, 0, 2)?,
-        Record::Undo {
-            tran: Tran(1),
-            change: Lsn(3)
-        },
-    ]?;
-    let file = final_image(a, items.as_slice(), 0, one_page(a, &[0, 0, 7])?)?;
-    assert_eq!(rt; first_page(&file), [1, 0, 7].as_slice());
-    let committed = committed_image(a, &[], items.as_slice(), one_page(a, &[0, 0, 7])?)?;
-    assert_eq!(rt; first_page(&committed), [0, 0, 7].as_slice());
+    expect_final(&rt, a, &HALF_BACK, &[0, 0, 7], &[1, 0, 7])?;
+    expect_committed(&rt, a, &[], &HALF_BACK, &[0, 0, 7], &[0, 0, 7])?;
     Ok(())
 }
+
+// What stands before the first Snap, and before the second.
+static BEFORE_FIRST: [Step; 2] = [Step::Start(1, &[]), Step::Change(1, BYTE_0, &[0], &[1])];
+
+static BEFORE_SECOND: [Step; 4] = [
+    Step::Start(1, &[]),
+    Step::Change(1, BYTE_0, &[0], &[1]),
+    Step::Snap(2, 1),
+    Step::Commit(1),
+];
 
 #[test]
 fn two_snaps_see_what_had_committed_before_each(rt: HostRuntime) -> Result<(), Fail> {
     let a = rt.alloc();
-    let items = vec![in a;
-        start(a, 1),
-        change(a, 1, 0, 0, 1)?,
-        Record::Snap {
-            session: 2,
-            index: 1
-        },
-        Record::Commit { tran: Tran(1) },
-        Record::Snap {
-            session: 2,
-            index: 2
-        },
-    ]?;
-    assert_eq!(rt; items.len(), 5);
-    let first = committed_image(a, &[], &items[..2], one_page(a, &[0, 7])?)?;
-    assert_eq!(rt; first_page(&first), [0, 7].as_slice());
-    let second = committed_image(a, &[], &items[..4], one_page(a, &[0, 7])?)?;
-    assert_eq!(rt; first_page(&second), [1, 7].as_slice());
+    expect_committed(&rt, a, &[], &BEFORE_FIRST, &[0, 7], &[0, 7])?;
+    expect_committed(&rt, a, &[], &BEFORE_SECOND, &[0, 7], &[1, 7])?;
     Ok(())
 }
 
-#[test]
-fn a_bit_turns_alone(rt: HostRuntime) -> Result<(), Fail> {
-    let a = rt.alloc();
-    let turned = Record::Change {
-        tran: Tran(1),
-        cell: Cell::Bit {
+static TURNED: [Step; 2] = [
+    Step::Start(1, &[]),
+    Step::Change(
+        1,
+        Cell::Bit {
             page: PageNo(0),
             n: 3,
         },
-        before: Values::copied(a, &[0])?,
-        after: Values::copied(a, &[1])?,
-    };
-    let items = vec![in a; start(a, 1), turned]?;
-    let file = final_image(a, items.as_slice(), 0, one_page(a, &[5; 98])?)?;
-    let bytes = first_page(&file);
-    assert_eq!(rt; bytes.len(), 98);
-    assert_eq!(rt; bytes[95], 5);
-    assert_eq!(rt; bytes[96], 13);
-    assert_eq!(rt; bytes[97], 5);
+        &[0],
+        &[1],
+    ),
+];
+
+#[test]
+fn a_bit_turns_alone(rt: HostRuntime) -> Result<(), Fail> {
+    let mut wanted = [5; 98];
+    wanted[96] = 13;
+    expect_final(&rt, rt.alloc(), &TURNED, &[5; 98], &wanted)?;
     Ok(())
 }
 
 #[test]
 fn a_damaged_cell_is_named_by_its_page(rt: HostRuntime) -> Result<(), Fail> {
     let a = rt.alloc();
-    let opened = vec![in a; start(a, 1), change(a, 1, 0, 0, 97)?]?;
-    let sound = damaged_page(a, opened.as_slice(), one_page(a, &[97, 7])?)?;
-    assert!(rt; sound.is_none());
-    let damaged = damaged_page(a, opened.as_slice(), one_page(a, &[98, 7])?)?;
-    assert_eq!(rt; damaged, Some(PageNo(0)));
+    expect_damage(&rt, a, &LEFT_OPEN, &[97, 7], None)?;
+    expect_damage(&rt, a, &LEFT_OPEN, &[98, 7], Some(PageNo(0)))?;
     Ok(())
 }
 
@@ -208,135 +237,245 @@ fn a_damaged_cell_is_named_by_its_page(rt: HostRuntime) -> Result<(), Fail> {
 // are ordinary, but page 9.
 const PAGES: u32 = 16;
 
-fn broken(items: &[Record]) -> Option<Lsn> {
-    first_broken(Geometry::Small, PAGES, items)
+fn expect_broken(
+    rt: &impl Abort,
+    alloc: Global,
+    log: &[Step],
+    wanted: Option<Lsn>,
+    name: &str,
+) -> Result<(), NoMemory> {
+    let items = log_of(alloc, log)?;
+    assert_eq!(rt;
+        first_broken(Geometry::Small, PAGES, &items),
+        wanted,
+        "{name}"
+    );
+    Ok(())
 }
+
+const PAGE_8: &[Resource] = &[Resource::Page(PageNo(8))];
+
+const EXTENT_1: &[Resource] = &[Resource::Extent(ExtentNo(1))];
+
+// Bytes 0, 1 and 96 of page 8.
+const OF_8: Cell = Cell::Bytes {
+    page: PageNo(8),
+    off: 0,
+};
+
+const NEXT_OF_8: Cell = Cell::Bytes {
+    page: PageNo(8),
+    off: 1,
+};
+
+const ROW_OF_8: Cell = Cell::Bytes {
+    page: PageNo(8),
+    off: 96,
+};
+
+static KEEPING: [(&str, &[Step]); 8] = [
+    (
+        "it changes a page that it holds",
+        &[
+            Step::Start(1, PAGE_8),
+            Step::Change(1, ROW_OF_8, &[1, 2], &[1, 2]),
+            Step::Commit(1),
+        ],
+    ),
+    (
+        "it takes what was given back",
+        &[
+            Step::Start(1, PAGE_8),
+            Step::Commit(1),
+            Step::Start(2, PAGE_8),
+        ],
+    ),
+    (
+        "it holds on in its next statement",
+        &[
+            Step::Start(1, PAGE_8),
+            Step::Start(1, &[]),
+            Step::Change(1, OF_8, &[1], &[1]),
+        ],
+    ),
+    (
+        "it changes the catalog",
+        &[
+            Step::Start(1, &[Resource::Catalog]),
+            Step::Change(
+                1,
+                Cell::Bytes {
+                    page: PageNo(9),
+                    off: 96,
+                },
+                &[1],
+                &[1],
+            ),
+        ],
+    ),
+    (
+        "it changes a PFS byte",
+        &[
+            Step::Start(1, &[Resource::Byte(PageNo(8))]),
+            Step::Change(
+                1,
+                Cell::Bytes {
+                    page: PageNo(1),
+                    off: 104,
+                },
+                &[1],
+                &[1],
+            ),
+        ],
+    ),
+    (
+        "it marks an extent",
+        &[
+            Step::Start(1, EXTENT_1),
+            Step::Change(
+                1,
+                Cell::Bit {
+                    page: PageNo(2),
+                    n: 1,
+                },
+                &[0],
+                &[1],
+            ),
+        ],
+    ),
+    (
+        "it goes back whole",
+        &[
+            Step::Start(1, PAGE_8),
+            Step::Change(1, OF_8, &[1], &[1]),
+            Step::Change(1, NEXT_OF_8, &[1], &[1]),
+            Step::Undo(1, 3),
+            Step::Undo(1, 2),
+            Step::Abort(1),
+        ],
+    ),
+    (
+        "a statement without transaction, and a check",
+        &[Step::Start(0, &[]), Step::Snap(1, 1)],
+    ),
+];
 
 #[test]
 fn these_logs_keep_the_rules(rt: HostRuntime) -> Result<(), Fail> {
-    let a = rt.alloc();
-    let page = Resource::Page(PageNo(8));
-    let logs = vec![in a;
-        vec![in a;
-            taking(a, 1, &[page])?,
-            putting(a, 1, 8, 96, &[1, 2])?,
-            commit(1)
-        ]?,
-        vec![in a; taking(a, 1, &[page])?, commit(1), taking(a, 2, &[page])?]?,
-        vec![in a;
-            taking(a, 1, &[page])?,
-            start(a, 1),
-            putting(a, 1, 8, 0, &[1])?
-        ]?,
-        vec![in a;
-            taking(a, 1, &[Resource::Catalog])?,
-            putting(a, 1, 9, 96, &[1])?
-        ]?,
-        vec![in a;
-            taking(a, 1, &[Resource::Byte(PageNo(8))])?,
-            putting(a, 1, 1, 104, &[1])?
-        ]?,
-        vec![in a;
-            taking(a, 1, &[Resource::Extent(ExtentNo(1))])?,
-            marking(a, 1, 2, 1)?
-        ]?,
-        vec![in a;
-            taking(a, 1, &[page])?,
-            putting(a, 1, 8, 0, &[1])?,
-            putting(a, 1, 8, 1, &[1])?,
-            undoing(1, 3),
-            undoing(1, 2),
-            abort(1),
-        ]?,
-        vec![in a;
-            start(a, 0),
-            Record::Snap {
-                session: 1,
-                index: 1
-            }
-        ]?,
-    ]?;
-    for (i, log) in logs.iter().enumerate() {
-        assert!(rt; broken(log.as_slice()).is_none(), "log {i}");
+    for (name, log) in KEEPING.iter() {
+        expect_broken(&rt, rt.alloc(), log, None, name)?;
     }
     Ok(())
 }
 
+// What the item with this number does wrong.
+static BREAKING: [(&str, &[Step], u64); 11] = [
+    (
+        "it takes what another holds",
+        &[Step::Start(1, PAGE_8), Step::Start(2, PAGE_8)],
+        2,
+    ),
+    (
+        "it changes a page that it doesn't hold",
+        &[
+            Step::Start(1, PAGE_8),
+            Step::Change(
+                1,
+                Cell::Bytes {
+                    page: PageNo(10),
+                    off: 96,
+                },
+                &[1],
+                &[1],
+            ),
+        ],
+        2,
+    ),
+    (
+        "it changes a byte that has no guard",
+        &[
+            Step::Start(1, PAGE_8),
+            Step::Change(
+                1,
+                Cell::Bytes {
+                    page: PageNo(0),
+                    off: 96,
+                },
+                &[1],
+                &[1],
+            ),
+        ],
+        2,
+    ),
+    (
+        "it changes PFS bytes of two extents at once",
+        &[
+            Step::Start(1, &[Resource::Byte(PageNo(7)), Resource::Byte(PageNo(8))]),
+            Step::Change(
+                1,
+                Cell::Bytes {
+                    page: PageNo(1),
+                    off: 103,
+                },
+                &[1, 1],
+                &[1, 1],
+            ),
+        ],
+        2,
+    ),
+    (
+        "the bit's extent is past the file's end",
+        &[
+            Step::Start(1, EXTENT_1),
+            Step::Change(
+                1,
+                Cell::Bit {
+                    page: PageNo(2),
+                    n: 2,
+                },
+                &[0],
+                &[1],
+            ),
+        ],
+        2,
+    ),
+    (
+        "it undoes a change that isn't the newest",
+        &[
+            Step::Start(1, PAGE_8),
+            Step::Change(1, OF_8, &[1], &[1]),
+            Step::Change(1, NEXT_OF_8, &[1], &[1]),
+            Step::Undo(1, 2),
+        ],
+        4,
+    ),
+    (
+        "it commits again",
+        &[Step::Start(1, &[]), Step::Commit(1), Step::Commit(1)],
+        3,
+    ),
+    (
+        "it starts again",
+        &[Step::Start(1, &[]), Step::Commit(1), Step::Start(1, &[])],
+        3,
+    ),
+    (
+        "it aborts with a change left",
+        &[
+            Step::Start(1, PAGE_8),
+            Step::Change(1, OF_8, &[1], &[1]),
+            Step::Abort(1),
+        ],
+        3,
+    ),
+    ("it skips a number", &[Step::Start(2, &[])], 1),
+    ("no transaction takes a page", &[Step::Start(0, PAGE_8)], 1),
+];
+
 #[test]
 fn the_first_item_that_breaks_a_rule_is_named(rt: HostRuntime) -> Result<(), Fail> {
-    let a = rt.alloc();
-    let page = Resource::Page(PageNo(8));
-    let apart = [Resource::Byte(PageNo(7)), Resource::Byte(PageNo(8))];
-    let logs = vec![in a;
-        (
-            "it takes what another holds",
-            vec![in a; taking(a, 1, &[page])?, taking(a, 2, &[page])?]?,
-            2
-        ),
-        (
-            "it changes a page that it doesn't hold",
-            vec![in a; taking(a, 1, &[page])?, putting(a, 1, 10, 96, &[1])?]?,
-            2
-        ),
-        (
-            "it changes a byte that has no guard",
-            vec![in a; taking(a, 1, &[page])?, putting(a, 1, 0, 96, &[1])?]?,
-            2
-        ),
-        (
-            "it changes PFS bytes of two extents at once",
-            vec![in a;
-                taking(a, 1, apart.as_slice())?,
-                putting(a, 1, 1, 103, &[1, 1])?
-            ]?,
-            2
-        ),
-        (
-            "the bit's extent is past the file's end",
-            vec![in a;
-                taking(a, 1, &[Resource::Extent(ExtentNo(1))])?,
-                marking(a, 1, 2, 2)?
-            ]?,
-            2
-        ),
-        (
-            "it undoes a change that isn't the newest",
-            vec![in a;
-                taking(a, 1, &[page])?,
-                putting(a, 1, 8, 0, &[1])?,
-                putting(a, 1, 8, 1, &[1])?,
-                undoing(1, 2),
-            ]?,
-            4
-        ),
-        (
-            "it commits again",
-            vec![in a; start(a, 1), commit(1), commit(1)]?,
-            3
-        ),
-        (
-            "it starts again",
-            vec![in a; start(a, 1), commit(1), start(a, 1)]?,
-            3
-        ),
-        (
-            "it aborts with a change left",
-            vec![in a;
-                taking(a, 1, &[page])?,
-                putting(a, 1, 8, 0, &[1])?,
-                abort(1)
-            ]?,
-            3
-        ),
-        ("it skips a number", vec![in a; start(a, 2)]?, 1),
-        (
-            "no transaction takes a page",
-            vec![in a; taking(a, 0, &[page])?]?,
-            1
-        ),
-    ]?;
-    for (name, log, lsn) in logs.iter() {
-        assert_eq!(rt; broken(log.as_slice()), Some(Lsn(*lsn)), "{name}");
+    for (name, log, lsn) in BREAKING.iter() {
+        expect_broken(&rt, rt.alloc(), log, Some(Lsn(*lsn)), name)?;
     }
     Ok(())
 }

@@ -2,6 +2,7 @@
 use run_file::{SourcesStop, Texts, read_sources};
 use spec_script::{ScriptWhy, Statement};
 use std::alloc::Global;
+use std::process::Abort;
 use std::test::Fail;
 use vol_dev::MemSource;
 
@@ -32,70 +33,121 @@ fn read(
     Ok(read_sources(alloc, &mut sources))
 }
 
-#[test]
-fn a_schedule_and_its_scripts_are_read(rt: HostRuntime) -> Result<(), Fail> {
-    let alloc = rt.alloc();
-    let texts = [
-        "1 2\n-- turns\n2 1\n",
-        "BEGIN\nCOMMIT\n",
-        "",
-        "DBCC CHECKDB",
-    ];
-    let Ok(found) = read(alloc, &texts, None)? else {
-        panic!(rt; "the texts are right");
-    };
+static TEXTS: [&str; 4] = [
+    "1 2\n-- turns\n2 1\n",
+    "BEGIN\nCOMMIT\n",
+    "",
+    "DBCC CHECKDB",
+];
+
+fn length_of(found: &Texts, script: usize) -> Option<usize> {
+    match found.scripts.get(script) {
+        Some(statements) => Some(statements.len()),
+        None => None,
+    }
+}
+
+fn ends_in_check(found: &Texts) -> bool {
+    match found.scripts.get(2) {
+        Some(statements) => matches!(statements.get(0), Some(Statement::Check { workers: 4 })),
+        None => false,
+    }
+}
+
+fn expect_texts(rt: &impl Abort, found: &Texts) {
     assert_eq!(rt; found.schedule.as_slice(), [(1, 2), (2, 1)].as_slice());
     assert_eq!(rt; found.scripts.len(), 3);
-    let lengths = |i: usize| found.scripts.get(i).map(|script| script.len());
-    assert_eq!(rt; lengths(0), Some(2));
-    assert_eq!(rt; lengths(1), Some(0));
-    assert_eq!(rt; lengths(2), Some(1));
-    let last = found.scripts.get(2).and_then(|script| script.get(0));
-    assert!(rt; matches!(last, Some(Statement::Check { workers: 4 })));
+    for (script, length) in [(0, 2), (1, 0), (2, 1)] {
+        assert_eq!(rt; length_of(found, script), Some(length), "script {script}");
+    }
+    assert!(rt; ends_in_check(found));
+}
+
+#[test]
+fn a_schedule_and_its_scripts_are_read(rt: HostRuntime) -> Result<(), Fail> {
+    let Ok(found) = read(rt.alloc(), &TEXTS, None)? else {
+        panic!(rt; "the texts are right");
+    };
+    expect_texts(&rt, &found);
+    Ok(())
+}
+
+// Three texts, which source fails at its first read, and why they aren't taken.
+type Case = ([&'static str; 3], Option<usize>, SourcesStop);
+
+const THIRD_OF_FIRST: SourcesStop = SourcesStop::Fault {
+    script: 1,
+    line: 3,
+    why: ScriptWhy::Statement,
+};
+
+static WRONG: [Case; 3] = [
+    (
+        ["1 1\n", "BEGIN\n\nSELEC t 1\n", "ROLLBAC"],
+        None,
+        THIRD_OF_FIRST,
+    ),
+    (
+        ["1 1\n3 1\n", "BEGIN\n", "ROLLBAC"],
+        None,
+        SourcesStop::Fault {
+            script: 0,
+            line: 2,
+            why: ScriptWhy::Statement,
+        },
+    ),
+    (
+        ["", "BEGIN\n", "ROLLBAC"],
+        None,
+        SourcesStop::Fault {
+            script: 2,
+            line: 1,
+            why: ScriptWhy::Statement,
+        },
+    ),
+];
+
+static FAILING: [Case; 4] = [
+    (
+        ["1 1\n", "BEGIN\n\nSELEC t 1\n", ""],
+        Some(0),
+        SourcesStop::Failed,
+    ),
+    (
+        ["1 1\n", "BEGIN\n\nSELEC t 1\n", ""],
+        Some(1),
+        SourcesStop::Failed,
+    ),
+    (
+        ["1 1\n", "BEGIN\n\nSELEC t 1\n", ""],
+        Some(2),
+        THIRD_OF_FIRST,
+    ),
+    (
+        ["3 1\n", "BEGIN\n", ""],
+        Some(1),
+        SourcesStop::Fault {
+            script: 0,
+            line: 1,
+            why: ScriptWhy::Statement,
+        },
+    ),
+];
+
+fn expect_stops(rt: &impl Abort, alloc: Global, cases: &[Case]) -> Result<(), Fail> {
+    for (texts, failing, stop) in cases {
+        let found = read(alloc, texts, *failing)?.err();
+        assert_eq!(rt; found, Some(*stop), "{texts:?}, {failing:?}");
+    }
     Ok(())
 }
 
 #[test]
 fn the_first_wrong_source_is_named(rt: HostRuntime) -> Result<(), Fail> {
-    let alloc = rt.alloc();
-    let fault = |script: u32, line: u32| SourcesStop::Fault {
-        script,
-        line,
-        why: ScriptWhy::Statement,
-    };
-    let rows = [
-        (["1 1\n", "BEGIN\n\nSELEC t 1\n", "ROLLBAC"], fault(1, 3)),
-        (["1 1\n3 1\n", "BEGIN\n", "ROLLBAC"], fault(0, 2)),
-        (["", "BEGIN\n", "ROLLBAC"], fault(2, 1)),
-    ];
-    for (texts, stop) in rows {
-        assert_eq!(rt; read(alloc, &texts, None)?.err(), Some(stop), "{texts:?}");
-    }
-    Ok(())
+    expect_stops(&rt, rt.alloc(), &WRONG)
 }
 
 #[test]
 fn the_first_source_that_is_wrong_or_fails_decides(rt: HostRuntime) -> Result<(), Fail> {
-    let alloc = rt.alloc();
-    let fault = |script: u32, line: u32| SourcesStop::Fault {
-        script,
-        line,
-        why: ScriptWhy::Statement,
-    };
-    let wrong = ["1 1\n", "BEGIN\n\nSELEC t 1\n", ""];
-    let rows = [
-        (0, SourcesStop::Failed),
-        (1, SourcesStop::Failed),
-        (2, fault(1, 3)),
-    ];
-    for (failing, stop) in rows {
-        assert_eq!(rt;
-            read(alloc, &wrong, Some(failing))?.err(),
-            Some(stop),
-            "source {failing}"
-        );
-    }
-    let schedule = ["3 1\n", "BEGIN\n", ""];
-    assert_eq!(rt; read(alloc, &schedule, Some(1))?.err(), Some(fault(0, 1)));
-    Ok(())
+    expect_stops(&rt, rt.alloc(), &FAILING)
 }

@@ -7,6 +7,7 @@ use spec_log::Values;
 use spec_script::{Cause, Name, Refusal, Reply};
 use sqlite_items::Items;
 use std::alloc::Global;
+use std::process::Abort;
 use std::test::Fail;
 use vol_dev::MemSink;
 
@@ -30,139 +31,158 @@ fn numbered(number: u32) -> CheckError {
     }
 }
 
+static OF_MAPS_AND_CHAINS: [u32; 17] = [
+    8946, 8998, 8903, 8904, 8905, 8906, 8910, 8913, 8948, 8914, 2579, 8968, 2575, 8959, 8969, 2577,
+    8947,
+];
+
+static OF_PAGES: [u32; 10] = [8909, 8938, 2534, 8939, 8941, 8942, 8943, 2511, 8928, 8937];
+
+fn expect_allocation(rt: &impl Abort, numbers: &[u32], wanted: bool) {
+    for number in numbers {
+        assert_eq!(rt; numbered(*number).is_allocation(), wanted, "{number}");
+    }
+}
+
 #[test]
 fn rules_of_maps_and_chains_are_allocation_errors(rt: HostRuntime) {
-    for number in [
-        8946, 8998, 8903, 8904, 8905, 8906, 8910, 8913, 8948, 8914, 2579, 8968, 2575, 8959, 8969,
-        2577, 8947,
-    ] {
-        assert!(rt; numbered(number).is_allocation(), "{number}");
-    }
-    for number in [8909, 8938, 2534, 8939, 8941, 8942, 8943, 2511, 8928, 8937] {
-        assert!(rt; !numbered(number).is_allocation(), "{number}");
-    }
+    expect_allocation(&rt, &OF_MAPS_AND_CHAINS, true);
+    expect_allocation(&rt, &OF_PAGES, false);
+}
+
+fn expect_text(rt: &impl Abort, found: &[u8], wanted: &str) {
+    assert_eq!(rt; found, wanted.as_bytes(), "{wanted}");
+}
+
+fn expect_reply(rt: &impl Abort, alloc: Global, reply: Reply, wanted: &str) -> Result<(), Fail> {
+    let text = text_of(alloc, &reply)?;
+    expect_text(rt, &text, wanted);
+    Ok(())
+}
+
+fn held(alloc: Global) -> Reply {
+    let mut refusal = Refusal::plain(alloc, 1222);
+    refusal.resource = Some(Resource::Extent(ExtentNo(2)));
+    refusal.by = Tran(38);
+    Reply::Refused(refusal)
+}
+
+fn unknown(alloc: Global) -> Result<Reply, Fail> {
+    let mut refusal = Refusal::plain(alloc, 208);
+    refusal.name = Name::copied(alloc, "t")?;
+    Ok(Reply::Refused(refusal))
+}
+
+fn twice(alloc: Global) -> Reply {
+    let mut refusal = Refusal::plain(alloc, 2627);
+    refusal.key = 1;
+    Reply::Refused(refusal)
+}
+
+fn bad(alloc: Global) -> Reply {
+    let mut refusal = Refusal::plain(alloc, 824);
+    refusal.page = PageNo(11);
+    Reply::Refused(refusal)
 }
 
 #[test]
 fn refusals_say_what_was_in_the_way(rt: HostRuntime) -> Result<(), Fail> {
-    let alloc = rt.alloc();
-    let mut held = Refusal::plain(alloc, 1222);
-    held.resource = Some(Resource::Extent(ExtentNo(2)));
-    held.by = Tran(38);
-    let mut unknown = Refusal::plain(alloc, 208);
-    unknown.name = Name::copied(alloc, "t")?;
-    let mut twice = Refusal::plain(alloc, 2627);
-    twice.key = 1;
-    let mut bad = Refusal::plain(alloc, 824);
-    bad.page = PageNo(11);
-    let cases = [
-        (Reply::Refused(held), "2.3 MSG 1222 EXTENT 2 TRAN 38\n"),
-        (Reply::Refused(unknown), "2.3 MSG 208 t\n"),
-        (Reply::Refused(twice), "2.3 MSG 2627 1\n"),
-        (Reply::Refused(bad), "2.3 MSG 824 PAGE 11\n"),
-        (
-            Reply::Refused(Refusal::plain(alloc, 1105)),
-            "2.3 MSG 1105\n",
-        ),
-        (
-            Reply::Terminated(Cause::Damaged(PageNo(10))),
-            "2.3 MSG 8921 DAMAGED PAGE 10\n",
-        ),
-    ];
-    for (reply, text) in cases.iter() {
-        assert_eq!(rt;
-            text_of(alloc, reply)?.as_slice(),
-            text.as_bytes(),
-            "{text}"
-        );
-    }
+    let a = rt.alloc();
+    expect_reply(&rt, a, held(a), "2.3 MSG 1222 EXTENT 2 TRAN 38\n")?;
+    expect_reply(&rt, a, unknown(a)?, "2.3 MSG 208 t\n")?;
+    expect_reply(&rt, a, twice(a), "2.3 MSG 2627 1\n")?;
+    expect_reply(&rt, a, bad(a), "2.3 MSG 824 PAGE 11\n")?;
     Ok(())
 }
+
+#[test]
+fn a_refusal_alone_and_an_end_are_written(rt: HostRuntime) -> Result<(), Fail> {
+    let a = rt.alloc();
+    let plain = Reply::Refused(Refusal::plain(a, 1105));
+    expect_reply(&rt, a, plain, "2.3 MSG 1105\n")?;
+    let ended = Reply::Terminated(Cause::Damaged(PageNo(10)));
+    expect_reply(&rt, a, ended, "2.3 MSG 8921 DAMAGED PAGE 10\n")?;
+    Ok(())
+}
+
+fn two_rows(alloc: Global) -> Result<Reply, Fail> {
+    let mut payloads = Values::new(alloc);
+    payloads.push(Values::copied(alloc, b"a b")?)?;
+    payloads.push(Values::copied(alloc, &[0x27, 0x5c, 0x0a, 0xff, 0x7e])?)?;
+    Ok(Reply::Rows { count: 2, payloads })
+}
+
+static TWO_ROWS: &str = "2.3 ROWS 2\n  'a b'\n  '\\27\\5c\\0a\\ff~'\n";
 
 #[test]
 fn rows_show_their_payloads(rt: HostRuntime) -> Result<(), Fail> {
-    let mut payloads = Values::new(rt.alloc());
-    payloads.push(Values::copied(rt.alloc(), b"a b")?)?;
-    payloads.push(Values::copied(rt.alloc(), &[0x27, 0x5c, 0x0a, 0xff, 0x7e])?)?;
-    let rows = Reply::Rows { count: 2, payloads };
-    let text = text_of(rt.alloc(), &rows)?;
-    assert_eq!(rt;
-        text[..],
-        *b"2.3 ROWS 2\n  'a b'\n  '\\27\\5c\\0a\\ff~'\n".as_slice()
-    );
-    assert_eq!(rt;
-        text_of(rt.alloc(), &Reply::Done)?[..],
-        *b"2.3 OK\n".as_slice()
-    );
-    Ok(())
+    expect_reply(&rt, rt.alloc(), two_rows(rt.alloc())?, TWO_ROWS)?;
+    expect_reply(&rt, rt.alloc(), Reply::Done, "2.3 OK\n")
 }
 
-#[test]
-fn a_report_stands_behind_its_number(rt: HostRuntime) -> Result<(), Fail> {
-    let mut errors = Items::new(rt.alloc());
+fn report(alloc: Global) -> Result<Reply, Fail> {
+    let mut errors = Items::new(alloc);
     errors.push(CheckError {
-        number: 8905,
-        object: 0,
         page: 24,
-        other: 0,
-        slot: 0,
-        value: 0,
+        ..numbered(8905)
     })?;
-    let mut tables = Items::new(rt.alloc());
+    let mut tables = Items::new(alloc);
     tables.push(TableLine {
         object: 1,
         rows: 56,
         pages: 8,
     })?;
-    let report = Reply::Report {
+    Ok(Reply::Report {
         lsn: Lsn(307),
         report: CheckReport { errors, tables },
-    };
-    let lines =
-        "2.3 DBCC LSN 307\nMsg 8905: object 0, page 24, other 0, slot 0, value 0\nMsg 2593: object 1, rows 56, pages 8\nMsg 8989: 1 allocation errors, 0 consistency errors\n";
-    assert_eq!(rt; text_of(rt.alloc(), &report)?[..], *lines.as_bytes());
-    Ok(())
+    })
 }
+
+static REPORT: &str =
+    "2.3 DBCC LSN 307\nMsg 8905: object 0, page 24, other 0, slot 0, value 0\nMsg 2593: object 1, rows 56, pages 8\nMsg 8989: 1 allocation errors, 0 consistency errors\n";
+
+#[test]
+fn a_report_stands_behind_its_number(rt: HostRuntime) -> Result<(), Fail> {
+    expect_reply(&rt, rt.alloc(), report(rt.alloc())?, REPORT)
+}
+
+static HEADER: Header = Header {
+    page_type: 1,
+    level: 0,
+    page_id: PageNo(10),
+    object: ObjId(1),
+    prev: PageNo(0),
+    next: PageNo(0),
+    slots: 1,
+    free_count: 8082,
+    free_from: 108,
+    ghosts: 0,
+};
+
+static SHOWN_PAGE: &str =
+    "page 10\ntype 1 level 0 object 1\nprev 0 next 0\nslots 1 free 8082 freedata 108 ghosts 0\nslot 0 offset 96\n";
 
 // A heap page whose one row stands right behind the header.
 #[test]
 fn a_page_shows_its_header_and_slots(rt: HostRuntime) -> Result<(), Fail> {
     let mut page = Page::zeroed(rt.alloc())?;
-    let header = Header {
-        page_type: 1,
-        level: 0,
-        page_id: PageNo(10),
-        object: ObjId(1),
-        prev: PageNo(0),
-        next: PageNo(0),
-        slots: 1,
-        free_count: 8082,
-        free_from: 108,
-        ghosts: 0,
-    };
-    write_header(&mut page, &header);
+    write_header(&mut page, &HEADER);
     page.bytes[8190] = 96;
     let mut out = MemSink::of(rt.alloc(), None);
     assert!(rt; write_page(&page, PageNo(10), &mut out).is_ok());
-    let lines =
-        "page 10\ntype 1 level 0 object 1\nprev 0 next 0\nslots 1 free 8082 freedata 108 ghosts 0\nslot 0 offset 96\n";
-    assert_eq!(rt; out.into_bytes()[..], *lines.as_bytes());
+    expect_text(&rt, &out.into_bytes(), SHOWN_PAGE);
     Ok(())
 }
 
 #[test]
 fn the_replies_of_a_session_are_written(rt: HostRuntime) -> Result<(), Fail> {
-    let alloc = rt.alloc();
     let rows = Reply::Rows {
         count: 1,
-        payloads: Values::new(alloc),
+        payloads: Values::new(rt.alloc()),
     };
-    let replies = vec![in alloc; Reply::Done, rows]?;
-    let mut out = MemSink::of(alloc, None);
-    assert_eq!(rt; write_session(3, &replies, &mut out), Ok(()));
-    assert_eq!(rt;
-        out.into_bytes().as_slice(),
-        b"3.1 OK\n3.2 ROWS 1\n".as_slice()
-    );
+    let replies = vec![in rt.alloc(); Reply::Done, rows]?;
+    let mut out = MemSink::of(rt.alloc(), None);
+    assert!(rt; write_session(3, &replies, &mut out).is_ok());
+    expect_text(&rt, &out.into_bytes(), "3.1 OK\n3.2 ROWS 1\n");
     Ok(())
 }

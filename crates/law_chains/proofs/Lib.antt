@@ -1,3 +1,3 @@
 pub mod Allocated
 pub mod Ranges
-pub mod Reads
+pub mod ReadChains

@@ -1,4 +1,4 @@
-use Rattle.law_chains.proofs.Reads.{chain_is_read}
+use Rattle.law_chains.proofs.ReadChains.{chain_is_read}
 use Rattle.law_chains.proofs.chain_law.Goals as goal
 
 pub returns : goal.returns

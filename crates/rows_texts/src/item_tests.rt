@@ -3,14 +3,19 @@ ghost use Rattle.std.specs.Prelude.{IsTrue};
 ghost use Rattle.spec_log.specs.Items.{has_form};
 
 use log_rec::{Cell, Record, encode};
-use spec_file::{ExtentNo, Lsn, NoMemory, ObjId, PageNo, Resource, Tran};
+use spec_file::{ExtentNo, Lsn, ObjId, PageNo, Resource, Tran};
 use spec_log::Values;
 use std::alloc::Global;
 use std::process::Abort;
-use std::test::Fail;
 
-fn expect_bytes(rt: &impl Abort, found: &[u8], wanted: &[u8]) {
-    assert_eq!(rt; found, wanted);
+// An item's bytes.
+fn expect_item(rt: &impl Abort, alloc: Global, item: Record, wanted: &[u8])
+    requires { IsTrue (has_form item) }
+{
+    let mut bytes = Vec::new(alloc);
+    encode(&item, &mut bytes).expect(rt, "memory");
+    let is_same = bytes.as_slice() == wanted;
+    assert!(rt; is_same);
 }
 
 static TAKES: [Resource; 5] = [
@@ -28,7 +33,7 @@ static START: [u8; 58] = [
 
 // The log of CREATE HEAP in a new file begins so.
 #[test]
-fn the_start_of_a_new_heap_has_58_bytes(rt: HostRuntime) -> Result<(), Fail> {
+fn the_start_of_a_new_heap_has_58_bytes(rt: HostRuntime) {
     let start = Record::Start {
         session: 1,
         index: 1,
@@ -36,25 +41,24 @@ fn the_start_of_a_new_heap_has_58_bytes(rt: HostRuntime) -> Result<(), Fail> {
         number: 0,
         changes: 3,
         size: 130,
-        takes: Values::copied(rt.alloc(), &TAKES)?,
+        takes: Values::copied(rt.alloc(), &TAKES).expect(&rt, "memory"),
     };
-    let mut bytes = Vec::new(rt.alloc());
-    encode(&start, &mut bytes)?;
-    expect_bytes(&rt, &bytes, &START);
-    Ok(())
+    expect_item(&rt, rt.alloc(), start, &START);
 }
 
-fn put_change(alloc: Global, into: &mut Vec<u8>) -> Result<(), NoMemory> {
+fn put_change(rt: &impl Abort, alloc: Global, into: &mut Vec<u8>) {
+    let before = Values::copied(alloc, &[0]).expect(rt, "memory");
+    let after = Values::copied(alloc, &[0x70]).expect(rt, "memory");
     let change = Record::Change {
         tran: Tran(1),
         cell: Cell::Bytes {
             page: PageNo(1),
             off: 104,
         },
-        before: Values::copied(alloc, &[0])?,
-        after: Values::copied(alloc, &[0x70])?,
+        before,
+        after,
     };
-    encode(&change, into)
+    encode(&change, into).expect(rt, "memory");
 }
 
 static CHANGE_AND_COMMIT: [u8; 31] = [
@@ -64,12 +68,12 @@ static CHANGE_AND_COMMIT: [u8; 31] = [
 
 // A byte of page 1 becomes 0x70, and its transaction ends.
 #[test]
-fn changes_stand_one_behind_another(rt: HostRuntime) -> Result<(), Fail> {
+fn changes_stand_one_behind_another(rt: HostRuntime) {
     let mut bytes = Vec::new(rt.alloc());
-    put_change(rt.alloc(), &mut bytes)?;
-    encode(&Record::Commit { tran: Tran(1) }, &mut bytes)?;
-    expect_bytes(&rt, &bytes, &CHANGE_AND_COMMIT);
-    Ok(())
+    put_change(&rt, rt.alloc(), &mut bytes);
+    encode(&Record::Commit { tran: Tran(1) }, &mut bytes).expect(&rt, "memory");
+    let is_same = bytes.as_slice() == CHANGE_AND_COMMIT.as_slice();
+    assert!(rt; is_same);
 }
 
 fn snap() -> Record
@@ -110,23 +114,18 @@ fn check_end() -> Record
     }
 }
 
-fn expect_item(rt: &impl Abort, alloc: Global, item: Record, wanted: &[u8]) -> Result<(), NoMemory>
-    requires { IsTrue (has_form item) }
-{
-    let mut bytes = Vec::new(alloc);
-    encode(&item, &mut bytes)?;
-    expect_bytes(rt, &bytes, wanted);
-    Ok(())
-}
+static SNAP: [u8; 7] = [6, 1, 0, 1, 0, 0, 0];
+
+static FAILED: [u8; 11] = [7, 2, 0, 3, 0, 0, 0, 10, 0, 0, 0];
+
+static CHECK_END: [u8; 8] = [8, 2, 0, 3, 0, 0, 0, 1];
 
 static UNDO: [u8; 17] = [3, 3, 0, 0, 0, 0, 0, 0, 0, 0, 1, 0, 0, 0, 0, 0, 0];
 
 #[test]
-fn the_other_kinds_have_their_fields_in_order(rt: HostRuntime) -> Result<(), Fail> {
-    let alloc = rt.alloc();
-    expect_item(&rt, alloc, snap(), &[6, 1, 0, 1, 0, 0, 0])?;
-    expect_item(&rt, alloc, undo(), &UNDO)?;
-    expect_item(&rt, alloc, failed(), &[7, 2, 0, 3, 0, 0, 0, 10, 0, 0, 0])?;
-    expect_item(&rt, alloc, check_end(), &[8, 2, 0, 3, 0, 0, 0, 1])?;
-    Ok(())
+fn the_other_kinds_have_their_fields_in_order(rt: HostRuntime) {
+    expect_item(&rt, rt.alloc(), snap(), &SNAP);
+    expect_item(&rt, rt.alloc(), undo(), &UNDO);
+    expect_item(&rt, rt.alloc(), failed(), &FAILED);
+    expect_item(&rt, rt.alloc(), check_end(), &CHECK_END);
 }

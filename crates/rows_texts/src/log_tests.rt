@@ -1,12 +1,12 @@
 // The images under a log, and its rules, as the plain program computes them.
+use crate::expect::{expect_named, expect_same};
 use plain_log::{
     PlainImage, committed_image, damaged_page, final_image, first_broken, start_image,
 };
-use spec_file::{ExtentNo, Geometry, Lsn, NoMemory, PageNo, Resource, Tran};
+use spec_file::{ExtentNo, Geometry, Lsn, PageNo, Resource, Tran};
 use spec_log::{Cell, Record, Values};
 use std::alloc::Global;
 use std::process::Abort;
-use std::test::Fail;
 
 // An item of a log, as the tests write it: first its transaction.
 enum Step {
@@ -18,89 +18,74 @@ enum Step {
     Snap(u16, u32),
 }
 
-fn start(alloc: Global, tran: u64, takes: &[Resource]) -> Result<Record, NoMemory> {
-    Ok(Record::Start {
+fn start(rt: &impl Abort, alloc: Global, tran: u64, takes: &[Resource]) -> Record {
+    Record::Start {
         session: 1,
         index: 1,
         tran: Tran(tran),
         number: 0,
         changes: 0,
         size: 0,
-        takes: Values::copied(alloc, takes)?,
-    })
+        takes: Values::copied(alloc, takes).expect(rt, "memory"),
+    }
 }
 
 fn change(
+    rt: &impl Abort,
     alloc: Global,
     tran: u64,
     cell: Cell,
     before: &[u8],
     after: &[u8],
-) -> Result<Record, NoMemory> {
-    Ok(Record::Change {
+) -> Record {
+    Record::Change {
         tran: Tran(tran),
         cell,
-        before: Values::copied(alloc, before)?,
-        after: Values::copied(alloc, after)?,
-    })
+        before: Values::copied(alloc, before).expect(rt, "memory"),
+        after: Values::copied(alloc, after).expect(rt, "memory"),
+    }
 }
 
-fn item_of(alloc: Global, step: &Step) -> Result<Record, NoMemory> {
+fn item_of(rt: &impl Abort, alloc: Global, step: &Step) -> Record {
     match step {
-        Step::Start(tran, takes) => start(alloc, *tran, takes),
-        Step::Change(tran, cell, before, after) => change(alloc, *tran, *cell, before, after),
-        Step::Undo(tran, change) => Ok(Record::Undo {
+        Step::Start(tran, takes) => start(rt, alloc, *tran, takes),
+        Step::Change(tran, cell, before, after) => change(rt, alloc, *tran, *cell, before, after),
+        Step::Undo(tran, change) => Record::Undo {
             tran: Tran(*tran),
             change: Lsn(*change),
-        }),
-        Step::Commit(tran) => Ok(Record::Commit { tran: Tran(*tran) }),
-        Step::Abort(tran) => Ok(Record::Abort { tran: Tran(*tran) }),
-        Step::Snap(session, index) => Ok(Record::Snap {
+        },
+        Step::Commit(tran) => Record::Commit { tran: Tran(*tran) },
+        Step::Abort(tran) => Record::Abort { tran: Tran(*tran) },
+        Step::Snap(session, index) => Record::Snap {
             session: *session,
             index: *index,
-        }),
+        },
     }
 }
 
-fn log_of(alloc: Global, steps: &[Step]) -> Result<Vec<Record>, NoMemory> {
+fn log_of(rt: &impl Abort, alloc: Global, steps: &[Step]) -> Vec<Record> {
     let mut items = Vec::new(alloc);
     for step in steps {
-        items.push(item_of(alloc, step)?)?;
+        items.push(item_of(rt, alloc, step)).expect(rt, "memory");
     }
-    Ok(items)
+    items
 }
 
-/// One page of these bytes.
-fn one_page(alloc: Global, bytes: &[u8]) -> Result<PlainImage, NoMemory> {
-    let mut pages = Vec::new(alloc);
-    pages.push(Values::copied(alloc, bytes)?)?;
-    Ok(PlainImage::of(pages))
-}
-
-/// The bytes of the first page.
-fn first_page(image: &PlainImage) -> &[u8] {
-    if image.count() > 0 {
-        image.page(0)
-    } else {
-        &[]
-    }
+// One page of these bytes.
+fn one_page(rt: &impl Abort, alloc: Global, bytes: &[u8]) -> PlainImage {
+    let page = Values::copied(alloc, bytes).expect(rt, "memory");
+    PlainImage::of(vec![in alloc; page].expect(rt, "memory"))
 }
 
 fn expect_page(rt: &impl Abort, image: &PlainImage, wanted: &[u8]) {
-    assert_eq!(rt; first_page(image), wanted);
+    let is_same = image.count() == 1 && image.page(0) == wanted;
+    assert!(rt; is_same);
 }
 
-fn expect_start(
-    rt: &impl Abort,
-    alloc: Global,
-    opened: &[Step],
-    bytes: &[u8],
-    wanted: &[u8],
-) -> Result<(), NoMemory> {
-    let opened = log_of(alloc, opened)?;
-    let image = start_image(alloc, &opened, one_page(alloc, bytes)?)?;
+fn expect_start(rt: &impl Abort, alloc: Global, opened: &[Step], bytes: &[u8], wanted: &[u8]) {
+    let opened = log_of(rt, alloc, opened);
+    let image = start_image(alloc, &opened, one_page(rt, alloc, bytes)).expect(rt, "memory");
     expect_page(rt, &image, wanted);
-    Ok(())
 }
 
 fn expect_committed(
@@ -110,25 +95,18 @@ fn expect_committed(
     log: &[Step],
     bytes: &[u8],
     wanted: &[u8],
-) -> Result<(), NoMemory> {
-    let opened = log_of(alloc, opened)?;
-    let log = log_of(alloc, log)?;
-    let image = committed_image(alloc, &opened, &log, one_page(alloc, bytes)?)?;
+) {
+    let opened = log_of(rt, alloc, opened);
+    let log = log_of(rt, alloc, log);
+    let page = one_page(rt, alloc, bytes);
+    let image = committed_image(alloc, &opened, &log, page).expect(rt, "memory");
     expect_page(rt, &image, wanted);
-    Ok(())
 }
 
-fn expect_final(
-    rt: &impl Abort,
-    alloc: Global,
-    items: &[Step],
-    bytes: &[u8],
-    wanted: &[u8],
-) -> Result<(), NoMemory> {
-    let items = log_of(alloc, items)?;
-    let image = final_image(alloc, &items, 0, one_page(alloc, bytes)?)?;
+fn expect_final(rt: &impl Abort, alloc: Global, items: &[Step], bytes: &[u8], wanted: &[u8]) {
+    let items = log_of(rt, alloc, items);
+    let image = final_image(alloc, &items, 0, one_page(rt, alloc, bytes)).expect(rt, "memory");
     expect_page(rt, &image, wanted);
-    Ok(())
 }
 
 fn expect_damage(
@@ -137,11 +115,10 @@ fn expect_damage(
     opened: &[Step],
     bytes: &[u8],
     wanted: Option<PageNo>,
-) -> Result<(), NoMemory> {
-    let opened = log_of(alloc, opened)?;
-    let found = damaged_page(alloc, &opened, one_page(alloc, bytes)?)?;
-    assert_eq!(rt; found, wanted);
-    Ok(())
+) {
+    let opened = log_of(rt, alloc, opened);
+    let found = damaged_page(alloc, &opened, one_page(rt, alloc, bytes)).expect(rt, "memory");
+    expect_same(rt, &found, &wanted);
 }
 
 // Bytes 0 and 1 of the images' page.
@@ -164,11 +141,16 @@ static NEXT_LOG: [Step; 3] = [
 ];
 
 #[test]
-fn what_was_left_open_is_in_the_file_alone(rt: HostRuntime) -> Result<(), Fail> {
-    let a = rt.alloc();
-    expect_start(&rt, a, &LEFT_OPEN, &[97, 0, 7], &[0, 0, 7])?;
-    expect_committed(&rt, a, &LEFT_OPEN, &NEXT_LOG, &[97, 0, 7], &[0, 98, 7])?;
-    Ok(())
+fn what_was_left_open_is_in_the_file_alone(rt: HostRuntime) {
+    expect_start(&rt, rt.alloc(), &LEFT_OPEN, &[97, 0, 7], &[0, 0, 7]);
+    expect_committed(
+        &rt,
+        rt.alloc(),
+        &LEFT_OPEN,
+        &NEXT_LOG,
+        &[97, 0, 7],
+        &[0, 98, 7],
+    );
 }
 
 static HALF_BACK: [Step; 4] = [
@@ -179,11 +161,9 @@ static HALF_BACK: [Step; 4] = [
 ];
 
 #[test]
-fn a_rollback_half_done_is_half_in_the_file(rt: HostRuntime) -> Result<(), Fail> {
-    let a = rt.alloc();
-    expect_final(&rt, a, &HALF_BACK, &[0, 0, 7], &[1, 0, 7])?;
-    expect_committed(&rt, a, &[], &HALF_BACK, &[0, 0, 7], &[0, 0, 7])?;
-    Ok(())
+fn a_rollback_half_done_is_half_in_the_file(rt: HostRuntime) {
+    expect_final(&rt, rt.alloc(), &HALF_BACK, &[0, 0, 7], &[1, 0, 7]);
+    expect_committed(&rt, rt.alloc(), &[], &HALF_BACK, &[0, 0, 7], &[0, 0, 7]);
 }
 
 // What stands before the first Snap, and before the second.
@@ -197,11 +177,9 @@ static BEFORE_SECOND: [Step; 4] = [
 ];
 
 #[test]
-fn two_snaps_see_what_had_committed_before_each(rt: HostRuntime) -> Result<(), Fail> {
-    let a = rt.alloc();
-    expect_committed(&rt, a, &[], &BEFORE_FIRST, &[0, 7], &[0, 7])?;
-    expect_committed(&rt, a, &[], &BEFORE_SECOND, &[0, 7], &[1, 7])?;
-    Ok(())
+fn two_snaps_see_what_had_committed_before_each(rt: HostRuntime) {
+    expect_committed(&rt, rt.alloc(), &[], &BEFORE_FIRST, &[0, 7], &[0, 7]);
+    expect_committed(&rt, rt.alloc(), &[], &BEFORE_SECOND, &[0, 7], &[1, 7]);
 }
 
 static TURNED: [Step; 2] = [
@@ -218,39 +196,26 @@ static TURNED: [Step; 2] = [
 ];
 
 #[test]
-fn a_bit_turns_alone(rt: HostRuntime) -> Result<(), Fail> {
+fn a_bit_turns_alone(rt: HostRuntime) {
     let mut wanted = [5; 98];
     wanted[96] = 13;
-    expect_final(&rt, rt.alloc(), &TURNED, &[5; 98], &wanted)?;
-    Ok(())
+    expect_final(&rt, rt.alloc(), &TURNED, &[5; 98], &wanted);
 }
 
 #[test]
-fn a_damaged_cell_is_named_by_its_page(rt: HostRuntime) -> Result<(), Fail> {
-    let a = rt.alloc();
-    expect_damage(&rt, a, &LEFT_OPEN, &[97, 7], None)?;
-    expect_damage(&rt, a, &LEFT_OPEN, &[98, 7], Some(PageNo(0)))?;
-    Ok(())
+fn a_damaged_cell_is_named_by_its_page(rt: HostRuntime) {
+    expect_damage(&rt, rt.alloc(), &LEFT_OPEN, &[97, 7], None);
+    expect_damage(&rt, rt.alloc(), &LEFT_OPEN, &[98, 7], Some(PageNo(0)));
 }
 
 // The logs are of a small file of two extents: the first is a system extent, and the pages of the second
 // are ordinary, but page 9.
 const PAGES: u32 = 16;
 
-fn expect_broken(
-    rt: &impl Abort,
-    alloc: Global,
-    log: &[Step],
-    wanted: Option<Lsn>,
-    name: &str,
-) -> Result<(), NoMemory> {
-    let items = log_of(alloc, log)?;
-    assert_eq!(rt;
-        first_broken(Geometry::Small, PAGES, &items),
-        wanted,
-        "{name}"
-    );
-    Ok(())
+fn expect_broken(rt: &impl Abort, alloc: Global, log: &[Step], wanted: Option<Lsn>, name: &str) {
+    let items = log_of(rt, alloc, log);
+    let found = first_broken(Geometry::Small, PAGES, &items);
+    expect_named(rt, &found, &wanted, name);
 }
 
 const PAGE_8: &[Resource] = &[Resource::Page(PageNo(8))];
@@ -361,11 +326,10 @@ static KEEPING: [(&str, &[Step]); 8] = [
 ];
 
 #[test]
-fn these_logs_keep_the_rules(rt: HostRuntime) -> Result<(), Fail> {
+fn these_logs_keep_the_rules(rt: HostRuntime) {
     for (name, log) in KEEPING.iter() {
-        expect_broken(&rt, rt.alloc(), log, None, name)?;
+        expect_broken(&rt, rt.alloc(), log, None, name);
     }
-    Ok(())
 }
 
 // What the item with this number does wrong.
@@ -473,9 +437,8 @@ static BREAKING: [(&str, &[Step], u64); 11] = [
 ];
 
 #[test]
-fn the_first_item_that_breaks_a_rule_is_named(rt: HostRuntime) -> Result<(), Fail> {
+fn the_first_item_that_breaks_a_rule_is_named(rt: HostRuntime) {
     for (name, log, lsn) in BREAKING.iter() {
-        expect_broken(&rt, rt.alloc(), log, Some(Lsn(*lsn)), name)?;
+        expect_broken(&rt, rt.alloc(), log, Some(Lsn(*lsn)), name);
     }
-    Ok(())
 }

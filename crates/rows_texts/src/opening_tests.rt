@@ -1,9 +1,9 @@
 // The file and the log of a run are opened.
+use crate::expect::expect_same;
 use pg_base::PageNo;
 use run_file::{FileStop, FileWhy, LogWhy, open_file, open_log};
-use std::alloc::{AllocError, Global};
+use std::alloc::Global;
 use std::process::Abort;
-use std::test::Fail;
 use vol_dev::{FailAt, MemLog, MemVolume};
 
 const PAGE: usize = 8192;
@@ -52,22 +52,28 @@ enum Made {
     Short,
 }
 
-fn base(alloc: Global, pages: u8) -> Result<Vec<u8>, AllocError> {
-    let mut file = vec![in alloc; 0u8; PAGE * usize::from(pages)]?;
-    put_each(&mut file, &SYSTEM_PAGES);
-    put(&mut file, 108, &[pages]);
-    Ok(file)
+fn zeros(rt: &impl Abort, alloc: Global, count: usize) -> Vec<u8> {
+    Vec::from_elem(alloc, 0u8, count).expect(rt, "memory")
 }
 
-fn file_of(alloc: Global, made: &Made) -> Result<Vec<u8>, AllocError> {
+fn base(rt: &impl Abort, alloc: Global, pages: u8) -> Vec<u8> {
+    let mut file = zeros(rt, alloc, PAGE * usize::from(pages));
+    put_each(&mut file, &SYSTEM_PAGES);
+    put(&mut file, 108, &[pages]);
+    file
+}
+
+fn with_heap(rt: &impl Abort, alloc: Global) -> Vec<u8> {
+    let mut file = base(rt, alloc, 16);
+    put_each(&mut file, &A_HEAP);
+    file
+}
+
+fn file_of(rt: &impl Abort, alloc: Global, made: &Made) -> Vec<u8> {
     match made {
-        Made::Empty(pages) => base(alloc, *pages),
-        Made::WithHeap => {
-            let mut file = base(alloc, 16)?;
-            put_each(&mut file, &A_HEAP);
-            Ok(file)
-        }
-        Made::Short => Ok(vec![in alloc; 0u8; 5]?),
+        Made::Empty(pages) => base(rt, alloc, *pages),
+        Made::WithHeap => with_heap(rt, alloc),
+        Made::Short => zeros(rt, alloc, 5),
     }
 }
 
@@ -104,47 +110,49 @@ static CASES: [Case; 16] = [
 ];
 
 // Opens a file whose reads fail so.
-fn stop_of(alloc: Global, file: Vec<u8>, failing: Vec<FailAt>) -> Option<FileStop> {
+fn stop_of(
+    rt: &impl Abort,
+    alloc: Global,
+    file: Vec<u8>,
+    failing: Vec<FailAt>,
+) -> Option<FileStop> {
     let mut volume = MemVolume::of(file, failing);
     open_file(alloc, &mut volume).err()
 }
 
-fn expect_stop(rt: &impl Abort, found: Option<FileStop>, wanted: Option<FileStop>, at: usize) {
-    assert_eq!(rt; found, wanted, "at {at}");
-}
-
-fn why_of(alloc: Global, made: &Made, at: usize, bytes: &[u8]) -> Result<Option<FileStop>, Fail> {
-    let mut file = file_of(alloc, made)?;
-    put(&mut file, at, bytes);
-    Ok(stop_of(alloc, file, Vec::new(alloc)))
+fn expect_opening(rt: &impl Abort, alloc: Global, case: &Case) {
+    let (made, at, bytes, wanted) = case;
+    let mut file = file_of(rt, alloc, made);
+    put(&mut file, *at, bytes);
+    expect_same(rt, &stop_of(rt, alloc, file, Vec::new(alloc)), wanted);
 }
 
 #[test]
-fn a_file_is_opened_where_it_has_the_form(rt: HostRuntime) -> Result<(), Fail> {
-    for (made, at, bytes, wanted) in CASES.iter() {
-        expect_stop(&rt, why_of(rt.alloc(), made, *at, bytes)?, *wanted, *at);
+fn a_file_is_opened_where_it_has_the_form(rt: HostRuntime) {
+    for case in &CASES {
+        expect_opening(&rt, rt.alloc(), case);
     }
-    Ok(())
 }
 
 // The first read of each page but page 0 fails.
-fn each_but_page_0(alloc: Global) -> Result<Vec<FailAt>, AllocError> {
+fn each_but_page_0(rt: &impl Abort, alloc: Global) -> Vec<FailAt> {
     let mut failing = Vec::new(alloc);
     for page in 1..16 {
-        failing.push(FailAt {
+        let fail = FailAt {
             page: PageNo(page),
             write: false,
             nth: 1,
-        })?;
+        };
+        failing.push(fail).expect(rt, "memory");
     }
-    Ok(failing)
+    failing
 }
 
 // Why a file in which each page but page 0 fails isn't opened, with these bytes at a place of page 0.
-fn why_behind(alloc: Global, at: usize, bytes: &[u8]) -> Result<Option<FileStop>, Fail> {
-    let mut file = base(alloc, 16)?;
+fn why_behind(rt: &impl Abort, alloc: Global, at: usize, bytes: &[u8]) -> Option<FileStop> {
+    let mut file = base(rt, alloc, 16);
     put(&mut file, at, bytes);
-    Ok(stop_of(alloc, file, each_but_page_0(alloc)?))
+    stop_of(rt, alloc, file, each_but_page_0(rt, alloc))
 }
 
 static PAGE_0_CASES: [(usize, &[u8], Option<FileStop>); 6] = [
@@ -157,58 +165,44 @@ static PAGE_0_CASES: [(usize, &[u8], Option<FileStop>); 6] = [
 ];
 
 #[test]
-fn no_page_is_read_before_page_0_has_passed(rt: HostRuntime) -> Result<(), Fail> {
-    for (at, bytes, wanted) in PAGE_0_CASES.iter() {
-        expect_stop(&rt, why_behind(rt.alloc(), *at, bytes)?, *wanted, *at);
+fn no_page_is_read_before_page_0_has_passed(rt: HostRuntime) {
+    for (at, bytes, wanted) in &PAGE_0_CASES {
+        expect_same(&rt, &why_behind(&rt, rt.alloc(), *at, bytes), wanted);
     }
-    Ok(())
 }
 
-static PAGE_0_AGAIN: [FailAt; 1] = [FailAt {
-    page: PageNo(0),
-    write: false,
-    nth: 2,
-}];
+// The page whose nth read fails, and why the file isn't opened then.
+static FAILING: [(u32, u32, Option<FileStop>); 2] = [(0, 2, None), (7, 1, Some(FileStop::Failed))];
 
-static PAGE_7: [FailAt; 1] = [FailAt {
-    page: PageNo(7),
-    write: false,
-    nth: 1,
-}];
-
-fn why_failing(alloc: Global, failing: &[FailAt]) -> Result<Option<FileStop>, Fail> {
-    Ok(stop_of(alloc, base(alloc, 16)?, Vec::from_slice(alloc, failing)?))
+fn why_failing(rt: &impl Abort, alloc: Global, page: u32, nth: u32) -> Option<FileStop> {
+    let fail = FailAt {
+        page: PageNo(page),
+        write: false,
+        nth,
+    };
+    let failing = Vec::from_elem(alloc, fail, 1).expect(rt, "memory");
+    stop_of(rt, alloc, base(rt, alloc, 16), failing)
 }
 
 #[test]
-fn page_0_is_read_once_and_each_page_is_read(rt: HostRuntime) -> Result<(), Fail> {
-    expect_stop(&rt, why_failing(rt.alloc(), &PAGE_0_AGAIN)?, None, 0);
-    expect_stop(
-        &rt,
-        why_failing(rt.alloc(), &PAGE_7)?,
-        Some(FileStop::Failed),
-        7,
-    );
-    Ok(())
+fn page_0_is_read_once_and_each_page_is_read(rt: HostRuntime) {
+    for (page, nth, wanted) in &FAILING {
+        expect_same(&rt, &why_failing(&rt, rt.alloc(), *page, *nth), wanted);
+    }
 }
 
-fn expect_log(
-    rt: &impl Abort,
-    alloc: Global,
-    bytes: &[u8],
-    fails: bool,
-    wanted: Result<(), LogWhy>,
-) -> Result<(), AllocError> {
-    let mut log = MemLog::of(Vec::from_slice(alloc, bytes)?, fails, None);
-    assert_eq!(rt; open_log(alloc, &mut log), wanted);
-    Ok(())
-}
+// A log's bytes, whether it fails, and how it is opened.
+static LOGS: [(&[u8], bool, Result<(), LogWhy>); 3] = [
+    (&[], false, Ok(())),
+    (&[9], false, Err(LogWhy::Later)),
+    (&[], true, Err(LogWhy::Failed)),
+];
 
 #[test]
-fn a_log_is_taken_where_it_is_empty(rt: HostRuntime) -> Result<(), Fail> {
-    let alloc = rt.alloc();
-    expect_log(&rt, alloc, &[], false, Ok(()))?;
-    expect_log(&rt, alloc, &[9], false, Err(LogWhy::Later))?;
-    expect_log(&rt, alloc, &[], true, Err(LogWhy::Failed))?;
-    Ok(())
+fn a_log_is_taken_where_it_is_empty(rt: HostRuntime) {
+    for (bytes, fails, wanted) in &LOGS {
+        let bytes = Vec::from_slice(rt.alloc(), bytes).expect(&rt, "memory");
+        let mut log = MemLog::of(bytes, *fails, None);
+        expect_same(&rt, &open_log(rt.alloc(), &mut log), wanted);
+    }
 }

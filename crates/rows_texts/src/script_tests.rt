@@ -1,53 +1,46 @@
 // Scripts and schedules read, and statements printed.
-use spec_file::NoMemory;
+use crate::expect::expect_named;
 use spec_log::Values;
 use spec_script::{Name, ScriptWhy, Statement};
 use sql_script::{ScriptStop, print_statement, read_schedule, read_script};
 use std::alloc::Global;
 use std::process::Abort;
-use std::test::Fail;
 
-fn expect_name(rt: &impl Abort, name: &Name, wanted: &str) {
-    assert_eq!(rt; name.as_str(), wanted);
+fn is_name(name: &Name, wanted: &str) -> bool {
+    name.as_str() == wanted
 }
 
 #[test]
-fn a_name_keeps_its_text(rt: HostRuntime) -> Result<(), Fail> {
-    expect_name(&rt, &Name::copied(rt.alloc(), "t_1")?, "t_1");
-    expect_name(&rt, &Name::empty(rt.alloc()), "");
-    Ok(())
-}
-
-// The line and the reason at which a script's reading stops.
-fn fault_of(alloc: Global, text: &str) -> Option<(u32, ScriptWhy)> {
-    match read_script(alloc, text.as_bytes()) {
-        Err(ScriptStop::Fault { line, why }) => Some((line, why)),
-        _ => None,
-    }
+fn a_name_keeps_its_text(rt: HostRuntime) {
+    let name = Name::copied(rt.alloc(), "t_1").expect(&rt, "memory");
+    let is_right = is_name(&name, "t_1") && is_name(&Name::empty(rt.alloc()), "");
+    assert!(rt; is_right);
 }
 
 // What kind of statement it is: the number of a check's workers, or a number of the test's own.
 fn kind_of(statement: &Statement) -> u32 {
     match statement {
         Statement::Begin => 100,
-        Statement::Insert { .. } => 101,
+        Statement::Insert {
+            table,
+            key,
+            payload,
+        } => {
+            if is_the_row(table, *key, payload) {
+                101
+            } else {
+                104
+            }
+        }
         Statement::Count(_) => 102,
         Statement::Check { workers } => u32::from(*workers),
         _ => 103,
     }
 }
 
-fn expect_insert(rt: &impl Abort, statement: &Statement) {
-    if let Statement::Insert {
-        table,
-        key,
-        payload,
-    } = statement
-    {
-        expect_name(rt, table, "t");
-        assert_eq!(rt; *key, 0);
-        assert_eq!(rt; payload.as_slice(), b"it is".as_slice());
-    }
+// Whether it is the one row that the script inserts.
+fn is_the_row(table: &Name, key: u64, payload: &Values<u8>) -> bool {
+    is_name(table, "t") && key == 0 && payload.as_slice() == b"it is".as_slice()
 }
 
 // A script, and the kinds of its statements.
@@ -56,19 +49,20 @@ static SCRIPT: &str =
 
 static KINDS: [u32; 5] = [100, 101, 4, 16, 102];
 
-fn expect_kinds(rt: &impl Abort, found: &[Statement], wanted: &[u32]) {
-    assert_eq!(rt; found.len(), wanted.len());
-    for (statement, kind) in found.iter().zip(wanted.iter()) {
-        assert_eq!(rt; kind_of(statement), *kind);
-        expect_insert(rt, statement);
-    }
+fn expect_kinds(rt: &impl Abort, alloc: Global, text: &str, wanted: &[u32]) {
+    let found = read_script(alloc, text.as_bytes()).expect(rt, "the script is right");
+    let is_right = found.len() == wanted.len()
+        && found
+            .iter()
+            .zip(wanted.iter())
+            .all(|(statement, kind)| kind_of(statement) == *kind);
+    assert!(rt; is_right);
 }
 
 #[test]
-fn a_script_is_read_line_by_line(rt: HostRuntime) -> Result<(), Fail> {
-    expect_kinds(&rt, &read_script(rt.alloc(), SCRIPT.as_bytes())?, &KINDS);
-    expect_kinds(&rt, &read_script(rt.alloc(), b"")?, &[]);
-    Ok(())
+fn a_script_is_read_line_by_line(rt: HostRuntime) {
+    expect_kinds(&rt, rt.alloc(), SCRIPT, &KINDS);
+    expect_kinds(&rt, rt.alloc(), "", &[]);
 }
 
 static WRONG_SCRIPTS: [(&str, u32); 11] = [
@@ -85,60 +79,65 @@ static WRONG_SCRIPTS: [(&str, u32); 11] = [
     ("DBCC CHECKDB WITH MAXDOP = 17", 1),
 ];
 
+// A line that no rule of the grammar allows.
+fn fault(line: u32) -> Option<ScriptStop> {
+    Some(ScriptStop::Fault {
+        line,
+        why: ScriptWhy::Statement,
+    })
+}
+
 #[test]
 fn the_first_wrong_line_is_named(rt: HostRuntime) {
-    for (text, line) in WRONG_SCRIPTS.iter() {
-        assert_eq!(rt;
-            fault_of(rt.alloc(), text),
-            Some((*line, ScriptWhy::Statement)),
-            "{text}"
-        );
+    for (text, line) in &WRONG_SCRIPTS {
+        let stop = read_script(rt.alloc(), text.as_bytes()).err();
+        expect_named(&rt, &stop, &fault(*line), text);
     }
+}
+
+static TURNS: [(u32, u32); 2] = [(1, 306), (2, 1)];
+
+#[test]
+fn a_schedule_names_sessions_and_turns(rt: HostRuntime) {
+    let turns = read_schedule(rt.alloc(), b"1 306\n2 1\n", 2).expect(&rt, "it is right");
+    let is_right = turns.as_slice() == TURNS.as_slice();
+    assert!(rt; is_right);
 }
 
 static WRONG_SCHEDULES: [&str; 6] = ["3 1", "0 1", "1 0", "1 10000001", "1  1", "1"];
 
-fn schedule_stop(alloc: Global, text: &str) -> Option<ScriptStop> {
-    read_schedule(alloc, text.as_bytes(), 2).err()
-}
-
-#[test]
-fn a_schedule_names_sessions_and_turns(rt: HostRuntime) -> Result<(), Fail> {
-    let turns = read_schedule(rt.alloc(), b"1 306\n2 1\n", 2)?;
-    assert_eq!(rt; turns[..], [(1, 306), (2, 1)][..]);
-    Ok(())
-}
-
 #[test]
 fn a_wrong_schedule_is_told(rt: HostRuntime) {
-    let stop = Some(ScriptStop::Fault {
-        line: 1,
-        why: ScriptWhy::Statement,
-    });
-    for text in WRONG_SCHEDULES.iter() {
-        assert_eq!(rt; schedule_stop(rt.alloc(), text), stop, "{text}");
+    for text in &WRONG_SCHEDULES {
+        let stop = read_schedule(rt.alloc(), text.as_bytes(), 2).err();
+        expect_named(&rt, &stop, &fault(1), text);
     }
 }
 
-fn print_row(alloc: Global, into: &mut Vec<u8>) -> Result<(), NoMemory> {
+fn print_row(rt: &impl Abort, alloc: Global, into: &mut Vec<u8>) {
     let row = Statement::Insert {
-        table: Name::copied(alloc, "t")?,
+        table: Name::copied(alloc, "t").expect(rt, "memory"),
         key: 18_446_744_073_709_551_615,
-        payload: Values::copied(alloc, b"a b")?,
+        payload: Values::copied(alloc, b"a b").expect(rt, "memory"),
     };
-    print_statement(&row, into)
+    print_statement(&row, into).expect(rt, "memory");
+}
+
+fn print_count(rt: &impl Abort, alloc: Global, into: &mut Vec<u8>) {
+    let count = Statement::Count(Name::copied(alloc, "v").expect(rt, "memory"));
+    print_statement(&count, into).expect(rt, "memory");
 }
 
 static PRINTED: &str =
     "ROLLBACK\nINSERT t 18446744073709551615 'a b'\nCOUNT v\nDBCC CHECKDB WITH MAXDOP = 4\n";
 
 #[test]
-fn a_statement_is_printed_with_its_end(rt: HostRuntime) -> Result<(), Fail> {
+fn a_statement_is_printed_with_its_end(rt: HostRuntime) {
     let mut text = Vec::new(rt.alloc());
-    print_statement(&Statement::Rollback, &mut text)?;
-    print_row(rt.alloc(), &mut text)?;
-    print_statement(&Statement::Count(Name::copied(rt.alloc(), "v")?), &mut text)?;
-    print_statement(&Statement::Check { workers: 4 }, &mut text)?;
-    assert_eq!(rt; text.as_slice(), PRINTED.as_bytes());
-    Ok(())
+    print_statement(&Statement::Rollback, &mut text).expect(&rt, "memory");
+    print_row(&rt, rt.alloc(), &mut text);
+    print_count(&rt, rt.alloc(), &mut text);
+    print_statement(&Statement::Check { workers: 4 }, &mut text).expect(&rt, "memory");
+    let is_same = text.as_slice() == PRINTED.as_bytes();
+    assert!(rt; is_same);
 }

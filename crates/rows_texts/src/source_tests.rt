@@ -1,36 +1,42 @@
 // A schedule and scripts read from their sources.
+use crate::expect::expect_same;
 use run_file::{SourcesStop, Texts, read_sources};
 use spec_script::{ScriptWhy, Statement};
 use std::alloc::Global;
 use std::process::Abort;
-use std::test::Fail;
 use vol_dev::MemSource;
 
 // Sources of these texts, one of which fails at its first read.
+fn source_of(rt: &impl Abort, alloc: Global, text: &str, fails: bool) -> MemSource {
+    let bytes = Vec::from_slice(alloc, text.as_bytes()).expect(rt, "memory");
+    MemSource::of(bytes, if fails { Some(1) } else { None })
+}
+
 fn sources_of(
+    rt: &impl Abort,
     alloc: Global,
     texts: &[&str],
     failing: Option<usize>,
-) -> Result<Vec<MemSource>, Fail> {
+) -> Vec<MemSource> {
     let mut sources = Vec::new(alloc);
     for (i, text) in texts.iter().enumerate() {
-        let fails = if failing == Some(i) { Some(1) } else { None };
-        let bytes = Vec::from_slice(alloc, text.as_bytes())?;
-        sources.push(MemSource::of(bytes, fails))?;
+        let source = source_of(rt, alloc, text, failing == Some(i));
+        sources.push(source).expect(rt, "memory");
     }
-    Ok(sources)
+    sources
 }
 
 fn read(
+    rt: &impl Abort,
     alloc: Global,
     texts: &[&str],
     failing: Option<usize>,
-) -> Result<Result<Texts, SourcesStop>, Fail> {
-    let mut sources = sources_of(alloc, texts, failing)?;
+) -> Result<Texts, SourcesStop> {
+    let mut sources = sources_of(rt, alloc, texts, failing);
     if sources.is_empty() || sources.len() > 17 {
-        return Ok(Err(SourcesStop::NoMemory));
+        return Err(SourcesStop::NoMemory);
     }
-    Ok(read_sources(alloc, &mut sources))
+    read_sources(alloc, &mut sources)
 }
 
 static TEXTS: [&str; 4] = [
@@ -40,10 +46,15 @@ static TEXTS: [&str; 4] = [
     "DBCC CHECKDB",
 ];
 
-fn length_of(found: &Texts, script: usize) -> Option<usize> {
-    match found.scripts.get(script) {
-        Some(statements) => Some(statements.len()),
-        None => None,
+static SCHEDULE: [(u32, u32); 2] = [(1, 2), (2, 1)];
+
+// How many statements each script has.
+static LENGTHS: [usize; 3] = [2, 0, 1];
+
+fn expect_lengths(rt: &impl Abort, found: &Texts) {
+    expect_same(rt, &found.scripts.len(), &LENGTHS.len());
+    for (statements, length) in found.scripts.iter().zip(LENGTHS.iter()) {
+        expect_same(rt, &statements.len(), length);
     }
 }
 
@@ -54,22 +65,12 @@ fn ends_in_check(found: &Texts) -> bool {
     }
 }
 
-fn expect_texts(rt: &impl Abort, found: &Texts) {
-    assert_eq!(rt; found.schedule.as_slice(), [(1, 2), (2, 1)].as_slice());
-    assert_eq!(rt; found.scripts.len(), 3);
-    for (script, length) in [(0, 2), (1, 0), (2, 1)] {
-        assert_eq!(rt; length_of(found, script), Some(length), "script {script}");
-    }
-    assert!(rt; ends_in_check(found));
-}
-
 #[test]
-fn a_schedule_and_its_scripts_are_read(rt: HostRuntime) -> Result<(), Fail> {
-    let Ok(found) = read(rt.alloc(), &TEXTS, None)? else {
-        panic!(rt; "the texts are right");
-    };
-    expect_texts(&rt, &found);
-    Ok(())
+fn a_schedule_and_its_scripts_are_read(rt: HostRuntime) {
+    let found = read(&rt, rt.alloc(), &TEXTS, None).expect(&rt, "the texts are right");
+    expect_lengths(&rt, &found);
+    let is_right = found.schedule.as_slice() == SCHEDULE.as_slice() && ends_in_check(&found);
+    assert!(rt; is_right);
 }
 
 // Three texts, which source fails at its first read, and why they aren't taken.
@@ -134,20 +135,15 @@ static FAILING: [Case; 4] = [
     ),
 ];
 
-fn expect_stops(rt: &impl Abort, alloc: Global, cases: &[Case]) -> Result<(), Fail> {
+fn expect_stops(rt: &impl Abort, alloc: Global, cases: &[Case]) {
     for (texts, failing, stop) in cases {
-        let found = read(alloc, texts, *failing)?.err();
-        assert_eq!(rt; found, Some(*stop), "{texts:?}, {failing:?}");
+        let found = read(rt, alloc, texts, *failing).err();
+        expect_same(rt, &found, &Some(*stop));
     }
-    Ok(())
 }
 
 #[test]
-fn the_first_wrong_source_is_named(rt: HostRuntime) -> Result<(), Fail> {
-    expect_stops(&rt, rt.alloc(), &WRONG)
-}
-
-#[test]
-fn the_first_source_that_is_wrong_or_fails_decides(rt: HostRuntime) -> Result<(), Fail> {
-    expect_stops(&rt, rt.alloc(), &FAILING)
+fn the_first_source_that_is_wrong_or_fails_decides(rt: HostRuntime) {
+    expect_stops(&rt, rt.alloc(), &WRONG);
+    expect_stops(&rt, rt.alloc(), &FAILING);
 }

@@ -1,29 +1,25 @@
 // The words of the command line.
+use crate::expect::expect_same;
 use app_words::{Command, Names, names_of, read_words};
 use pg_base::{PageNo, Words};
-use std::alloc::{AllocError, Global};
+use std::alloc::Global;
 use std::process::Abort;
-use std::test::Fail;
 
-fn words_of(alloc: Global, texts: &[&str]) -> Result<Words, Fail> {
+fn words_of(rt: &impl Abort, alloc: Global, texts: &[&str]) -> Words {
     let mut words = Words::begin(alloc);
     for text in texts {
-        if words.push(text).is_err() {
-            return Err(Fail::from(AllocError));
-        }
+        words.push(text).expect(rt, "memory");
     }
-    Ok(words)
+    words
 }
 
 // `replay`, then so many names.
-fn replay(alloc: Global, names: usize) -> Result<Words, Fail> {
-    let mut words = words_of(alloc, &["replay"])?;
+fn replay(rt: &impl Abort, alloc: Global, names: usize) -> Words {
+    let mut words = words_of(rt, alloc, &["replay"]);
     for _ in 0..names {
-        if words.push("f").is_err() {
-            return Err(Fail::from(AllocError));
-        }
+        words.push("f").expect(rt, "memory");
     }
-    Ok(words)
+    words
 }
 
 // The words, and the command or the place of the first that is wrong.
@@ -51,19 +47,15 @@ static CASES: [(&[&str], Result<Command, u32>); 17] = [
 ];
 
 fn expect_command(rt: &impl Abort, words: &Words, wanted: &Result<Command, u32>) {
-    let found = match read_words(words) {
-        Ok(command) => Ok(command),
-        Err(stop) => Err(stop.at),
-    };
-    assert_eq!(rt; found, *wanted);
+    let found = read_words(words).map_err(|stop| stop.at);
+    expect_same(rt, &found, wanted);
 }
 
 #[test]
-fn the_first_wrong_or_missing_word_is_named(rt: HostRuntime) -> Result<(), Fail> {
-    for (texts, wanted) in CASES.iter() {
-        expect_command(&rt, &words_of(rt.alloc(), texts)?, wanted);
+fn the_first_wrong_or_missing_word_is_named(rt: HostRuntime) {
+    for (texts, wanted) in &CASES {
+        expect_command(&rt, &words_of(&rt, rt.alloc(), texts), wanted);
     }
-    Ok(())
 }
 
 // How many names stand behind `replay`.
@@ -75,23 +67,31 @@ static COUNT_CASES: [(usize, Result<Command, u32>); 4] = [
 ];
 
 #[test]
-fn replay_takes_so_many_names(rt: HostRuntime) -> Result<(), Fail> {
-    for (names, wanted) in COUNT_CASES.iter() {
-        expect_command(&rt, &replay(rt.alloc(), *names)?, wanted);
+fn replay_takes_so_many_names(rt: HostRuntime) {
+    for (names, wanted) in &COUNT_CASES {
+        expect_command(&rt, &replay(&rt, rt.alloc(), *names), wanted);
     }
-    Ok(())
 }
 
-fn expect_names(rt: &impl Abort, names: &Names) {
-    assert_eq!(rt; names.volume.as_str(), "d");
-    assert_eq!(rt; names.log.as_str(), "l");
-    assert_eq!(rt; names.sources.len(), 2);
-    assert_eq!(rt; names.sources[1].as_str(), "t");
+fn is_named(names: &Names) -> bool {
+    names.volume.as_str() == "d" && names.log.as_str() == "l"
+}
+
+static SOURCES: [&str; 2] = ["s", "t"];
+
+fn has_sources(names: &Names) -> bool {
+    names.sources.len() == SOURCES.len()
+        && names
+            .sources
+            .iter()
+            .zip(SOURCES.iter())
+            .all(|(name, wanted)| name.as_str() == *wanted)
 }
 
 #[test]
-fn the_files_are_named(rt: HostRuntime) -> Result<(), Fail> {
-    let words = words_of(rt.alloc(), &["replay", "d", "l", "s", "t"])?;
-    expect_names(&rt, &names_of(rt.alloc(), &words)?);
-    Ok(())
+fn the_files_are_named(rt: HostRuntime) {
+    let words = words_of(&rt, rt.alloc(), &["replay", "d", "l", "s", "t"]);
+    let names = names_of(rt.alloc(), &words).expect(&rt, "memory");
+    let is_right = is_named(&names) && has_sources(&names);
+    assert!(rt; is_right);
 }

@@ -1,0 +1,15 @@
+pub mod Clean
+pub mod Lists
+pub mod Fit
+pub mod Found
+pub mod Distinct
+pub mod Build
+pub mod Close
+pub mod Rules
+pub mod Free
+pub mod Facts
+pub mod Search
+pub mod Places
+pub mod ToClean
+pub mod FromClean
+pub mod Proved

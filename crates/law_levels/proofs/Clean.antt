@@ -7,19 +7,19 @@ use Rattle.law_levels.specs.Known.{Parent, last_value, last_of, first_of}
 -- High and Before of the row that stands on the node between front and back
 pub data High (seen : List Page) (node : Index) (back : List (Row ℕ)) (w : ℕ) : Type 0 where
   Within : first_key back ≡ Some w → High seen node back w
-  Beyond : (l : ℕ) (m : Index) → first_key back ≡ None → Contains seen (Page.AtIndex l m) → m.page ≡ node.next → first_key m.rows ≡ Some w
+  Beyond : (l : ℕ) (m : Index) → first_key back ≡ None → Contains seen (Page.IndexPage l m) → m.page ≡ node.next → first_key m.rows ≡ Some w
       → High seen node back w
 
 pub data Before (seen : List Page) (node : Index) (front : List (Row ℕ)) (w : ℕ) : Type 0 where
   Within : 0 < length front → last_value front ≡ w → Before seen node front w
   Leftmost : length front ≡ 0 → node.prev ≡ 0 → w ≡ 0 → Before seen node front w
-  Beyond : (l : ℕ) (m : Index) → length front ≡ 0 → node.prev ≢ 0 → Contains seen (Page.AtIndex l m) → m.page ≡ node.prev
+  Beyond : (l : ℕ) (m : Index) → length front ≡ 0 → node.prev ≢ 0 → Contains seen (Page.IndexPage l m) → m.page ≡ node.prev
       → last_value m.rows ≡ w → Before seen node front w
 
 -- the first key of a leaf is from low on, that of an index page is low
 abbrev pub FirstFits : ℕ → Page → Type 0
-FirstFits low (Page.AtLeaf n) = (key : ℕ) → first_of (keys_on (Page.AtLeaf n)) ≡ Some key → low ≤ key
-FirstFits low (Page.AtIndex l n) = first_key n.rows ≡ Some low
+FirstFits low (Page.LeafPage n) = (key : ℕ) → first_of (keys_on (Page.LeafPage n)) ≡ Some key → low ≤ key
+FirstFits low (Page.IndexPage l n) = first_key n.rows ≡ Some low
 
 -- no error of a rule stands
 pub record IsClean (root : ℕ) (seen : List Page) : Type 0 where

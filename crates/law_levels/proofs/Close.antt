@@ -4,7 +4,7 @@ use Rattle.std.proofs.lemmas.List.Elements.{Contains-append_left, Contains-appen
 use Rattle.spec_check.proofs.Members.{nothing_there, cons_cases, cons_here, cons_there, map_from, map_in}
 use Rattle.spec_levels.specs.Levels.{Row, Node, Index, Leaf, Tree, AreDistinct, rows_of, pages_of, root_row, IsLinked, AreLevels}
 use Rattle.spec_levels.specs.Pages.{Page, page_of, prev_of, level_of, keys_on, level_pages, IsTreeOf}
-use Rattle.law_levels.specs.Known.{ArePages}
+use Rattle.law_levels.specs.Known.{AreWellFormed}
 use Rattle.law_levels.proofs.Clean.{IsClean}
 use Rattle.law_levels.proofs.Lists.{rises_between}
 use Rattle.law_levels.proofs.Fit.{IsChained, AllFit, first_fits}
@@ -49,11 +49,11 @@ prior_in {V = V} before (node ∷ nodes) chained q i =
     (cons_cases node nodes q i)
 
 pub level_low : (above : List (List Index)) (leaves : List Leaf) (p : Page) → Contains (level_pages above leaves) p → level_of p ≤ length above
-level_low [] leaves p i = let n = map_from Page.AtLeaf leaves p i in subst (λ q. level_of q ≤ 0) n.2 (omega arith)
+level_low [] leaves p i = let n = map_from Page.LeafPage leaves p i in subst (λ q. level_of q ≤ 0) n.2 (omega arith)
 level_low (nodes ∷ more) leaves p i = ⊎_elim
-    (λ here. let n = map_from (Page.AtIndex (suc (length more))) nodes p here in subst (λ q. level_of q ≤ suc (length more)) n.2 (omega arith))
+    (λ here. let n = map_from (Page.IndexPage (suc (length more))) nodes p here in subst (λ q. level_of q ≤ suc (length more)) n.2 (omega arith))
     (λ there. let low = level_low more leaves p there in omega (arith, low))
-    (Contains-append_cases (map (Page.AtIndex (suc (length more))) nodes) (level_pages more leaves) p i)
+    (Contains-append_cases (map (Page.IndexPage (suc (length more))) nodes) (level_pages more leaves) p i)
 
 -- a page that q, of a level, names as prev, on the same level
 record Prior (q : Page) (all : List Page) : Type 0 where
@@ -77,18 +77,18 @@ prior_node level at page prev depth nodes chained q i some =
 
 prior : (rows : List (Row ℕ)) (above : List (List Index)) (leaves : List Leaf) → AreChained rows above leaves → (q : Page) → Contains (level_pages above leaves) q
     → prev_of q ≢ 0 → Prior q (level_pages above leaves)
-prior rows [] leaves chained q i some = prior_node 0 Page.AtLeaf (λ n. refl) (λ n. refl) (λ n. refl) leaves chained.1 q i some
+prior rows [] leaves chained q i some = prior_node 0 Page.LeafPage (λ n. refl) (λ n. refl) (λ n. refl) leaves chained.1 q i some
 prior rows (nodes ∷ more) leaves chained q i some =
     let level = suc (length more) in
-    let at = map (Page.AtIndex level) nodes in
-    ⊎_elim (λ here. let r = prior_node level (Page.AtIndex level) (λ n. refl) (λ n. refl) (λ n. refl) nodes chained.1 q here some in
+    let at = map (Page.IndexPage level) nodes in
+    ⊎_elim (λ here. let r = prior_node level (Page.IndexPage level) (λ n. refl) (λ n. refl) (λ n. refl) nodes chained.1 q here some in
     record { p = r.p; on = Contains-append_left at (level_pages more leaves) r.p r.on; page = r.page; same = r.same })
     (λ there. let r = prior (rows_of nodes) more leaves chained.2 q there some in
     record { p = r.p; on = Contains-append_right at (level_pages more leaves) r.p r.on; page = r.page; same = r.same })
     (Contains-append_cases at (level_pages more leaves) q i)
 
 -- the last page of a level that has all its pages names no next
-last_next : {V : Type 0} (root : ℕ) (seen : List Page) (level : ℕ) (at : Node V → Page) → ArePages seen → IsClean root seen → Views seen level at
+last_next : {V : Type 0} (root : ℕ) (seen : List Page) (level : ℕ) (at : Node V → Page) → AreWellFormed seen → IsClean root seen → Views seen level at
     → ((q : Page) → Contains seen q → prev_of q ≢ 0 → Prior q seen) → (nodes : List (Node V)) → IsChained 0 nodes → AreDistinct (pages_of nodes) → AllOn seen at nodes
     → ((q : Page) → Contains seen q → level_of q ≡ level → (n : Node V) × Contains nodes n × (at n ≡ q)) → (n : Node V) → Contains nodes n → n.page ≡ last_page nodes → n.next ≡ 0
 last_next {V = V} root seen level at pages clean views priors nodes chained distinct on all n i last = zero_or n.next (λ some.
@@ -97,7 +97,7 @@ last_next {V = V} root seen level at pages clean views priors nodes chained dist
     let back = clean.crossed (at n) q.0 here q.1 q.2 in
     let nonzero = pages.nonzero (at n) here in
     let r = priors q.0 q.1 (λ none. nonzero (sym back ∙ none)) in
-    let is : r.p ≡ at n = pages.one r.p (at n) r.on here (r.page ∙ back) in
+    let is : r.p ≡ at n = pages.once r.p (at n) r.on here (r.page ∙ back) in
     let m = all q.0 q.1 (sym r.same ∙ (ap level_of is ∙ views.depth n)) in
     let page : prev_of q.0 ≡ n.page = back ∙ views.page n in
     none_after 0 nodes chained distinct (λ e. nonzero (views.page n ∙ (last ∙ sym e))) m.0 m.1
@@ -118,65 +118,65 @@ pub first_distinct : (xs ys : List ℕ) → AreDistinct (xs ++ ys) → AreDistin
 first_distinct [] ys d = (tt, d)
 first_distinct (x ∷ xs) ys d = let rest = first_distinct xs ys d.1 in ((λ h. d.0 (Contains-append_left xs ys x h), rest.0), rest.1)
 
-leaves_distinct : (leaves : List Leaf) → map page_of (map Page.AtLeaf leaves) ≡ pages_of leaves
+leaves_distinct : (leaves : List Leaf) → map page_of (map Page.LeafPage leaves) ≡ pages_of leaves
 leaves_distinct leaves = tree_pages_are [] leaves
 
 -- the levels are linked to their ends
-close : (root : ℕ) (seen : List Page) → ArePages seen → IsClean root seen → ((q : Page) → Contains seen q → prev_of q ≢ 0 → Prior q seen)
+close : (root : ℕ) (seen : List Page) → AreWellFormed seen → IsClean root seen → ((q : Page) → Contains seen q → prev_of q ≢ 0 → Prior q seen)
     → (rows : List (Row ℕ)) (above : List (List Index)) (leaves : List Leaf) → AreChained rows above leaves → AreOn seen above leaves → AreAll seen above leaves
     → AreDistinct (map page_of (level_pages above leaves)) → AreLevels rows above leaves
 close root seen pages clean priors rows [] leaves chained on all distinct = (
   chained.0,
-  link_last 0 leaves chained.1 (last_next root seen 0 Page.AtLeaf pages clean (leaf_views seen pages) priors leaves chained.1
-      (subst AreDistinct (leaves_distinct leaves) distinct) (λ n i. on (Page.AtLeaf n) (map_in Page.AtLeaf leaves n i))
-      (λ q i is. map_from Page.AtLeaf leaves q (all q i (omega (arith, is))))),
+  link_last 0 leaves chained.1 (last_next root seen 0 Page.LeafPage pages clean (leaf_views seen pages) priors leaves chained.1
+      (subst AreDistinct (leaves_distinct leaves) distinct) (λ n i. on (Page.LeafPage n) (map_in Page.LeafPage leaves n i))
+      (λ q i is. map_from Page.LeafPage leaves q (all q i (omega (arith, is))))),
 )
 close root seen pages clean priors rows (nodes ∷ more) leaves chained on all distinct =
     let level = suc (length more) in
-    let at = map (Page.AtIndex level) nodes in
+    let at = map (Page.IndexPage level) nodes in
     let apart = first_distinct (pages_of nodes) (map page_of (level_pages more leaves)) (subst AreDistinct (level_step nodes more leaves) distinct) in (
       chained.0,
-      link_last 0 nodes chained.1 (last_next root seen level (Page.AtIndex level) pages clean (index_views seen (length more)) priors nodes chained.1
-          apart.0 (λ n i. on (Page.AtIndex level n) (Contains-append_left at (level_pages more leaves) (Page.AtIndex level n) (map_in (Page.AtIndex level) nodes n i)))
-          (λ q i is. ⊎_elim (λ here. map_from (Page.AtIndex level) nodes q here)
+      link_last 0 nodes chained.1 (last_next root seen level (Page.IndexPage level) pages clean (index_views seen (length more)) priors nodes chained.1
+          apart.0 (λ n i. on (Page.IndexPage level n) (Contains-append_left at (level_pages more leaves) (Page.IndexPage level n) (map_in (Page.IndexPage level) nodes n i)))
+          (λ q i is. ⊎_elim (λ here. map_from (Page.IndexPage level) nodes q here)
           (λ there. let low = level_low more leaves q there in absurd (omega (arith, low, is)))
           (Contains-append_cases at (level_pages more leaves) q (all q i (omega (arith, is)))))),
       close root seen pages clean priors (rows_of nodes) more leaves chained.2
           (λ p i. on p (Contains-append_right at (level_pages more leaves) p i))
           (λ p i low. ⊎_elim
-          (λ here. let n = map_from (Page.AtIndex level) nodes p here in let deep : level ≡ level_of p = ap level_of n.2 in absurd (omega (arith, deep, low)))
+          (λ here. let n = map_from (Page.IndexPage level) nodes p here in let deep : level ≡ level_of p = ap level_of n.2 in absurd (omega (arith, deep, low)))
           (λ there. there) (Contains-append_cases at (level_pages more leaves) p (all p i (omega (arith, low)))))
           apart.1,
     )
 
-level_high : (seen : List Page) → ArePages seen → (p : Page) → Contains seen p → level_of p ≤ 15
-level_high seen pages (Page.AtLeaf n) i = omega arith
-level_high seen pages (Page.AtIndex l n) i = (pages.level l n i).1
+level_high : (seen : List Page) → AreWellFormed seen → (p : Page) → Contains seen p → level_of p ≤ 15
+level_high seen pages (Page.LeafPage n) i = omega arith
+level_high seen pages (Page.IndexPage l n) i = (pages.levels l n i).1
 
 -- each page is the root, or below its level
-climb : (root : ℕ) (seen : List Page) → ArePages seen → (clean : IsClean root seen) → (n : ℕ) (p : Page) → Contains seen p → level_of p + n ≡ 15
+climb : (root : ℕ) (seen : List Page) → AreWellFormed seen → (clean : IsClean root seen) → (n : ℕ) (p : Page) → Contains seen p → level_of p + n ≡ 15
     → (p ≡ clean.root_seen.0) ⊎ (level_of p < level_of clean.root_seen.0)
 climb root seen pages clean zero p i is =
-    ⊎_elim (λ at_root. inl (pages.one p clean.root_seen.0 i clean.root_seen.1 (at_root ∙ sym clean.root_seen.2)))
-    (λ a. let deep = clean.level p i a in let high = pages.level a.level a.node a.on in absurd (omega (arith, deep, is, high.1))) (clean.parent p i)
+    ⊎_elim (λ at_root. inl (pages.once p clean.root_seen.0 i clean.root_seen.1 (at_root ∙ sym clean.root_seen.2)))
+    (λ a. let deep = clean.level p i a in let high = pages.levels a.level a.node a.on in absurd (omega (arith, deep, is, high.1))) (clean.parent p i)
 climb root seen pages clean (suc n) p i is =
-    ⊎_elim (λ at_root. inl (pages.one p clean.root_seen.0 i clean.root_seen.1 (at_root ∙ sym clean.root_seen.2)))
+    ⊎_elim (λ at_root. inl (pages.once p clean.root_seen.0 i clean.root_seen.1 (at_root ∙ sym clean.root_seen.2)))
     (λ a. let deep = clean.level p i a in
     ⊎_elim (λ e. let same : a.level ≡ level_of clean.root_seen.0 = ap level_of e in inr (omega (arith, deep, same)))
     (λ low. inr (omega (arith, deep, low)))
-    (climb root seen pages clean n (Page.AtIndex a.level a.node) a.on (omega (arith, deep, is)))) (clean.parent p i)
+    (climb root seen pages clean n (Page.IndexPage a.level a.node) a.on (omega (arith, deep, is)))) (clean.parent p i)
 
-top_or_below : (root : ℕ) (seen : List Page) → ArePages seen → (clean : IsClean root seen) → (p : Page) → Contains seen p
+top_or_below : (root : ℕ) (seen : List Page) → AreWellFormed seen → (clean : IsClean root seen) → (p : Page) → Contains seen p
     → (p ≡ clean.root_seen.0) ⊎ (level_of p < level_of clean.root_seen.0)
 top_or_below root seen pages clean p i =
     let high = level_high seen pages p i in climb root seen pages clean (15 - level_of p) p i (omega (arith, high))
 
-only_root : (root : ℕ) (seen : List Page) → ArePages seen → (clean : IsClean root seen) → AreNamed seen (level_of clean.root_seen.0) (root_row root ∷ [])
+only_root : (root : ℕ) (seen : List Page) → AreWellFormed seen → (clean : IsClean root seen) → AreNamed seen (level_of clean.root_seen.0) (root_row root ∷ [])
 only_root root seen pages clean p i is =
     ⊎_elim (λ e. subst (Contains (root ∷ [])) (sym clean.root_seen.2 ∙ ap page_of (sym e)) (cons_here root []))
     (λ low. absurd (omega (arith, is, low))) (top_or_below root seen pages clean p i)
 
-root_fits : (root : ℕ) (seen : List Page) → ArePages seen → (clean : IsClean root seen) → AllFit seen (level_of clean.root_seen.0) 0 None (root_row root ∷ [])
+root_fits : (root : ℕ) (seen : List Page) → AreWellFormed seen → (clean : IsClean root seen) → AllFit seen (level_of clean.root_seen.0) 0 None (root_row root ∷ [])
 root_fits root seen pages clean =
     let p = clean.root_seen.0 in
     let on = clean.root_seen.1 in
@@ -196,12 +196,12 @@ root_fits root seen pages clean =
     )
 
 -- where no error stands, the pages seen are a tree
-pub clean_is_tree : (root : ℕ) (seen : List Page) → ArePages seen → IsClean root seen → (tree : Tree) × IsTreeOf root seen tree
+pub clean_is_tree : (root : ℕ) (seen : List Page) → AreWellFormed seen → IsClean root seen → (tree : Tree) × IsTreeOf root seen tree
 clean_is_tree root seen pages clean =
     let pr = clean.root_seen in
     let top = level_of pr.0 in
     let rows = root_row root ∷ [] in
-    let tops : (p : Page) → Contains seen p → page_of p ≡ root → level_of p ≡ top = λ p i at. ap level_of (pages.one p pr.0 i pr.1 (at ∙ sym pr.2)) in
+    let tops : (p : Page) → Contains seen p → page_of p ≡ root → level_of p ≡ top = λ p i at. ap level_of (pages.once p pr.0 i pr.1 (at ∙ sym pr.2)) in
     let b = build seen pages root top clean tops top rows (omega arith) (root_fits root seen pages clean)
     (λ h. nothing_there root h, tt) (only_root root seen pages clean) in
     let low : (p : Page) → Contains seen p → level_of p ≤ top =

@@ -14,7 +14,7 @@ abbrev pub values_of : List (Row ℕ) → List ℕ
 values_of rows = map (λ row. row.value) rows
 
 -- the rows of a node name distinct pages
-node_distinct : (root : ℕ) (seen : List Page) → IsClean root seen → (level : ℕ) (node : Index) → Contains seen (Page.AtIndex level node)
+node_distinct : (root : ℕ) (seen : List Page) → IsClean root seen → (level : ℕ) (node : Index) → Contains seen (Page.IndexPage level node)
     → (front rest : List (Row ℕ)) → node.rows ≡ front ++ rest → AreDistinct (values_of rest)
 node_distinct root seen clean level node on front [] rows = tt
 node_distinct root seen clean level node on front (row ∷ back) rows = (

@@ -4,9 +4,9 @@ use Rattle.std.proofs.lemmas.List.{length-append, append_assoc}
 use Rattle.spec_check.proofs.Members.{cons_here, cons_there}
 use Rattle.spec_levels.specs.Levels.{Row, Node, Index, IsBelow, Rises, first_key, keys_of, rows_of}
 use Rattle.spec_levels.specs.Pages.{Page, page_of, prev_of, level_of, keys_on}
-use Rattle.law_levels.specs.Known.{ArePages, Parent, last_value, first_of}
+use Rattle.law_levels.specs.Known.{AreWellFormed, Parent, last_value, first_of}
 use Rattle.law_levels.proofs.Clean.{High, Before, FirstFits, IsClean}
-use Rattle.law_levels.proofs.Lists.{last_push, rises_between}
+use Rattle.law_levels.proofs.Lists.{last_push, rises_between, some_rows}
 
 -- the page fits the row that names it, and the page that stands before it
 pub record Fits (seen : List Page) (level : ℕ) (row : Row ℕ) (end : Option ℕ) (prior : ℕ) (p : Page) : Type 0 where
@@ -49,10 +49,10 @@ some_le : (key low : ℕ) → Some key ≡ Some low → low ≤ key
 some_le key low e = let is : key ≡ low = cc in omega (arith, is)
 
 pub first_fits : (low : ℕ) (p : Page) → FirstFits low p → (key : ℕ) → first_of (keys_on p) ≡ Some key → low ≤ key
-first_fits low (Page.AtLeaf n) fits key is = fits key is
-first_fits low (Page.AtIndex l n) fits key is = some_le key low (sym is ∙ (first_is n.rows ∙ fits))
+first_fits low (Page.LeafPage n) fits key is = fits key is
+first_fits low (Page.IndexPage l n) fits key is = some_le key low (sym is ∙ (first_is n.rows ∙ fits))
 
-abbrev pub parent_at : (seen : List Page) (level k : ℕ) (node : Index) (front : List (Row ℕ)) (row : Row ℕ) (back : List (Row ℕ)) → Contains seen (Page.AtIndex level node)
+abbrev pub parent_at : (seen : List Page) (level k : ℕ) (node : Index) (front : List (Row ℕ)) (row : Row ℕ) (back : List (Row ℕ)) → Contains seen (Page.IndexPage level node)
     → node.rows ≡ front ++ row ∷ back → row.value ≡ k → Parent seen k
 parent_at seen level k node front row back on rows names =
     record { level = level; node = node; front = front; row = row; back = back; on = on; rows = rows; names = names }
@@ -71,8 +71,8 @@ high_is seen node [] end ends w is = ends w is
 high_is seen node (row ∷ back) end ends w is = High.Within is
 
 -- a row of an index page that is seen names a page that fits it
-row_fits : (root : ℕ) (seen : List Page) → ArePages seen → IsClean root seen → (level : ℕ) (node : Index) (front : List (Row ℕ)) (row : Row ℕ) (back : List (Row ℕ))
-    (prior : ℕ) (end : Option ℕ) → Contains seen (Page.AtIndex (suc level) node) → node.rows ≡ front ++ row ∷ back → Before seen node front prior
+row_fits : (root : ℕ) (seen : List Page) → AreWellFormed seen → IsClean root seen → (level : ℕ) (node : Index) (front : List (Row ℕ)) (row : Row ℕ) (back : List (Row ℕ))
+    (prior : ℕ) (end : Option ℕ) → Contains seen (Page.IndexPage (suc level) node) → node.rows ≡ front ++ row ∷ back → Before seen node front prior
     → ((w : ℕ) → first_or back end ≡ Some w → High seen node back w) → (p : Page) × Fits seen level row (first_or back end) prior p
 row_fits root seen pages clean level node front row back prior end on rows before high =
     let found = clean.child_seen row.value (parent_at seen (suc level) row.value node front row back on rows refl) in
@@ -91,8 +91,8 @@ row_fits root seen pages clean level node front row back prior end on rows befor
       },
     )
 
-node_rows : (root : ℕ) (seen : List Page) → ArePages seen → IsClean root seen → (level : ℕ) (node : Index) (front rest : List (Row ℕ)) (prior : ℕ) (end : Option ℕ)
-    → Contains seen (Page.AtIndex (suc level) node) → node.rows ≡ front ++ rest → Before seen node front prior
+node_rows : (root : ℕ) (seen : List Page) → AreWellFormed seen → IsClean root seen → (level : ℕ) (node : Index) (front rest : List (Row ℕ)) (prior : ℕ) (end : Option ℕ)
+    → Contains seen (Page.IndexPage (suc level) node) → node.rows ≡ front ++ rest → Before seen node front prior
     → ((w : ℕ) → end ≡ Some w → High seen node [] w) → AllFit seen level prior end rest
 node_rows root seen pages clean level node front [] prior end on rows before ends = tt
 node_rows root seen pages clean level node front (row ∷ back) prior end on rows before ends = (
@@ -117,7 +117,7 @@ IsStart seen prior [] = Unit {0}
 IsStart seen prior (node ∷ nodes) = Before seen node [] prior
 
 abbrev pub AreSeen : List Page → ℕ → List Index → Type 0
-AreSeen seen level nodes = (n : Index) → Contains nodes n → Contains seen (Page.AtIndex level n)
+AreSeen seen level nodes = (n : Index) → Contains nodes n → Contains seen (Page.IndexPage level n)
 
 first_front : (rows : List (Row ℕ)) (row : Row ℕ) (rest ys : List (Row ℕ)) → rows ≡ row ∷ rest → first_key (rows ++ ys) ≡ first_key rows
 first_front [] row rest ys e = absurd (cc)
@@ -131,24 +131,24 @@ first_none : (rows : List (Row ℕ)) → first_or rows None ≡ first_key rows
 first_none [] = refl
 first_none (row ∷ rows) = refl
 
-beyond : (seen : List Page) → ArePages seen → (level : ℕ) (node : Index) (nodes : List Index) → AreSeen seen level (node ∷ nodes)
+beyond : (seen : List Page) → AreWellFormed seen → (level : ℕ) (node : Index) (nodes : List Index) → AreSeen seen level (node ∷ nodes)
     → NextIs node nodes → (w : ℕ) → first_key (rows_of nodes) ≡ Some w → High seen node [] w
 beyond seen pages level node [] are next w is = absurd (cc)
 beyond seen pages level node (m ∷ nodes) are next w is =
     let on = are m (cons_there node (m ∷ nodes) m (cons_here m nodes)) in
-    let some = pages.some level m on in
+    let some = some_rows m.rows (pages.some_row level m on) in
     High.Beyond level m refl on (sym next) (sym (first_front m.rows some.0 some.1 (rows_of nodes) some.2) ∙ is)
 
-starts : (seen : List Page) → ArePages seen → (level prior : ℕ) (node : Index) (nodes : List Index) → Contains seen (Page.AtIndex level node)
+starts : (seen : List Page) → AreWellFormed seen → (level prior : ℕ) (node : Index) (nodes : List Index) → Contains seen (Page.IndexPage level node)
     → IsChained node.page nodes → IsStart seen (last_or prior node.rows) nodes
 starts seen pages level prior node [] on chained = tt
 starts seen pages level prior node (m ∷ nodes) on chained =
-    let some = pages.some level node on in
-    Before.Beyond level node refl (λ none. pages.nonzero (Page.AtIndex level node) on (sym chained.0 ∙ none)) on (sym chained.0)
+    let some = some_rows node.rows (pages.some_row level node on) in
+    Before.Beyond level node refl (λ none. pages.nonzero (Page.IndexPage level node) on (sym chained.0 ∙ none)) on (sym chained.0)
     (last_front prior node.rows some.0 some.1 some.2)
 
 -- so the rows of a whole level name pages that fit
-pub level_fits : (root : ℕ) (seen : List Page) → ArePages seen → IsClean root seen → (level before prior : ℕ) (nodes : List Index) → AreSeen seen (suc level) nodes
+pub level_fits : (root : ℕ) (seen : List Page) → AreWellFormed seen → IsClean root seen → (level before prior : ℕ) (nodes : List Index) → AreSeen seen (suc level) nodes
     → IsChained before nodes → IsStart seen prior nodes → AllFit seen level prior None (rows_of nodes)
 level_fits root seen pages clean level before prior [] are chained start = tt
 level_fits root seen pages clean level before prior (node ∷ nodes) are chained start =

@@ -3,7 +3,7 @@ use Rattle.std.proofs.Common.{◌≡◌, ℕ, suc, Option, None, List, [], ◌�
 use Rattle.spec_check.proofs.Members.{nothing_there, cons_cases, cons_here, cons_there}
 use Rattle.spec_levels.specs.Levels.{Row, Node, Index, Leaf, first_key, keys_of, AreUnder, IsUnder, IsIndexUnder}
 use Rattle.spec_levels.specs.Pages.{Page, page_of, prev_of, next_of, level_of, keys_on}
-use Rattle.law_levels.specs.Known.{ArePages}
+use Rattle.law_levels.specs.Known.{AreWellFormed}
 use Rattle.law_levels.proofs.Clean.{IsClean}
 use Rattle.law_levels.proofs.Fit.{Fits, AllFit, first_or, NextIs, IsChained}
 
@@ -16,7 +16,7 @@ pub record Views {V : Type 0} (seen : List Page) (level : ℕ) (at : Node V → 
   pub depth : (n : Node V) → level_of (at n) ≡ level
   pub from : (p : Page) → Contains seen p → level_of p ≡ level → (n : Node V) × (p ≡ at n)
 
-pub leaf_views : (seen : List Page) → ArePages seen → Views seen 0 Page.AtLeaf
+pub leaf_views : (seen : List Page) → AreWellFormed seen → Views seen 0 Page.LeafPage
 leaf_views seen pages = record {
   page = λ n. refl;
   prev = λ n. refl;
@@ -25,15 +25,15 @@ leaf_views seen pages = record {
   depth = λ n. refl;
   from = leaf_from seen pages;
 } where
-  leaf_from : (seen : List Page) → ArePages seen → (p : Page) → Contains seen p → level_of p ≡ 0 → (n : Leaf) × (p ≡ Page.AtLeaf n)
-  leaf_from seen pages (Page.AtLeaf n) on at = (n, refl)
-  leaf_from seen pages (Page.AtIndex l n) on at = absurd (omega (arith, at, (pages.level l n on).0))
+  leaf_from : (seen : List Page) → AreWellFormed seen → (p : Page) → Contains seen p → level_of p ≡ 0 → (n : Leaf) × (p ≡ Page.LeafPage n)
+  leaf_from seen pages (Page.LeafPage n) on at = (n, refl)
+  leaf_from seen pages (Page.IndexPage l n) on at = absurd (omega (arith, at, (pages.levels l n on).0))
 
-index_from : (seen : List Page) (level : ℕ) (p : Page) → Contains seen p → level_of p ≡ suc level → (n : Index) × (p ≡ Page.AtIndex (suc level) n)
-index_from seen level (Page.AtLeaf n) on at = absurd (omega (arith, at))
-index_from seen level (Page.AtIndex l n) on at = (n, ap (λ k. Page.AtIndex k n) at)
+index_from : (seen : List Page) (level : ℕ) (p : Page) → Contains seen p → level_of p ≡ suc level → (n : Index) × (p ≡ Page.IndexPage (suc level) n)
+index_from seen level (Page.LeafPage n) on at = absurd (omega (arith, at))
+index_from seen level (Page.IndexPage l n) on at = (n, ap (λ k. Page.IndexPage k n) at)
 
-pub index_views : (seen : List Page) (level : ℕ) → Views seen (suc level) (Page.AtIndex (suc level))
+pub index_views : (seen : List Page) (level : ℕ) → Views seen (suc level) (Page.IndexPage (suc level))
 index_views seen level = record {
   page = λ n. refl;
   prev = λ n. refl;
@@ -82,15 +82,15 @@ find {V = V} seen level at Is views is before (row ∷ rows) fits =
       prevs = (sym (views.prev node.0) ∙ here.prev, subst (λ k. ArePrev k rest.nodes) page rest.prevs);
     }
 
-pub is_leaf : (seen : List Page) (row : Row ℕ) (end : Option ℕ) (before : ℕ) (n : Leaf) → Fits seen 0 row end before (Page.AtLeaf n) → IsUnder row end n
+pub is_leaf : (seen : List Page) (row : Row ℕ) (end : Option ℕ) (before : ℕ) (n : Leaf) → Fits seen 0 row end before (Page.LeafPage n) → IsUnder row end n
 is_leaf seen row end before n fits = record { page = sym fits.page; keys = fits.keys }
 
-pub is_index : (seen : List Page) (level : ℕ) (row : Row ℕ) (end : Option ℕ) (before : ℕ) (n : Index) → Fits seen level row end before (Page.AtIndex level n)
+pub is_index : (seen : List Page) (level : ℕ) (row : Row ℕ) (end : Option ℕ) (before : ℕ) (n : Index) → Fits seen level row end before (Page.IndexPage level n)
     → IsIndexUnder row end n
 is_index seen level row end before n fits = record { under = record { page = sym fits.page; keys = fits.keys }; first = fits.first }
 
 -- a page that names the page before it as prev is the one that this names as next
-next_is : {V : Type 0} (root : ℕ) (seen : List Page) (level : ℕ) (at : Node V → Page) → ArePages seen → IsClean root seen → Views seen level at
+next_is : {V : Type 0} (root : ℕ) (seen : List Page) (level : ℕ) (at : Node V → Page) → AreWellFormed seen → IsClean root seen → Views seen level at
     → (node : Node V) (nodes : List (Node V)) → AllOn seen at (node ∷ nodes) → ArePrev node.page nodes → NextIs node nodes
 next_is root seen level at pages clean views node [] on prevs = tt
 next_is {V = V} root seen level at pages clean views node (m ∷ nodes) on prevs =
@@ -98,10 +98,10 @@ next_is {V = V} root seen level at pages clean views node (m ∷ nodes) on prevs
     let there = on m (cons_there node (m ∷ nodes) m (cons_here m nodes)) in
     let is : prev_of (at m) ≡ page_of (at node) = views.prev m ∙ (prevs.0 ∙ sym (views.page node)) in
     let before = clean.linked (at m) there (λ none. pages.nonzero (at node) here (sym is ∙ none)) in
-    let same : before.0 ≡ at node = pages.one before.0 (at node) before.1 here (before.3 ∙ is) in
+    let same : before.0 ≡ at node = pages.once before.0 (at node) before.1 here (before.3 ∙ is) in
     sym (views.next node) ∙ (sym (ap next_of same) ∙ (before.2 ∙ views.page m))
 
-pub chain : {V : Type 0} (root : ℕ) (seen : List Page) (level : ℕ) (at : Node V → Page) → ArePages seen → IsClean root seen → Views seen level at
+pub chain : {V : Type 0} (root : ℕ) (seen : List Page) (level : ℕ) (at : Node V → Page) → AreWellFormed seen → IsClean root seen → Views seen level at
     → (before : ℕ) (nodes : List (Node V)) → AllOn seen at nodes → ArePrev before nodes → IsChained before nodes
 chain root seen level at pages clean views before [] on prevs = tt
 chain root seen level at pages clean views before (node ∷ nodes) on prevs = (

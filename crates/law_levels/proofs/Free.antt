@@ -5,7 +5,7 @@ use Rattle.std.proofs.lemmas.List.Elements.{Contains-append_left, Contains-appen
 use Rattle.spec_check.proofs.Members.{nothing_there, cons_cases, cons_there, map_from, map_in}
 use Rattle.spec_levels.specs.Levels.{Row, Index, Leaf, Tree, AreDistinct, rows_of, pages_of, first_key, root_row, IsUnder, IsIndexUnder, AreLevels}
 use Rattle.spec_levels.specs.Pages.{Page, page_of, prev_of, next_of, level_of, keys_on, level_pages, IsTreeOf}
-use Rattle.law_levels.specs.Known.{ArePages, Parent, last_of}
+use Rattle.law_levels.specs.Known.{AreWellFormed, Parent, last_of}
 use Rattle.law_levels.proofs.Clean.{IsClean, High, Before, FirstFits}
 use Rattle.law_levels.proofs.Lists.{part_in, flat_in}
 use Rattle.law_levels.proofs.Fit.{AreSeen}
@@ -68,30 +68,30 @@ named_distinct rows (nodes ∷ more) leaves levels d =
     subst AreDistinct (sym (under_pages IsIndexUnder (λ r end m is. is.under.page) rows nodes levels.0)) two.0
 
 one_place : (rows : List (Row ℕ)) (above : List (List Index)) (leaves : List Leaf) → AreLevels rows above leaves → AreDistinct (map page_of (level_pages above leaves))
-    → (l : ℕ) (m n : Index) → Contains (level_pages above leaves) (Page.AtIndex l m) → Contains (level_pages above leaves) (Page.AtIndex l n) → (s : Spot m) (t : Spot n)
+    → (l : ℕ) (m n : Index) → Contains (level_pages above leaves) (Page.IndexPage l m) → Contains (level_pages above leaves) (Page.IndexPage l n) → (s : Spot m) (t : Spot n)
     → s.row.value ≡ t.row.value → SamePlace m n s t
-one_place rows [] leaves levels d l m n i j s t same = let no = map_from Page.AtLeaf leaves (Page.AtIndex l m) i in let e = no.2 in absurd (cc)
+one_place rows [] leaves levels d l m n i j s t same = let no = map_from Page.LeafPage leaves (Page.IndexPage l m) i in let e = no.2 in absurd (cc)
 one_place rows (nodes ∷ more) leaves levels d l m n i j s t same =
     let level = suc (length more) in
-    let at = map (Page.AtIndex level) nodes in
+    let at = map (Page.IndexPage level) nodes in
     let rest = level_pages more leaves in
     let two = first_distinct (pages_of nodes) (map page_of rest) (subst AreDistinct (level_step nodes more leaves) d) in
     ⊎_elim
-    (λ here. let x = map_from (Page.AtIndex level) nodes (Page.AtIndex l m) here in
+    (λ here. let x = map_from (Page.IndexPage level) nodes (Page.IndexPage l m) here in
     let deep : level ≡ l = ap level_of x.2 in
     ⊎_elim
-    (λ too. let y = map_from (Page.AtIndex level) nodes (Page.AtIndex l n) too in
+    (λ too. let y = map_from (Page.IndexPage level) nodes (Page.IndexPage l n) too in
     rows_once nodes (named_distinct (rows_of nodes) more leaves levels.2 two.1) m n
     (subst (Contains nodes) (same_node level l x.0 m x.2) x.1) (subst (Contains nodes) (same_node level l y.0 n y.2) y.1) s t same)
-    (λ below. let low = level_low more leaves (Page.AtIndex l n) below in absurd (omega (arith, low, deep)))
-    (Contains-append_cases at rest (Page.AtIndex l n) j))
+    (λ below. let low = level_low more leaves (Page.IndexPage l n) below in absurd (omega (arith, low, deep)))
+    (Contains-append_cases at rest (Page.IndexPage l n) j))
     (λ below. ⊎_elim
-    (λ here. let y = map_from (Page.AtIndex level) nodes (Page.AtIndex l n) here in
+    (λ here. let y = map_from (Page.IndexPage level) nodes (Page.IndexPage l n) here in
     let deep : level ≡ l = ap level_of y.2 in
-    let low = level_low more leaves (Page.AtIndex l m) below in absurd (omega (arith, low, deep)))
+    let low = level_low more leaves (Page.IndexPage l m) below in absurd (omega (arith, low, deep)))
     (λ too. one_place (rows_of nodes) more leaves levels.2 two.1 l m n below too s t same)
-    (Contains-append_cases at rest (Page.AtIndex l n) j))
-    (Contains-append_cases at rest (Page.AtIndex l m) i)
+    (Contains-append_cases at rest (Page.IndexPage l n) j))
+    (Contains-append_cases at rest (Page.IndexPage l m) i)
 
 -- what a page's parent says of it, on the levels of a tree
 record Held (seen : List Page) (k : ℕ) (a : Parent seen k) (p : Page) : Type 0 where
@@ -100,17 +100,17 @@ record Held (seen : List Page) (k : ℕ) (a : Parent seen k) (p : Page) : Type 0
   high : (key w : ℕ) → last_of (keys_on p) ≡ Some key → High seen a.node a.back w → key < w
   prev : (w : ℕ) → Before seen a.node a.front w → prev_of p ≡ w
 
-held_under : (seen : List Page) → ArePages seen → (leaves : List Leaf) (k : ℕ) (a : Parent seen k) (u : Under seen leaves k a) → Held seen k a u.p
+held_under : (seen : List Page) → AreWellFormed seen → (leaves : List Leaf) (k : ℕ) (a : Parent seen k) (u : Under seen leaves k a) → Held seen k a u.p
 held_under seen pages leaves k a u =
     let level = suc (length u.at.more) in
     let f = u.round.front in
     let b = u.round.back in
     let linked = subst (IsLinked 0) u.round.is u.at.levels.1 in
-    let on : (n : Index) → Contains (f ++ a.node ∷ b) n → Contains seen (Page.AtIndex level n) = λ n i.
-    u.at.all (Page.AtIndex level n) (Contains-append_left (map (Page.AtIndex level) u.at.nodes) (level_pages u.at.more leaves) (Page.AtIndex level n)
-    (map_in (Page.AtIndex level) u.at.nodes n (subst (λ ns. Contains ns n) (sym u.round.is) i))) in
+    let on : (n : Index) → Contains (f ++ a.node ∷ b) n → Contains seen (Page.IndexPage level n) = λ n i.
+    u.at.all (Page.IndexPage level n) (Contains-append_left (map (Page.IndexPage level) u.at.nodes) (level_pages u.at.more leaves) (Page.IndexPage level n)
+    (map_in (Page.IndexPage level) u.at.nodes n (subst (λ ns. Contains ns n) (sym u.round.is) i))) in
     let before : AreSeen seen level f = λ n i. on n (Contains-append_left f (a.node ∷ b) n i) in
-    let after : (n : Index) → Contains b n → Contains seen (Page.AtIndex level n) = λ n i. on n (Contains-append_right f (a.node ∷ b) n (cons_there a.node b n i)) in
+    let after : (n : Index) → Contains b n → Contains seen (Page.IndexPage level n) = λ n i. on n (Contains-append_right f (a.node ∷ b) n (cons_there a.node b n i)) in
     record {
       depth = u.depth;
       first = u.fits.first;
@@ -119,32 +119,32 @@ held_under seen pages leaves k a u =
       prev = λ w h. u.fits.prev ∙ before_first seen pages level a.node f before (earlier seen pages level 0 0 f a.node b linked before) a.front w h;
     }
 
-held : (seen : List Page) → ArePages seen → (rows : List (Row ℕ)) (above : List (List Index)) (leaves : List Leaf) → AreLevels rows above leaves → IsAll seen above leaves
+held : (seen : List Page) → AreWellFormed seen → (rows : List (Row ℕ)) (above : List (List Index)) (leaves : List Leaf) → AreLevels rows above leaves → IsAll seen above leaves
     → AreAll seen above leaves → (p : Page) → Contains seen p → (a : Parent seen (page_of p)) → Held seen (page_of p) a p
 held seen pages rows above leaves levels on all p i a =
     let u = under seen rows above leaves levels on all (page_of p) a in
-    let same = pages.one u.p p u.fits.on i (u.fits.page ∙ a.names) in
+    let same = pages.once u.p p u.fits.on i (u.fits.page ∙ a.names) in
     subst (λ q. Held seen (page_of p) a q) same (held_under seen pages leaves (page_of p) a u)
 
 parent_spot : (seen : List Page) (k : ℕ) (a : Parent seen k) → Spot a.node
 parent_spot seen k a = record { front = a.front; row = a.row; back = a.back; is = a.rows }
 
-parents_same : (seen : List Page) → ArePages seen → (rows : List (Row ℕ)) (above : List (List Index)) (leaves : List Leaf) → AreLevels rows above leaves → IsAll seen above leaves
+parents_same : (seen : List Page) → AreWellFormed seen → (rows : List (Row ℕ)) (above : List (List Index)) (leaves : List Leaf) → AreLevels rows above leaves → IsAll seen above leaves
     → AreAll seen above leaves → AreDistinct (map page_of (level_pages above leaves)) → (k : ℕ) (a b : Parent seen k) → (a.node.page ≡ b.node.page) × (length a.front ≡ length b.front)
 parents_same seen pages rows above leaves levels on all d k a b =
     let u = under seen rows above leaves levels on all k a in
     let v = under seen rows above leaves levels on all k b in
-    let same = pages.one u.p v.p u.fits.on v.fits.on (u.fits.page ∙ (a.names ∙ (sym b.names ∙ sym v.fits.page))) in
+    let same = pages.once u.p v.p u.fits.on v.fits.on (u.fits.page ∙ (a.names ∙ (sym b.names ∙ sym v.fits.page))) in
     let depth = ap level_of same in
     let da = u.depth in
     let db = v.depth in
     let level : b.level ≡ a.level = omega (arith, depth, da, db) in
-    one_place rows above leaves levels d a.level a.node b.node (all (Page.AtIndex a.level a.node) a.on)
-    (subst (λ l. Contains (level_pages above leaves) (Page.AtIndex l b.node)) level (all (Page.AtIndex b.level b.node) b.on))
+    one_place rows above leaves levels d a.level a.node b.node (all (Page.IndexPage a.level a.node) a.on)
+    (subst (λ l. Contains (level_pages above leaves) (Page.IndexPage l b.node)) level (all (Page.IndexPage b.level b.node) b.on))
     (record { front = a.front; row = a.row; back = a.back; is = a.rows }) (record { front = b.front; row = b.row; back = b.back; is = b.rows }) (a.names ∙ sym b.names)
 
 -- where the pages seen are a tree, no error stands
-pub tree_is_clean : (root : ℕ) (seen : List Page) → ArePages seen → (tree : Tree) → IsTreeOf root seen tree → IsClean root seen
+pub tree_is_clean : (root : ℕ) (seen : List Page) → AreWellFormed seen → (tree : Tree) → IsTreeOf root seen tree → IsClean root seen
 tree_is_clean root seen pages tree of =
     let above = tree.above in
     let leaves = tree.leaves in
@@ -154,7 +154,7 @@ tree_is_clean root seen pages tree of =
     let all : AreAll seen above leaves = λ p. (of.pages p).0 in
     let d = subst AreDistinct (sym (tree_pages_are above leaves)) of.is.distinct in
     let top = child_fits seen [] (root_row root) [] above leaves levels on in
-    let is_top : (p : Page) → Contains seen p → page_of p ≡ root → top.0 ≡ p = λ p i at. pages.one top.0 p top.1.on i (top.1.page ∙ sym at) in
+    let is_top : (p : Page) → Contains seen p → page_of p ≡ root → top.0 ≡ p = λ p i at. pages.once top.0 p top.1.on i (top.1.page ∙ sym at) in
     let near : (p : Page) → Contains seen p → Beside (level_pages above leaves) p = λ p i. beside rows above leaves levels p (all p i) in
     record {
       root_seen = (top.0, top.1.on, top.1.page);
@@ -167,7 +167,7 @@ tree_is_clean root seen pages tree of =
           let same = is_top u.p u.fits.on (u.fits.page ∙ a.names) in
           let deep : level_of u.p ≡ length above = sym (ap level_of same) ∙ top.1.at in
           let depth = u.depth in
-          let low = level_low above leaves (Page.AtIndex a.level a.node) (all (Page.AtIndex a.level a.node) a.on) in
+          let low = level_low above leaves (Page.IndexPage a.level a.node) (all (Page.IndexPage a.level a.node) a.on) in
           omega (arith, deep, depth, low);
       level = λ p i a. (held seen pages rows above leaves levels on all p i a).depth;
       first = λ p i a. (held seen pages rows above leaves levels on all p i a).first;
@@ -178,6 +178,6 @@ tree_is_clean root seen pages tree of =
       linked = λ p i some. let q = (near p i).prev some in (q.0, on q.0 q.1, q.3, q.2);
       crossed = λ p q i j at. let some : next_of p ≢ 0 = λ none. pages.nonzero q j (at ∙ none) in
           let m = (near p i).next some in
-          let same = pages.one m.0 q (on m.0 m.1) j (m.2 ∙ sym at) in
+          let same = pages.once m.0 q (on m.0 m.1) j (m.2 ∙ sym at) in
           subst (λ x. prev_of x ≡ page_of p) same m.3;
     }

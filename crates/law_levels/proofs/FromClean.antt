@@ -19,7 +19,7 @@ use Rattle.spec_tree.specs.NeighbourRules.{HasNoPrev, HasNoPlace, NamesChild, Is
 use Rattle.spec_tree.specs.Trees.{StandsAt}
 use Rattle.spec_levels.specs.Levels.{Index}
 use Rattle.spec_levels.specs.Pages.{Page, page_of, prev_of, next_of, level_of}
-use Rattle.law_levels.specs.Known.{ArePages, Parent, head_on, link_on, parent_row, IsFree}
+use Rattle.law_levels.specs.Known.{AreWellFormed, Parent, head_on, link_on, parent_row, HasNoTreeErrors}
 use Rattle.law_levels.proofs.Clean.{IsClean, High, Before, FirstFits}
 use Rattle.law_levels.proofs.Facts.{IsKnownOf}
 use Rattle.law_levels.proofs.Places.{place, place_at, place_total, sorted_parts, to_parent, row_is, row_from}
@@ -41,19 +41,19 @@ parent_seen K o root seen is k c s h at =
     let r = row_from K o root seen is k c (subst (λ n. IsRow K n k c) at h.row) in
     record { p = p.0; on = p.1; page = p.3; a = to_parent seen k (page_of p.0) r.0 (sym p.3); head = p.2; row = r.1 }
 
-first_right : (o : ℕ) (seen : List Page) → ArePages seen → (low : ℕ) (p : Page) → Contains seen p → FirstFits low p → (first : ℕ) → IsFirstKeyWrong (head_on o p) low first → ⊥
-first_right o seen pages low (Page.AtLeaf n) i fits first (IsFirstKeyWrong.OfLeaf level is less) = let low_is = fits first is in omega (arith, low_is, less)
-first_right o seen pages low (Page.AtLeaf n) i fits first (IsFirstKeyWrong.OfIndex level is differs) = omega (arith, level)
-first_right o seen pages low (Page.AtIndex l n) i fits first (IsFirstKeyWrong.OfLeaf level is less) = let some = (pages.level l n i).0 in omega (arith, level, some)
-first_right o seen pages low (Page.AtIndex l n) i fits first (IsFirstKeyWrong.OfIndex level is differs) =
+first_right : (o : ℕ) (seen : List Page) → AreWellFormed seen → (low : ℕ) (p : Page) → Contains seen p → FirstFits low p → (first : ℕ) → IsFirstKeyWrong (head_on o p) low first → ⊥
+first_right o seen pages low (Page.LeafPage n) i fits first (IsFirstKeyWrong.OfLeaf level is less) = let low_is = fits first is in omega (arith, low_is, less)
+first_right o seen pages low (Page.LeafPage n) i fits first (IsFirstKeyWrong.OfIndex level is differs) = omega (arith, level)
+first_right o seen pages low (Page.IndexPage l n) i fits first (IsFirstKeyWrong.OfLeaf level is less) = let some = (pages.levels l n i).0 in omega (arith, level, some)
+first_right o seen pages low (Page.IndexPage l n) i fits first (IsFirstKeyWrong.OfIndex level is differs) =
     let same : Some first ≡ Some low = sym is ∙ (first_same n.rows ∙ fits) in differs (cc)
 
-as_index : (p : Page) → 0 < level_of p → (l : ℕ) × (n : Index) × (p ≡ Page.AtIndex l n)
-as_index (Page.AtLeaf n) h = absurd (omega (arith, h))
-as_index (Page.AtIndex l n) h = (l, n, refl)
+as_index : (p : Page) → 0 < level_of p → (l : ℕ) × (n : Index) × (p ≡ Page.IndexPage l n)
+as_index (Page.LeafPage n) h = absurd (omega (arith, h))
+as_index (Page.IndexPage l n) h = (l, n, refl)
 
 index_from : (K : Known) (o root : ℕ) (seen : List Page) → IsKnownOf K o root seen → (k : ℕ) (m : PageHead) → IsIndexPage K o k m
-    → (l : ℕ) × (n : Index) × Contains seen (Page.AtIndex l n) × (m ≡ head_on o (Page.AtIndex l n)) × (n.page ≡ k)
+    → (l : ℕ) × (n : Index) × Contains seen (Page.IndexPage l n) × (m ≡ head_on o (Page.IndexPage l n)) × (n.page ≡ k)
 index_from K o root seen is k m h =
     let p = page_from K o root seen is k m h.page in
     let i = as_index p.0 (subst (λ (s : PageHead). 0 < s.level) p.2 h.index) in
@@ -138,7 +138,7 @@ wrong_level K o root seen is clean k x at h =
     let f = parent_seen K o root seen is k h.row h.head h.parent mine in
     h.differs (ap (λ (s : PageHead). s.level + 1) f.head ∙ (clean.level f.p f.on f.a ∙ ap (λ (c : IndexRow). c.level) (sym f.row)))
 
-wrong_first : (K : Known) (o root : ℕ) (seen : List Page) → IsKnownOf K o root seen → ArePages seen → IsClean root seen → (k : ℕ) (x : CheckError) → x.object ≡ o
+wrong_first : (K : Known) (o root : ℕ) (seen : List Page) → IsKnownOf K o root seen → AreWellFormed seen → IsClean root seen → (k : ℕ) (x : CheckError) → x.object ≡ o
     → HasWrongFirstKey K k x → ⊥
 wrong_first K o root seen is pages clean k x at (HasWrongFirstKey.ByRow c s w p wrong e) =
     let f = parent_seen K o root seen is k c s p (of_object x (row_error 8933 c k w) o e at) in
@@ -246,7 +246,7 @@ child_nowhere K o root seen is clean k x at (IsChildNowhere.Linked c l names uns
 child_nowhere K o root seen is clean k x at (IsChildNowhere.Alone c names unseen alone e) =
     let p = child_of K o root seen is clean k c (of_object x (row_error 8980 c k 0) o e at) names in not_unseen K o root seen is k p.0 p.1 p.2 unseen
 
-stands_not : (K : Known) (o root : ℕ) (seen : List Page) → IsKnownOf K o root seen → ArePages seen → IsClean root seen → (k : ℕ) (x : CheckError) → x.object ≡ o → StandsAt K k x → ⊥
+stands_not : (K : Known) (o root : ℕ) (seen : List Page) → IsKnownOf K o root seen → AreWellFormed seen → IsClean root seen → (k : ℕ) (x : CheckError) → x.object ≡ o → StandsAt K k x → ⊥
 stands_not K o root seen is pages clean k x at (StandsAt.RootUnseen h) = root_unseen K o root seen is clean k x at h
 stands_not K o root seen is pages clean k x at (StandsAt.TwoParents h) = places_two K o root seen is clean k x at h
 stands_not K o root seen is pages clean k x at (StandsAt.WrongLevel h) = wrong_level K o root seen is clean k x at h
@@ -260,5 +260,5 @@ stands_not K o root seen is pages clean k x at (StandsAt.NextNowhere h) = next_n
 stands_not K o root seen is pages clean k x at (StandsAt.ChildElsewhere h) = child_elsewhere K o root seen is clean k x at h
 stands_not K o root seen is pages clean k x at (StandsAt.ChildNowhere h) = child_nowhere K o root seen is clean k x at h
 
-pub clean_is_free : (K : Known) (o root : ℕ) (seen : List Page) → IsKnownOf K o root seen → ArePages seen → IsClean root seen → IsFree K o
+pub clean_is_free : (K : Known) (o root : ℕ) (seen : List Page) → IsKnownOf K o root seen → AreWellFormed seen → IsClean root seen → HasNoTreeErrors K o
 clean_is_free K o root seen is pages clean x at stands = stands_not K o root seen is pages clean stands.0 x at stands.1

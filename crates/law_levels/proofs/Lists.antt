@@ -1,5 +1,5 @@
 -- Lists: what is last, what is distinct, and keys that rise.
-use Rattle.std.proofs.Common.{◌≡◌, ℕ, suc, ◌+◌, ◌≤◌, Option, Some, None, List, [], ◌∷◌, ◌++◌, Contains, refl, sym, ap, subst, ⊎_elim, arith}
+use Rattle.std.proofs.Common.{◌≡◌, ◌≢◌, ℕ, suc, ◌+◌, ◌≤◌, Option, Some, None, List, [], ◌∷◌, ◌++◌, Contains, refl, sym, ap, subst, ⊎_elim, arith}
 use Rattle.std.proofs.lemmas.List.Elements.{Contains-append_left, Contains-append_right, Contains-append_cases}
 use Rattle.std.specs.List.{flat_map}
 use Rattle.spec_check.proofs.Members.{nothing_there, cons_cases, cons_here, cons_there}
@@ -68,3 +68,8 @@ pub flat_from : {X Y : Type 0} (f : X → List Y) (xs : List X) (y : Y) → Cont
 flat_from f [] y h = absurd (nothing_there y h)
 flat_from f (z ∷ xs) y h = ⊎_elim (λ here. (z, cons_here z xs, here))
     (λ t. let rest = flat_from f xs y t in (rest.0, cons_there z xs rest.0 rest.1, rest.2)) (Contains-append_cases (f z) (flat_map f xs) y h)
+
+-- rows that aren't none are a first one and others
+pub some_rows : (rows : List (Row ℕ)) → rows ≢ [] → (row : Row ℕ) × (rest : List (Row ℕ)) × (rows ≡ row ∷ rest)
+some_rows [] some = absurd (some refl)
+some_rows (row ∷ rows) some = (row, rows, refl)

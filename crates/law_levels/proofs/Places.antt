@@ -141,7 +141,7 @@ after_first seen k node start x rest list later here (y ∷ f) row b e names =
     let at : start + 1 + length f ≡ start + suc (length f) = omega arith in
     subst (λ n. Contains list (place node.page n)) at (later f row b tail names)
 
-spots : (seen : List Page) (k level : ℕ) (node : Index) → Contains seen (Page.AtIndex level node) → (start : ℕ) (front rest : List (Row ℕ)) → node.rows ≡ front ++ rest
+spots : (seen : List Page) (k level : ℕ) (node : Index) → Contains seen (Page.IndexPage level node) → (start : ℕ) (front rest : List (Row ℕ)) → node.rows ≡ front ++ rest
     → start ≡ length front → Spots seen k node start rest
 spots seen k level node on start front [] rows at = record {
   list = [];
@@ -165,19 +165,19 @@ spots seen k level node on start front (x ∷ rest) rows at =
 record Found (seen pages : List Page) (k : ℕ) : Type 0 where
   list : List RowPlace
   sound : (q : RowPlace) → Contains list q → (a : Parent seen k) × (place_at seen k a ≡ q)
-  complete : (a : Parent seen k) → Contains pages (Page.AtIndex a.level a.node) → Contains list (place_at seen k a)
+  complete : (a : Parent seen k) → Contains pages (Page.IndexPage a.level a.node) → Contains list (place_at seen k a)
 
 abbrev node_or : Index → Page → Index
-node_or other (Page.AtLeaf n) = other
-node_or other (Page.AtIndex l n) = n
+node_or other (Page.LeafPage n) = other
+node_or other (Page.IndexPage l n) = n
 
 found_step : (seen : List Page) (x : Page) (pages : List Page) (k : ℕ) → Contains seen x → Found seen pages k → Found seen (x ∷ pages) k
-found_step seen (Page.AtLeaf n) pages k on rest = record {
+found_step seen (Page.LeafPage n) pages k on rest = record {
   list = rest.list;
   sound = rest.sound;
-  complete = λ a i. ⊎_elim (λ e. absurd (cc)) (λ t. rest.complete a t) (cons_cases (Page.AtLeaf n) pages (Page.AtIndex a.level a.node) i);
+  complete = λ a i. ⊎_elim (λ e. absurd (cc)) (λ t. rest.complete a t) (cons_cases (Page.LeafPage n) pages (Page.IndexPage a.level a.node) i);
 }
-found_step seen (Page.AtIndex l n) pages k on rest =
+found_step seen (Page.IndexPage l n) pages k on rest =
     let here = spots seen k l n on 0 [] n.rows refl refl in
     record {
       list = here.list ++ rest.list;
@@ -188,11 +188,11 @@ found_step seen (Page.AtIndex l n) pages k on rest =
           Contains-append_left here.list rest.list (place_at seen k a)
           (subst (Contains here.list) at (here.complete a.front a.row a.back (ap (λ (m : Index). m.rows) node ∙ a.rows) a.names)))
           (λ t. Contains-append_right here.list rest.list (place_at seen k a) (rest.complete a t))
-          (cons_cases (Page.AtIndex l n) pages (Page.AtIndex a.level a.node) i);
+          (cons_cases (Page.IndexPage l n) pages (Page.IndexPage a.level a.node) i);
     }
 
 found : (seen pages : List Page) (k : ℕ) → ((p : Page) → Contains pages p → Contains seen p) → Found seen pages k
-found seen [] k on = record { list = []; sound = λ q i. absurd (nothing_there q i); complete = λ a i. absurd (nothing_there (Page.AtIndex a.level a.node) i) }
+found seen [] k on = record { list = []; sound = λ q i. absurd (nothing_there q i); complete = λ a i. absurd (nothing_there (Page.IndexPage a.level a.node) i) }
 found seen (x ∷ pages) k on = found_step seen x pages k (on x (cons_here x pages)) (found seen pages k (λ p i. on p (cons_there x pages p i)))
 
 abbrev pub to_parent : (seen : List Page) (j k : ℕ) → Parent seen j → j ≡ k → Parent seen k

@@ -6,9 +6,9 @@ use Rattle.std.proofs.lemmas.List.Elements.{Contains-append_left, Contains-appen
 use Rattle.spec_check.proofs.Members.{nothing_there, cons_cases, cons_here, cons_there, map_from, map_in}
 use Rattle.spec_levels.specs.Levels.{Row, Node, Index, Leaf, AreDistinct, IsBelow, Rises, first_key, first_page, keys_of, rows_of, IsUnder, IsIndexUnder, AreUnder, IsLinked, AreLevels}
 use Rattle.spec_levels.specs.Pages.{Page, page_of, prev_of, next_of, level_of, level_pages}
-use Rattle.law_levels.specs.Known.{ArePages, Parent, last_value, last_of, first_of}
+use Rattle.law_levels.specs.Known.{AreWellFormed, Parent, last_value, last_of, first_of}
 use Rattle.law_levels.proofs.Clean.{High, Before}
-use Rattle.law_levels.proofs.Lists.{part}
+use Rattle.law_levels.proofs.Lists.{part, some_rows}
 use Rattle.law_levels.proofs.Fit.{Fits, last_or, AreSeen}
 use Rattle.law_levels.proofs.Distinct.{values_of, under_pages, parent_in}
 use Rattle.law_levels.proofs.Build.{same_node}
@@ -41,9 +41,9 @@ pub child_fits : (seen : List Page) (front : List (Row ℕ)) (row : Row ℕ) (ba
     → (p : Page) × Fits seen (length above) row (first_key back) (last_or 0 front) p
 child_fits seen front row back [] leaves levels on =
     let c = child_node IsUnder (λ r end n is. is.page) 0 front row back leaves levels.0 levels.1 in (
-      Page.AtLeaf c.node,
+      Page.LeafPage c.node,
       record {
-        on = on (Page.AtLeaf c.node) (map_in Page.AtLeaf leaves c.node c.on);
+        on = on (Page.LeafPage c.node) (map_in Page.LeafPage leaves c.node c.on);
         page = sym c.is.page;
         at = refl;
         first = leaf_first row (first_key back) row.key (keys_of c.node.rows) c.is.keys;
@@ -54,10 +54,10 @@ child_fits seen front row back [] leaves levels on =
 child_fits seen front row back (nodes ∷ more) leaves levels on =
     let c = child_node IsIndexUnder (λ r end n is. is.under.page) 0 front row back nodes levels.0 levels.1 in
     let level = suc (length more) in (
-      Page.AtIndex level c.node,
+      Page.IndexPage level c.node,
       record {
-        on = on (Page.AtIndex level c.node) (Contains-append_left (map (Page.AtIndex level) nodes) (level_pages more leaves) (Page.AtIndex level c.node)
-            (map_in (Page.AtIndex level) nodes c.node c.on));
+        on = on (Page.IndexPage level c.node) (Contains-append_left (map (Page.IndexPage level) nodes) (level_pages more leaves) (Page.IndexPage level c.node)
+            (map_in (Page.IndexPage level) nodes c.node c.on));
         page = sym c.is.under.page;
         at = refl;
         first = c.is.first;
@@ -77,12 +77,12 @@ pub record Sub (seen : List Page) (leaves : List Leaf) (l : ℕ) (m : Index) : T
   pub all : (p : Page) → Contains (level_pages (nodes ∷ more) leaves) p → Contains seen p
 
 sub : (seen : List Page) (rows : List (Row ℕ)) (above : List (List Index)) (leaves : List Leaf) → AreLevels rows above leaves
-    → ((p : Page) → Contains (level_pages above leaves) p → Contains seen p) → (l : ℕ) (m : Index) → Contains (level_pages above leaves) (Page.AtIndex l m) → Sub seen leaves l m
-sub seen rows [] leaves levels all l m i = let n = map_from Page.AtLeaf leaves (Page.AtIndex l m) i in let e = n.2 in absurd (cc)
+    → ((p : Page) → Contains (level_pages above leaves) p → Contains seen p) → (l : ℕ) (m : Index) → Contains (level_pages above leaves) (Page.IndexPage l m) → Sub seen leaves l m
+sub seen rows [] leaves levels all l m i = let n = map_from Page.LeafPage leaves (Page.IndexPage l m) i in let e = n.2 in absurd (cc)
 sub seen rows (nodes ∷ more) leaves levels all l m i =
     let level = suc (length more) in
-    let at = map (Page.AtIndex level) nodes in
-    ⊎_elim (λ here. let n = map_from (Page.AtIndex level) nodes (Page.AtIndex l m) here in
+    let at = map (Page.IndexPage level) nodes in
+    ⊎_elim (λ here. let n = map_from (Page.IndexPage level) nodes (Page.IndexPage l m) here in
     record {
       rows = rows;
       nodes = nodes;
@@ -93,7 +93,7 @@ sub seen rows (nodes ∷ more) leaves levels all l m i =
       all = all;
     })
     (λ there. sub seen (rows_of nodes) more leaves levels.2 (λ p j. all p (Contains-append_right at (level_pages more leaves) p j)) l m there)
-    (Contains-append_cases at (level_pages more leaves) (Page.AtIndex l m) i)
+    (Contains-append_cases at (level_pages more leaves) (Page.IndexPage l m) i)
 
 -- the nodes of a level round one of them
 pub record Round (nodes : List Index) (m : Index) : Type 0 where
@@ -130,13 +130,13 @@ AreAll seen above leaves = (p : Page) → Contains seen p → Contains (level_pa
 pub under : (seen : List Page) (rows : List (Row ℕ)) (above : List (List Index)) (leaves : List Leaf) → AreLevels rows above leaves → IsAll seen above leaves → AreAll seen above leaves
     → (k : ℕ) (a : Parent seen k) → Under seen leaves k a
 under seen rows above leaves levels on all k a =
-    let at = sub seen rows above leaves levels on a.level a.node (all (Page.AtIndex a.level a.node) a.on) in
+    let at = sub seen rows above leaves levels on a.level a.node (all (Page.IndexPage a.level a.node) a.on) in
     let r = round at.nodes a.node at.on in
     let rows_at = ap (λ (ns : List Index). rows_of ns) r.is ∙ rows_round r.front a.node r.back a.front a.row a.back a.rows in
     let below = subst (λ rs. AreLevels rs at.more leaves) rows_at at.levels.2 in
     let level = suc (length at.more) in
     let c = child_fits seen (rows_of r.front ++ a.front) a.row (a.back ++ rows_of r.back) at.more leaves below
-    (λ p i. at.all p (Contains-append_right (map (Page.AtIndex level) at.nodes) (level_pages at.more leaves) p i)) in
+    (λ p i. at.all p (Contains-append_right (map (Page.IndexPage level) at.nodes) (level_pages at.more leaves) p i)) in
     let depth = at.depth in
     let low = c.1.at in
     record { at = at; round = r; p = c.0; fits = c.1; depth = omega (arith, depth, low) }
@@ -165,13 +165,13 @@ next_node before [] m back linked = linked.1
 next_node before (f ∷ front) m back linked = next_node f.page front m back linked.2
 
 -- High of a row is the key of the row after it on its level
-pub high_row : (seen : List Page) → ArePages seen → (level : ℕ) (m : Index) (f back : List Index) (b : List (Row ℕ)) → IsLinked 0 (f ++ m ∷ back)
-    → ((n : Index) → Contains back n → Contains seen (Page.AtIndex level n)) → (w : ℕ) → High seen m b w → first_key (b ++ rows_of back) ≡ Some w
+pub high_row : (seen : List Page) → AreWellFormed seen → (level : ℕ) (m : Index) (f back : List Index) (b : List (Row ℕ)) → IsLinked 0 (f ++ m ∷ back)
+    → ((n : Index) → Contains back n → Contains seen (Page.IndexPage level n)) → (w : ℕ) → High seen m b w → first_key (b ++ rows_of back) ≡ Some w
 high_row seen pages level m f back b linked on w (High.Within is) = first_append b (rows_of back) w is
 high_row seen pages level m f [] b linked on w (High.Beyond l n none i page first) =
-    absurd (pages.nonzero (Page.AtIndex l n) i (page ∙ next_node 0 f m [] linked))
+    absurd (pages.nonzero (Page.IndexPage l n) i (page ∙ next_node 0 f m [] linked))
 high_row seen pages level m f (x ∷ back) b linked on w (High.Beyond l n none i page first) =
-    let same = pages.one (Page.AtIndex level x) (Page.AtIndex l n) (on x (cons_here x back)) i (sym (next_node 0 f m (x ∷ back) linked) ∙ sym page) in
+    let same = pages.once (Page.IndexPage level x) (Page.IndexPage l n) (on x (cons_here x back)) i (sym (next_node 0 f m (x ∷ back) linked) ∙ sym page) in
     let node = same_node level l x n same in
     none_append b (rows_of (x ∷ back)) none ∙ first_append x.rows (rows_of back) w (ap (λ (y : Index). first_key y.rows) node ∙ first)
 
@@ -201,11 +201,11 @@ earlier_step before prior f front m row rest some (Earlier.First is prev) =
 earlier_step before prior f front m row rest some (Earlier.After n i page last) =
     Earlier.After n (cons_there f front n i) page (last_append prior f.rows (rows_of front) ∙ last)
 
-pub earlier : (seen : List Page) → ArePages seen → (level before prior : ℕ) (front : List Index) (m : Index) (back : List Index) → IsLinked before (front ++ m ∷ back)
+pub earlier : (seen : List Page) → AreWellFormed seen → (level before prior : ℕ) (front : List Index) (m : Index) (back : List Index) → IsLinked before (front ++ m ∷ back)
     → AreSeen seen level front → Earlier before prior front m
 earlier seen pages level before prior [] m back linked on = Earlier.First refl linked.0
 earlier seen pages level before prior (f ∷ front) m back linked on =
-    let some = pages.some level f (on f (cons_here f front)) in
+    let some = some_rows f.rows (pages.some_row level f (on f (cons_here f front))) in
     earlier_step before prior f front m some.0 some.1 some.2
     (earlier seen pages level f.page (last_or prior f.rows) front m back linked.2 (λ n i. on n (cons_there f front n i)))
 
@@ -213,17 +213,17 @@ no_rows : (xs : List (Row ℕ)) → length xs ≡ 0 → xs ≡ []
 no_rows [] e = refl
 no_rows (x ∷ xs) e = absurd (omega (arith, e))
 
-pub before_first : (seen : List Page) → ArePages seen → (level : ℕ) (m : Index) (front : List Index) → AreSeen seen level front → Earlier 0 0 front m
+pub before_first : (seen : List Page) → AreWellFormed seen → (level : ℕ) (m : Index) (front : List Index) → AreSeen seen level front → Earlier 0 0 front m
     → (f : List (Row ℕ)) (w : ℕ) → Before seen m f w → last_or 0 (rows_of front ++ f) ≡ w
 before_first seen pages level m front on e f w (Before.Within some is) =
     last_append 0 (rows_of front) f ∙ (last_some (last_or 0 (rows_of front)) f some ∙ is)
 before_first seen pages level m front on (Earlier.First none prev) f w (Before.Leftmost empty no_prev is) =
     ap (λ (ns : List Index). last_or 0 (rows_of ns ++ f)) none ∙ (ap (last_or 0) (no_rows f empty) ∙ sym is)
 before_first seen pages level m front on (Earlier.After n i page last) f w (Before.Leftmost empty no_prev is) =
-    absurd (pages.nonzero (Page.AtIndex level n) (on n i) (page ∙ no_prev))
+    absurd (pages.nonzero (Page.IndexPage level n) (on n i) (page ∙ no_prev))
 before_first seen pages level m front on (Earlier.First none prev) f w (Before.Beyond l n empty some i page is) = absurd (some prev)
 before_first seen pages level m front on (Earlier.After x j at last) f w (Before.Beyond l n empty some i page is) =
-    let same = pages.one (Page.AtIndex level x) (Page.AtIndex l n) (on x j) i (at ∙ sym page) in
+    let same = pages.once (Page.IndexPage level x) (Page.IndexPage l n) (on x j) i (at ∙ sym page) in
     let node = same_node level l x n same in
     last_append 0 (rows_of front) f ∙ (ap (last_or (last_or 0 (rows_of front))) (no_rows f empty)
     ∙ (last ∙ (ap (λ (y : Index). last_value y.rows) node ∙ is)))
@@ -269,15 +269,15 @@ beside_more all more p in_more b = record {
 pub beside : (rows : List (Row ℕ)) (above : List (List Index)) (leaves : List Leaf) → AreLevels rows above leaves → (p : Page) → Contains (level_pages above leaves) p
     → Beside (level_pages above leaves) p
 beside rows [] leaves levels p i =
-    let n = map_from Page.AtLeaf leaves p i in
-    subst (Beside (map Page.AtLeaf leaves)) n.2 (beside_node Page.AtLeaf (λ m. refl) (λ m. refl) (λ m. refl) leaves levels.1 n.0 n.1)
+    let n = map_from Page.LeafPage leaves p i in
+    subst (Beside (map Page.LeafPage leaves)) n.2 (beside_node Page.LeafPage (λ m. refl) (λ m. refl) (λ m. refl) leaves levels.1 n.0 n.1)
 beside rows (nodes ∷ more) leaves levels p i =
     let level = suc (length more) in
-    let at = map (Page.AtIndex level) nodes in
+    let at = map (Page.IndexPage level) nodes in
     let rest = level_pages more leaves in
-    ⊎_elim (λ here. let n = map_from (Page.AtIndex level) nodes p here in
+    ⊎_elim (λ here. let n = map_from (Page.IndexPage level) nodes p here in
     beside_more at (at ++ rest) p (λ q j. Contains-append_left at rest q j)
-    (subst (Beside at) n.2 (beside_node (Page.AtIndex level) (λ m. refl) (λ m. refl) (λ m. refl) nodes levels.1 n.0 n.1)))
+    (subst (Beside at) n.2 (beside_node (Page.IndexPage level) (λ m. refl) (λ m. refl) (λ m. refl) nodes levels.1 n.0 n.1)))
     (λ there. beside_more rest (at ++ rest) p (λ q j. Contains-append_right at rest q j) (beside (rows_of nodes) more leaves levels.2 p there))
     (Contains-append_cases at rest p i)
 
@@ -285,17 +285,17 @@ beside rows (nodes ∷ more) leaves levels p i =
 pub named : (seen : List Page) (rows : List (Row ℕ)) (above : List (List Index)) (leaves : List Leaf) → AreLevels rows above leaves → IsAll seen above leaves
     → (p : Page) → Contains (level_pages above leaves) p → Contains (values_of rows) (page_of p) ⊎ Parent seen (page_of p)
 named seen rows [] leaves levels on p i =
-    let n = map_from Page.AtLeaf leaves p i in
+    let n = map_from Page.LeafPage leaves p i in
     let same = under_pages IsUnder (λ r end m is. is.page) rows leaves levels.0 in
     inl (subst (λ q. Contains (values_of rows) (page_of q)) n.2 (subst (λ ks. Contains ks n.0.page) (sym same) (map_in (λ (m : Leaf). m.page) leaves n.0 n.1)))
 named seen rows (nodes ∷ more) leaves levels on p i =
     let level = suc (length more) in
-    let at = map (Page.AtIndex level) nodes in
+    let at = map (Page.IndexPage level) nodes in
     let rest = level_pages more leaves in
-    ⊎_elim (λ here. let n = map_from (Page.AtIndex level) nodes p here in
+    ⊎_elim (λ here. let n = map_from (Page.IndexPage level) nodes p here in
     let same = under_pages IsIndexUnder (λ r end m is. is.under.page) rows nodes levels.0 in
     inl (subst (λ q. Contains (values_of rows) (page_of q)) n.2 (subst (λ ks. Contains ks n.0.page) (sym same) (map_in (λ (m : Index). m.page) nodes n.0 n.1))))
-    (λ there. ⊎_elim (λ up. inr (parent_in seen level nodes (λ n j. on (Page.AtIndex level n) (Contains-append_left at rest (Page.AtIndex level n) (map_in (Page.AtIndex level) nodes n j))) (page_of p) up).0)
+    (λ there. ⊎_elim (λ up. inr (parent_in seen level nodes (λ n j. on (Page.IndexPage level n) (Contains-append_left at rest (Page.IndexPage level n) (map_in (Page.IndexPage level) nodes n j))) (page_of p) up).0)
     (λ a. inr a) (named seen (rows_of nodes) more leaves levels.2 (λ q j. on q (Contains-append_right at rest q j)) p there))
     (Contains-append_cases at rest p i)
 

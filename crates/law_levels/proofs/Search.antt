@@ -29,7 +29,7 @@ pub record RowOf (pages : List Page) (k : ℕ) : Type 0 where
   pub level : ℕ
   pub node : Index
   pub row : Row ℕ
-  pub on : Contains pages (Page.AtIndex level node)
+  pub on : Contains pages (Page.IndexPage level node)
   pub in_node : Contains node.rows row
   pub names : row.value ≡ k
 
@@ -37,31 +37,31 @@ abbrev NoRow : List Page → ℕ → Type 0
 NoRow pages k = RowOf pages k → ⊥
 
 there_row : (x : Page) (pages : List Page) (k : ℕ) → RowOf pages k → RowOf (x ∷ pages) k
-there_row x pages k r = record { level = r.level; node = r.node; row = r.row; on = cons_there x pages (Page.AtIndex r.level r.node) r.on; in_node = r.in_node; names = r.names }
+there_row x pages k r = record { level = r.level; node = r.node; row = r.row; on = cons_there x pages (Page.IndexPage r.level r.node) r.on; in_node = r.in_node; names = r.names }
 
 abbrev node_or : Index → Page → Index
-node_or other (Page.AtLeaf n) = other
-node_or other (Page.AtIndex l n) = n
+node_or other (Page.LeafPage n) = other
+node_or other (Page.IndexPage l n) = n
 
-first_row : (x : Page) (k : ℕ) → ((l : ℕ) (n : Index) → x ≡ Page.AtIndex l n → (r : Row ℕ) → Contains n.rows r → r.value ≡ k → ⊥) ⊎ RowOf (x ∷ []) k
-first_row (Page.AtLeaf n) k = inl (λ l m e r i is. absurd (cc))
-first_row (Page.AtIndex l n) k = ⊎_elim
-    (λ r. inr (record { level = l; node = n; row = r.0; on = cons_here (Page.AtIndex l n) []; in_node = r.1; names = r.2 }))
+first_row : (x : Page) (k : ℕ) → ((l : ℕ) (n : Index) → x ≡ Page.IndexPage l n → (r : Row ℕ) → Contains n.rows r → r.value ≡ k → ⊥) ⊎ RowOf (x ∷ []) k
+first_row (Page.LeafPage n) k = inl (λ l m e r i is. absurd (cc))
+first_row (Page.IndexPage l n) k = ⊎_elim
+    (λ r. inr (record { level = l; node = n; row = r.0; on = cons_here (Page.IndexPage l n) []; in_node = r.1; names = r.2 }))
     (λ none. inl (λ h m e r i is. let same : n ≡ m = ap (node_or n) e in none r (subst (λ (y : Index). Contains y.rows r) (sym same) i) is))
     (row_found n.rows k)
 
 pub row_search : (pages : List Page) (k : ℕ) → RowOf pages k ⊎ NoRow pages k
-row_search [] k = inr (λ r. nothing_there (Page.AtIndex r.level r.node) r.on)
+row_search [] k = inr (λ r. nothing_there (Page.IndexPage r.level r.node) r.on)
 row_search (x ∷ pages) k = ⊎_elim (λ there. inl (there_row x pages k there))
     (λ none. ⊎_elim
     (λ no. inr (λ r. ⊎_elim (λ here. no r.level r.node here r.row r.in_node r.names)
-    (λ t. none (record { level = r.level; node = r.node; row = r.row; on = t; in_node = r.in_node; names = r.names })) (cons_cases x pages (Page.AtIndex r.level r.node) r.on)))
+    (λ t. none (record { level = r.level; node = r.node; row = r.row; on = t; in_node = r.in_node; names = r.names })) (cons_cases x pages (Page.IndexPage r.level r.node) r.on)))
     (λ here. inl (record {
       level = here.level;
       node = here.node;
       row = here.row;
-      on = ⊎_elim (λ e. subst (Contains (x ∷ pages)) e (cons_here x pages)) (λ t. absurd (nothing_there (Page.AtIndex here.level here.node) t))
-          (cons_cases x [] (Page.AtIndex here.level here.node) here.on);
+      on = ⊎_elim (λ e. subst (Contains (x ∷ pages)) e (cons_here x pages)) (λ t. absurd (nothing_there (Page.IndexPage here.level here.node) t))
+          (cons_cases x [] (Page.IndexPage here.level here.node) here.on);
       in_node = here.in_node;
       names = here.names;
     })) (first_row x k)) (row_search pages k)

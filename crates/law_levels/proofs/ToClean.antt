@@ -15,11 +15,12 @@ use Rattle.spec_tree.specs.NeighbourRules.{HasNoPrev, HasNoPlace, LeadsTo, Names
 use Rattle.spec_tree.specs.Trees.{StandsAt}
 use Rattle.spec_levels.specs.Levels.{Row, first_key, keys_of}
 use Rattle.spec_levels.specs.Pages.{Page, page_of, prev_of, next_of, level_of, keys_on}
-use Rattle.law_levels.specs.Known.{ArePages, Parent, first_of, head_on, link_on, parent_row, IsFree}
+use Rattle.law_levels.specs.Known.{AreWellFormed, Parent, first_of, head_on, link_on, parent_row, HasNoTreeErrors}
 use Rattle.law_levels.proofs.Clean.{IsClean, High, Before, FirstFits}
 use Rattle.law_levels.proofs.Facts.{IsKnownOf}
 use Rattle.law_levels.proofs.Search.{found_by, page_found, parent_found}
 use Rattle.law_levels.proofs.Places.{place_at, row_is, row_from, places_of}
+use Rattle.law_levels.proofs.Lists.{some_rows}
 
 pub page_is : (K : Known) (o root : ℕ) (seen : List Page) → IsKnownOf K o root seen → (p : Page) → Contains seen p → IsPage K o (page_of p) (head_on o p)
 page_is K o root seen is p i = record { known = is.head p i; object = refl; page = refl }
@@ -58,36 +59,36 @@ pub first_same : (rows : List (Row ℕ)) → first_of (keys_of rows) ≡ first_k
 first_same [] = refl
 first_same (row ∷ rows) = refl
 
-first_fits : (o : ℕ) (seen : List Page) → ArePages seen → (low : ℕ) (p : Page) → Contains seen p → ((first : ℕ) → IsFirstKeyWrong (head_on o p) low first → ⊥) → FirstFits low p
-first_fits o seen pages low (Page.AtLeaf n) i right = λ key is. low_or low key (λ less. right key (IsFirstKeyWrong.OfLeaf refl is less))
-first_fits o seen pages low (Page.AtIndex l n) i right =
-    let some = pages.some l n i in
+first_fits : (o : ℕ) (seen : List Page) → AreWellFormed seen → (low : ℕ) (p : Page) → Contains seen p → ((first : ℕ) → IsFirstKeyWrong (head_on o p) low first → ⊥) → FirstFits low p
+first_fits o seen pages low (Page.LeafPage n) i right = λ key is. low_or low key (λ less. right key (IsFirstKeyWrong.OfLeaf refl is less))
+first_fits o seen pages low (Page.IndexPage l n) i right =
+    let some = some_rows n.rows (pages.some_row l n i) in
     let key = some.0.key in
     let first : first_key n.rows ≡ Some key = ap first_key some.2 in
-    let is : first_of (keys_on (Page.AtIndex l n)) ≡ Some key = first_same n.rows ∙ first in
-    let same = same_or key low (λ no. right key (IsFirstKeyWrong.OfIndex (pages.level l n i).0 is no)) in
+    let is : first_of (keys_on (Page.IndexPage l n)) ≡ Some key = first_same n.rows ∙ first in
+    let same = same_or key low (λ no. right key (IsFirstKeyWrong.OfIndex (pages.levels l n i).0 is no)) in
     first ∙ ap Some same
 
-high_is : (K : Known) (o root : ℕ) (seen : List Page) → IsKnownOf K o root seen → ArePages seen → (k : ℕ) (a : Parent seen k) (w : ℕ) → High seen a.node a.back w
+high_is : (K : Known) (o root : ℕ) (seen : List Page) → IsKnownOf K o root seen → AreWellFormed seen → (k : ℕ) (a : Parent seen k) (w : ℕ) → High seen a.node a.back w
     → parents.High K (parent_row o seen k a) w
 high_is K o root seen is pages k a w (High.Within e) = parents.High.Within e
 high_is K o root seen is pages k a w (High.Beyond l m none i page first) =
-    let p = Page.AtIndex l m in
-    parents.High.Beyond (head_on o p) none (record { page = record { known = is.head p i; object = refl; page = page }; index = (pages.level l m i).0 }) (first_same m.rows ∙ first)
+    let p = Page.IndexPage l m in
+    parents.High.Beyond (head_on o p) none (record { page = record { known = is.head p i; object = refl; page = page }; index = (pages.levels l m i).0 }) (first_same m.rows ∙ first)
 
-before_is : (K : Known) (o root : ℕ) (seen : List Page) → IsKnownOf K o root seen → ArePages seen → (k : ℕ) (a : Parent seen k) (w : ℕ) → Before seen a.node a.front w
+before_is : (K : Known) (o root : ℕ) (seen : List Page) → IsKnownOf K o root seen → AreWellFormed seen → (k : ℕ) (a : Parent seen k) (w : ℕ) → Before seen a.node a.front w
     → parents.Before K (parent_row o seen k a) w
 before_is K o root seen is pages k a w (Before.Within some e) = parents.Before.Within some e
 before_is K o root seen is pages k a w (Before.Leftmost none e f) = parents.Before.Leftmost none e f
 before_is K o root seen is pages k a w (Before.Beyond l m none some i page last) =
-    let p = Page.AtIndex l m in
-    parents.Before.Beyond (head_on o p) none some (record { page = record { known = is.head p i; object = refl; page = page }; index = (pages.level l m i).0 }) last
+    let p = Page.IndexPage l m in
+    parents.Before.Beyond (head_on o p) none some (record { page = record { known = is.head p i; object = refl; page = page }; index = (pages.levels l m i).0 }) last
 
 -- an error at page k is none
-none : (K : Known) (o k : ℕ) (x : CheckError) → IsFree K o → x.object ≡ o → StandsAt K k x → ⊥
+none : (K : Known) (o k : ℕ) (x : CheckError) → HasNoTreeErrors K o → x.object ≡ o → StandsAt K k x → ⊥
 none K o k x free at stands = free x at (k, stands)
 
-root_seen : (K : Known) (o root : ℕ) (seen : List Page) → IsKnownOf K o root seen → IsFree K o → (p : Page) × Contains seen p × (page_of p ≡ root)
+root_seen : (K : Known) (o root : ℕ) (seen : List Page) → IsKnownOf K o root seen → HasNoTreeErrors K o → (p : Page) × Contains seen p × (page_of p ≡ root)
 root_seen K o root seen is free = ⊎_elim (λ found. found)
     (λ unseen. absurd (none K o root (tree_error 8928 o root 0 0 1) free refl (StandsAt.RootUnseen (record {
       object = o;
@@ -96,7 +97,7 @@ root_seen K o root seen is free = ⊎_elim (λ found. found)
       is = refl;
     })))) (page_found seen root)
 
-root_prev : (K : Known) (o root : ℕ) (seen : List Page) → IsKnownOf K o root seen → IsFree K o → (p : Page) → Contains seen p → page_of p ≡ root → prev_of p ≡ 0
+root_prev : (K : Known) (o root : ℕ) (seen : List Page) → IsKnownOf K o root seen → HasNoTreeErrors K o → (p : Page) → Contains seen p → page_of p ≡ root → prev_of p ≡ 0
 root_prev K o root seen is free p i at = same_or (prev_of p) 0 (λ no.
     none K o (page_of p) (tree_error 8935 o (page_of p) 0 0 (prev_of p)) free refl
     (StandsAt.WrongPrev (HasWrongPrev.ByCatalog o (head_on o p) (root_is K o root seen is p i at) no refl)))
@@ -114,7 +115,7 @@ names_child K o root seen is k a = record { root = root; table = is.table; row =
 leads_to : (K : Known) (o root : ℕ) (seen : List Page) → IsKnownOf K o root seen → (p : Page) → Contains seen p → (k : ℕ) → next_of p ≡ k → LeadsTo K (link_on o p) k
 leads_to K o root seen is p i k at = record { root = root; table = is.table; link = record { known = is.link p i; object = refl; next = at } }
 
-child_nowhere : (K : Known) (o root : ℕ) (seen : List Page) → IsKnownOf K o root seen → IsFree K o → (k : ℕ) → Parent seen k → IsUnseen K k → ⊥
+child_nowhere : (K : Known) (o root : ℕ) (seen : List Page) → IsKnownOf K o root seen → HasNoTreeErrors K o → (k : ℕ) → Parent seen k → IsUnseen K k → ⊥
 child_nowhere K o root seen is free k a unseen =
     let c = parent_row o seen k a in
     let names = names_child K o root seen is k a in
@@ -124,7 +125,7 @@ child_nowhere K o root seen is free k a unseen =
     (StandsAt.ChildNowhere (IsChildNowhere.Alone c names unseen (λ l h. let p = link_from K o root seen is k l h in alone p.0 p.1 p.3) refl)))
     (found_by next_of seen k)
 
-child_seen : (K : Known) (o root : ℕ) (seen : List Page) → IsKnownOf K o root seen → IsFree K o → (k : ℕ) → Parent seen k → (p : Page) × Contains seen p × (page_of p ≡ k)
+child_seen : (K : Known) (o root : ℕ) (seen : List Page) → IsKnownOf K o root seen → HasNoTreeErrors K o → (k : ℕ) → Parent seen k → (p : Page) × Contains seen p × (page_of p ≡ k)
 child_seen K o root seen is free k a = ⊎_elim (λ found. found)
     (λ unseen. absurd (⊎_elim
     (λ other. none K o k (row_error 8925 (parent_row o seen k a) k other.0) free refl
@@ -132,7 +133,7 @@ child_seen K o root seen is free k a = ⊎_elim (λ found. found)
     (λ others. child_nowhere K o root seen is free k a (not_elsewhere K o root seen is k unseen others))
     (is.elsewhere k))) (page_found seen k)
 
-next_seen : (K : Known) (o root : ℕ) (seen : List Page) → IsKnownOf K o root seen → IsFree K o → (p : Page) → Contains seen p → next_of p ≢ 0
+next_seen : (K : Known) (o root : ℕ) (seen : List Page) → IsKnownOf K o root seen → HasNoTreeErrors K o → (p : Page) → Contains seen p → next_of p ≢ 0
     → (q : Page) × Contains seen q × (page_of q ≡ next_of p)
 next_seen K o root seen is free p i some =
     let k = next_of p in
@@ -155,7 +156,7 @@ next_seen K o root seen is free p i some =
     (is.elsewhere k))) (page_found seen k)
 
 -- a page has one place at most, and a root the catalog's
-few_places : (K : Known) (o root : ℕ) (seen : List Page) → IsKnownOf K o root seen → IsFree K o → (k : ℕ) → Parent seen k → (ps : List RowPlace) → ArePlaces K o k ps
+few_places : (K : Known) (o root : ℕ) (seen : List Page) → IsKnownOf K o root seen → HasNoTreeErrors K o → (k : ℕ) → Parent seen k → (ps : List RowPlace) → ArePlaces K o k ps
     → length (with_catalog root k ps) < 2
 few_places K o root seen is free k a ps are =
     let p = child_seen K o root seen is free k a in
@@ -183,7 +184,7 @@ only_one (z ∷ []) x y few i j =
     ⊎_elim (λ e. ⊎_elim (λ f. sym e ∙ f) (λ t. absurd (nothing_there y t)) (cons_cases z [] y j)) (λ t. absurd (nothing_there x t)) (cons_cases z [] x i)
 only_one (z ∷ (w ∷ ps)) x y few i j = absurd (omega (arith, few))
 
-one_parent : (K : Known) (o root : ℕ) (seen : List Page) → IsKnownOf K o root seen → IsFree K o → (k : ℕ) (a b : Parent seen k)
+one_parent : (K : Known) (o root : ℕ) (seen : List Page) → IsKnownOf K o root seen → HasNoTreeErrors K o → (k : ℕ) (a b : Parent seen k)
     → (a.node.page ≡ b.node.page) × (length a.front ≡ length b.front)
 one_parent K o root seen is free k a b =
     let ps = places_of K o root seen is k in
@@ -193,7 +194,7 @@ one_parent K o root seen is free k a b =
     (ps.1.complete (parent_row o seen k a) (row_is K o root seen is k a)) (ps.1.complete (parent_row o seen k b) (row_is K o root seen is k b)) in
     (ap (λ (q : RowPlace). q.page.0) same, ap (λ (q : RowPlace). q.slot) same)
 
-root_free : (K : Known) (o root : ℕ) (seen : List Page) → IsKnownOf K o root seen → IsFree K o → Parent seen root → ⊥
+root_free : (K : Known) (o root : ℕ) (seen : List Page) → IsKnownOf K o root seen → HasNoTreeErrors K o → Parent seen root → ⊥
 root_free K o root seen is free a =
     let ps = places_of K o root seen is root in
     let few = few_places K o root seen is free root a ps.0 ps.1 in
@@ -201,7 +202,7 @@ root_free K o root seen is free a =
     let more : length (with_catalog root root ps.0) ≡ suc (length ps.0) = ap (λ b. length (if b then catalog_place ∷ ps.0 else ps.0)) (eq-eqb root root refl) in
     omega (arith, few, more, here.1)
 
-has_parent : (K : Known) (o root : ℕ) (seen : List Page) → IsKnownOf K o root seen → IsFree K o → (p : Page) → Contains seen p → (page_of p ≡ root) ⊎ Parent seen (page_of p)
+has_parent : (K : Known) (o root : ℕ) (seen : List Page) → IsKnownOf K o root seen → HasNoTreeErrors K o → (p : Page) → Contains seen p → (page_of p ≡ root) ⊎ Parent seen (page_of p)
 has_parent K o root seen is free p i =
     let k = page_of p in
     let s = head_on o p in
@@ -217,7 +218,7 @@ has_parent K o root seen is free p i =
 some_parent : (K : Known) (o root : ℕ) (seen : List Page) → IsKnownOf K o root seen → (k : ℕ) → (k ≡ root) ⊎ Parent seen k → HasParent K o root k
 some_parent K o root seen is k h = ⊎_elim (λ e. inl e) (λ a. inr (parent_row o seen k a, row_is K o root seen is k a)) h
 
-linked : (K : Known) (o root : ℕ) (seen : List Page) → IsKnownOf K o root seen → ArePages seen → IsFree K o → (p : Page) → Contains seen p → prev_of p ≢ 0
+linked : (K : Known) (o root : ℕ) (seen : List Page) → IsKnownOf K o root seen → AreWellFormed seen → HasNoTreeErrors K o → (p : Page) → Contains seen p → prev_of p ≢ 0
     → (q : Page) × Contains seen q × (next_of q ≡ page_of p) × (page_of q ≡ prev_of p)
 linked K o root seen is pages free p i some =
     let k = page_of p in
@@ -229,7 +230,7 @@ linked K o root seen is pages free p i some =
       some = some;
       unlinked = λ l h e. let r = link_from K o root seen is k l h in
           let at : page_of r.0 ≡ prev_of p = ap (λ (t : Link). t.page.0) (sym r.2) ∙ e in
-          let same = pages.one r.0 q.0 r.1 q.1 (at ∙ sym q.2) in
+          let same = pages.once r.0 q.0 r.1 q.1 (at ∙ sym q.2) in
           differs (sym (ap next_of same) ∙ r.3);
     }))) (cases_eq (next_of q.0) k))
     (λ unseen. absurd (no (record {
@@ -237,7 +238,7 @@ linked K o root seen is pages free p i some =
       unlinked = λ l h e. let r = link_from K o root seen is k l h in unseen r.0 r.1 (ap (λ (t : Link). t.page.0) (sym r.2) ∙ e);
     }))) (page_found seen (prev_of p))
 
-crossed : (K : Known) (o root : ℕ) (seen : List Page) → IsKnownOf K o root seen → IsFree K o → (p q : Page) → Contains seen p → Contains seen q → page_of q ≡ next_of p
+crossed : (K : Known) (o root : ℕ) (seen : List Page) → IsKnownOf K o root seen → HasNoTreeErrors K o → (p q : Page) → Contains seen p → Contains seen q → page_of q ≡ next_of p
     → prev_of q ≡ page_of p
 crossed K o root seen is free p q i j at = same_or (prev_of q) (page_of p) (λ differs.
     none K o (page_of q) (tree_error 8936 o (page_of p) (page_of q) 0 (prev_of q)) free refl
@@ -251,7 +252,7 @@ crossed K o root seen is free p q i j at = same_or (prev_of q) (page_of p) (λ d
     })))
 
 -- where no error stands, the pages are clean
-pub free_is_clean : (K : Known) (o root : ℕ) (seen : List Page) → IsKnownOf K o root seen → ArePages seen → IsFree K o → IsClean root seen
+pub free_is_clean : (K : Known) (o root : ℕ) (seen : List Page) → IsKnownOf K o root seen → AreWellFormed seen → HasNoTreeErrors K o → IsClean root seen
 free_is_clean K o root seen is pages free = record {
   root_seen = root_seen K o root seen is free;
   root_prev = root_prev K o root seen is free;

@@ -1,4 +1,4 @@
--- What is known of the pages of a clustered table, and that no error of the rules of trees stands at it.
+-- What the rules of trees know of a clustered table, whose pages seen are given as nodes.
 use Rattle.std.specs.Prelude.{◌≡◌, ◌≢◌, ℕ, ◌<◌, ◌≤◌, Option, Some, None, List, [], ◌∷◌, ◌++◌, length, Contains}
 use Rattle.spec_check.specs.declared.report.CheckError.{CheckError}
 use Rattle.spec_tree.specs.declared.known.PageHead.{PageHead}
@@ -9,69 +9,69 @@ use Rattle.spec_tree.specs.Trees.{IsTreeError}
 use Rattle.spec_levels.specs.Levels.{Row, Index, first_key, Rises}
 use Rattle.spec_levels.specs.Pages.{Page, page_of, prev_of, next_of, level_of, keys_on}
 
--- what each page that passes its test shows by itself, and that no two are the same page
-pub record ArePages (seen : List Page) : Type 0 where
-  pub one : (p q : Page) → Contains seen p → Contains seen q → page_of p ≡ page_of q → p ≡ q
-  pub nonzero : (p : Page) → Contains seen p → page_of p ≢ 0
-  pub level : (l : ℕ) (n : Index) → Contains seen (Page.AtIndex l n) → (0 < l) × (l ≤ 15)
-  pub some : (l : ℕ) (n : Index) → Contains seen (Page.AtIndex l n) → (row : Row ℕ) × (rest : List (Row ℕ)) × (n.rows ≡ row ∷ rest)
-  pub rises : (p : Page) → Contains seen p → Rises 0 None (keys_on p)
+-- what the page test and the rule of the order of keys ask of each page by itself; and no page stands twice
+pub record AreWellFormed (seen : List Page) : Type 0 where
+  pub once : (page other : Page) → Contains seen page → Contains seen other → page_of page ≡ page_of other → page ≡ other
+  pub nonzero : (page : Page) → Contains seen page → page_of page ≢ 0
+  pub levels : (level : ℕ) (node : Index) → Contains seen (Page.IndexPage level node) → (0 < level) × (level ≤ 15)
+  pub some_row : (level : ℕ) (node : Index) → Contains seen (Page.IndexPage level node) → node.rows ≢ []
+  pub rises : (page : Page) → Contains seen page → Rises 0 None (keys_on page)
 
--- an index row that names page k
-pub record Parent (seen : List Page) (k : ℕ) : Type 0 where
+-- an index row that names page child, and the rows before and behind it on its page
+pub record Parent (seen : List Page) (child : ℕ) : Type 0 where
   pub level : ℕ
   pub node : Index
   pub front : List (Row ℕ)
   pub row : Row ℕ
   pub back : List (Row ℕ)
-  pub on : Contains seen (Page.AtIndex level node)
+  pub on : Contains seen (Page.IndexPage level node)
   pub rows : node.rows ≡ front ++ row ∷ back
-  pub names : row.value ≡ k
+  pub names : row.value ≡ child
 
--- the page that the last row names; 0 where there is no row
-abbrev pub last_value : List (Row ℕ) → ℕ
-last_value [] = 0
-last_value (row ∷ []) = row.value
-last_value (row ∷ (next ∷ rows)) = last_value (next ∷ rows)
+-- the first and the last of keys
+abbrev pub first_of : List ℕ → Option ℕ
+first_of [] = None
+first_of (key ∷ keys) = Some key
 
--- the last of keys
 abbrev pub last_of : List ℕ → Option ℕ
 last_of [] = None
 last_of (key ∷ []) = Some key
 last_of (key ∷ (next ∷ keys)) = last_of (next ∷ keys)
 
-abbrev pub first_of : List ℕ → Option ℕ
-first_of [] = None
-first_of (key ∷ keys) = Some key
+-- the page that the last of these rows names; 0 where there is no row
+abbrev pub last_value : List (Row ℕ) → ℕ
+last_value [] = 0
+last_value (row ∷ []) = row.value
+last_value (row ∷ (next ∷ rows)) = last_value (next ∷ rows)
 
--- the page that the last row of an index page names
+-- the page that the last row of an index page names; 0 for a leaf
 abbrev pub last_child_on : Page → ℕ
-last_child_on (Page.AtLeaf n) = 0
-last_child_on (Page.AtIndex l n) = last_value n.rows
+last_child_on (Page.LeafPage node) = 0
+last_child_on (Page.IndexPage level node) = last_value node.rows
 
--- what a page of object o says of itself
+-- what a page says of itself, which page it names as next, and what an index row says with its page and the rows
+-- beside it
 abbrev pub head_on : ℕ → Page → PageHead
-head_on o p = record {
-  object = record { 0 = o };
-  page = record { 0 = page_of p };
-  level = level_of p;
-  prev = record { 0 = prev_of p };
-  next = record { 0 = next_of p };
-  first = first_of (keys_on p);
-  last = last_of (keys_on p);
-  last_child = record { 0 = last_child_on p };
+head_on object page = record {
+  object = record { 0 = object };
+  page = record { 0 = page_of page };
+  level = level_of page;
+  prev = record { 0 = prev_of page };
+  next = record { 0 = next_of page };
+  first = first_of (keys_on page);
+  last = last_of (keys_on page);
+  last_child = record { 0 = last_child_on page };
 }
 
 abbrev pub link_on : ℕ → Page → Link
-link_on o p = record { object = record { 0 = o }; page = record { 0 = page_of p }; next = record { 0 = next_of p } }
+link_on object page = record { object = record { 0 = object }; page = record { 0 = page_of page }; next = record { 0 = next_of page } }
 
--- the index row that stands on a node of level l between front and back
 abbrev pub row_on : ℕ → ℕ → Index → List (Row ℕ) → Row ℕ → List (Row ℕ) → IndexRow
-row_on o l node front row back = record {
-  object = record { 0 = o };
+row_on object level node front row back = record {
+  object = record { 0 = object };
   parent = record { 0 = node.page };
   slot = length front;
-  level = l;
+  level = level;
   key = row.key;
   next_key = first_key back;
   child = record { 0 = row.value };
@@ -80,18 +80,18 @@ row_on o l node front row back = record {
   parent_next = record { 0 = node.next };
 }
 
-abbrev pub parent_row : (o : ℕ) (seen : List Page) (k : ℕ) → Parent seen k → IndexRow
-parent_row o seen k a = row_on o a.level a.node a.front a.row a.back
+abbrev pub parent_row : (object : ℕ) (seen : List Page) (child : ℕ) → Parent seen child → IndexRow
+parent_row object seen child parent = row_on object parent.level parent.node parent.front parent.row parent.back
 
--- no error of a rule of trees stands at object o
-abbrev pub IsFree : Known → ℕ → Type 0
-IsFree K o = (x : CheckError) → x.object ≡ o → IsTreeError K x → ⊥
-
--- what is known where these are all pages that are seen, and o the one object
+-- what is known where the object is the one clustered table, and these are the pages seen of it
 abbrev pub known_of : ℕ → ℕ → List Page → Known
-known_of o root seen = record {
-  roots = λ r. r ≡ record { object = record { 0 = o }; page = record { 0 = root } };
-  pages = λ s. (p : Page) × Contains seen p × (s ≡ head_on o p);
-  links = λ l. (p : Page) × Contains seen p × (l ≡ link_on o p);
-  rows = λ c. (a : Parent seen c.child.0) × (c ≡ parent_row o seen c.child.0 a);
+known_of object root seen = record {
+  roots = λ table. table ≡ record { object = record { 0 = object }; page = record { 0 = root } };
+  pages = λ head. (page : Page) × Contains seen page × (head ≡ head_on object page);
+  links = λ link. (page : Page) × Contains seen page × (link ≡ link_on object page);
+  rows = λ row. (parent : Parent seen row.child.0) × (row ≡ parent_row object seen row.child.0 parent);
 }
+
+-- no error of the rules of trees stands at the object
+abbrev pub HasNoTreeErrors : Known → ℕ → Type 0
+HasNoTreeErrors known object = (error : CheckError) → error.object ≡ object → IsTreeError known error → ⊥

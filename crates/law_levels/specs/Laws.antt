@@ -1,9 +1,10 @@
--- An object without errors of the rules of trees is a tree, and a tree has none.
+-- A clustered table at which no error of the rules of trees stands is a tree of levels.
 use Rattle.std.specs.Prelude.{◌↔◌, ℕ, List}
 use Rattle.spec_levels.specs.Levels.{Tree}
 use Rattle.spec_levels.specs.Pages.{Page, IsTreeOf}
-use Rattle.law_levels.specs.Known.{ArePages, known_of, IsFree}
+use Rattle.law_levels.specs.Known.{AreWellFormed, known_of, HasNoTreeErrors}
 
--- no error stands at an object of which these pages are seen exactly where they are a tree
-abbrev pub FreeIsTree : Type 0
-FreeIsTree = (o root : ℕ) (seen : List Page) → ArePages seen → IsFree (known_of o root seen) o ↔ ((tree : Tree) × IsTreeOf root seen tree)
+-- no error of the rules of trees stands at an object exactly where the pages seen of it are those of a tree
+abbrev pub SoundIsTree : Type 0
+SoundIsTree = (object root : ℕ) (seen : List Page) → AreWellFormed seen
+    → HasNoTreeErrors (known_of object root seen) object ↔ ((tree : Tree) × IsTreeOf root seen tree)

@@ -76,11 +76,11 @@ some_row p o kind bytes test index =
     (λ some. let e = eqb-false (slot_count bytes) 0 some in omega (arith, e)) (cases_Bool (slot_count bytes == 0))
 
 -- a page as it is read
-pub index_read : (p : ℕ) (bytes : List ℕ) → has_index_rows bytes ≡ true → page_read p bytes ≡ Page.AtIndex (header_of bytes).level (node_of name_row p bytes)
-index_read p bytes e = picked (has_index_rows bytes) (Page.AtIndex (header_of bytes).level (node_of name_row p bytes)) (Page.AtLeaf (node_of leaf_row p bytes)) e
+pub index_read : (p : ℕ) (bytes : List ℕ) → has_index_rows bytes ≡ true → page_read p bytes ≡ Page.IndexPage (header_of bytes).level (node_of name_row p bytes)
+index_read p bytes e = picked (has_index_rows bytes) (Page.IndexPage (header_of bytes).level (node_of name_row p bytes)) (Page.LeafPage (node_of leaf_row p bytes)) e
 
-pub leaf_read : (p : ℕ) (bytes : List ℕ) → has_index_rows bytes ≡ false → page_read p bytes ≡ Page.AtLeaf (node_of leaf_row p bytes)
-leaf_read p bytes e = passed (has_index_rows bytes) (Page.AtIndex (header_of bytes).level (node_of name_row p bytes)) (Page.AtLeaf (node_of leaf_row p bytes)) e
+pub leaf_read : (p : ℕ) (bytes : List ℕ) → has_index_rows bytes ≡ false → page_read p bytes ≡ Page.LeafPage (node_of leaf_row p bytes)
+leaf_read p bytes e = passed (has_index_rows bytes) (Page.IndexPage (header_of bytes).level (node_of name_row p bytes)) (Page.LeafPage (node_of leaf_row p bytes)) e
 
 abbrev head_with : ℕ → ℕ → List ℕ → ℕ → Option ℕ → Option ℕ → ℕ → PageHead
 head_with o p bytes level first last child = record {

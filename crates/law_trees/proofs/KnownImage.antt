@@ -62,16 +62,16 @@ pub record FromIndex (image : Image) (ps : List ℕ) (l : ℕ) (n : Index) : Typ
   pub node : node_of name_row q (page image q) ≡ n
 
 abbrev node_or : Index → Page → Index
-node_or other (Page.AtLeaf n) = other
-node_or other (Page.AtIndex l n) = n
+node_or other (Page.LeafPage n) = other
+node_or other (Page.IndexPage l n) = n
 
-pub from_index : (image : Image) (ps : List ℕ) (l : ℕ) (n : Index) → Contains (pages_read image ps) (Page.AtIndex l n) → FromIndex image ps l n
+pub from_index : (image : Image) (ps : List ℕ) (l : ℕ) (n : Index) → Contains (pages_read image ps) (Page.IndexPage l n) → FromIndex image ps l n
 from_index image ps l n i =
-    let r = read_from image ps (Page.AtIndex l n) i in
+    let r = read_from image ps (Page.IndexPage l n) i in
     let bytes = page image r.0 in
-    ⊎_elim (λ index. let e : Page.AtIndex (header_of bytes).level (node_of name_row r.0 bytes) ≡ Page.AtIndex l n = sym (index_read r.0 bytes index) ∙ r.2 in
+    ⊎_elim (λ index. let e : Page.IndexPage (header_of bytes).level (node_of name_row r.0 bytes) ≡ Page.IndexPage l n = sym (index_read r.0 bytes index) ∙ r.2 in
     record { q = r.0; on = r.1; index = index; level = ap level_of e; node = ap (node_or n) e })
-    (λ leaf. let e : Page.AtLeaf (node_of leaf_row r.0 bytes) ≡ Page.AtIndex l n = sym (leaf_read r.0 bytes leaf) ∙ r.2 in absurd (cc))
+    (λ leaf. let e : Page.LeafPage (node_of leaf_row r.0 bytes) ≡ Page.IndexPage l n = sym (leaf_read r.0 bytes leaf) ∙ r.2 in absurd (cc))
     (cases_Bool (has_index_rows bytes))
 
 row_same : (o l l' : ℕ) (n n' : Index) (f f' : List (Row ℕ)) (r r' : Row ℕ) (b b' : List (Row ℕ)) → l ≡ l' → n ≡ n' → f ≡ f' → r ≡ r' → b ≡ b'

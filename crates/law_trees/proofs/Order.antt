@@ -20,7 +20,7 @@ use Rattle.law_trees.specs.Read.{leaf_row, name_row, page_read, pages_read}
 use Rattle.law_trees.proofs.Ranges.{made}
 use Rattle.law_trees.proofs.Heads.{picked, passed, index_read, leaf_read, index_level, some_row}
 use Rattle.law_trees.proofs.KnownImage.{page_is, read_from, read_in, nonzero_page, from_index}
-use Rattle.law_levels.specs.Known.{ArePages}
+use Rattle.law_levels.specs.Known.{AreWellFormed}
 use Rattle.law_trees.specs.Tables.{IsTableOf, IsOrdered}
 
 rises_made : {V : Type 0} (f : ℕ → Row V) (low a n : ℕ) → ((i : ℕ) → a ≤ i → i + 1 < a + n → (f i).key < (f (i + 1)).key) → (0 < n → low ≤ (f a).key)
@@ -109,7 +109,7 @@ rises_ordered g image row ps t rises p x seen h =
 
 -- what else is known of pages that are read
 pub are_pages : (g : Geometry) (image : Image) (row : CatalogRow) (ps : List ℕ) → IsTableOf g image row ps
-    → ((p : Page) → Contains (pages_read image ps) p → Rises 0 None (keys_on p)) → ArePages (pages_read image ps)
+    → ((p : Page) → Contains (pages_read image ps) p → Rises 0 None (keys_on p)) → AreWellFormed (pages_read image ps)
 are_pages g image row ps t rises = record {
   one = λ p q i j same.
       let a = read_from image ps p i in
@@ -152,11 +152,11 @@ under_rises {V = V} Is keys (row ∷ rows) (m ∷ nodes) under n i = ⊎_elim
 pub tree_rises : (rows : List (Row ℕ)) (above : List (List Index)) (leaves : List Leaf) → AreLevels rows above leaves → (p : Page) → Contains (level_pages above leaves) p
     → Rises 0 None (keys_on p)
 tree_rises rows [] leaves levels p i =
-    let n = map_from Page.AtLeaf leaves p i in
+    let n = map_from Page.LeafPage leaves p i in
     subst (λ q. Rises 0 None (keys_on q)) n.2 (under_rises IsUnder (λ r e m is. is.keys) rows leaves levels.0 n.0 n.1)
 tree_rises rows (nodes ∷ more) leaves levels p i =
     let level = suc (length more) in
-    ⊎_elim (λ here. let n = map_from (Page.AtIndex level) nodes p here in
+    ⊎_elim (λ here. let n = map_from (Page.IndexPage level) nodes p here in
     subst (λ q. Rises 0 None (keys_on q)) n.2 (under_rises IsIndexUnder (λ r e m is. is.under.keys) rows nodes levels.0 n.0 n.1))
     (λ there. tree_rises (rows_of nodes) more leaves levels.2 p there)
-    (Contains-append_cases (map (Page.AtIndex level) nodes) (level_pages more leaves) p i)
+    (Contains-append_cases (map (Page.IndexPage level) nodes) (level_pages more leaves) p i)

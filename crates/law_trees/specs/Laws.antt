@@ -19,12 +19,12 @@ use Rattle.spec_tables.specs.KnownPages.{known_of_image}
 use Rattle.spec_levels.specs.Levels.{Tree}
 use Rattle.spec_levels.specs.Pages.{IsTreeOf}
 use Rattle.law_trees.specs.Read.{pages_read}
-use Rattle.law_levels.specs.Known.{IsFree}
+use Rattle.law_levels.specs.Known.{HasNoTreeErrors}
 use Rattle.law_trees.specs.Tables.{IsTableOf, IsOrdered}
 
 -- no error of the rules of trees stands at the table, and no key is out of order on a page seen of it
 abbrev pub IsSoundTable : Geometry → Image → CatalogRow → Type 0
-IsSoundTable g image row = IsFree (known_of_image g image) row.id × IsOrdered g image row
+IsSoundTable g image row = HasNoTreeErrors (known_of_image g image) row.id × IsOrdered g image row
 
 abbrev pub SoundIsTree : Type 0
 SoundIsTree = (g : Geometry) (image : Image) (row : CatalogRow) (ps : List ℕ) → IsTableOf g image row ps

@@ -28,7 +28,7 @@ node_of row p bytes = record {
 -- page p, as its bytes say
 abbrev pub page_read : ℕ → List ℕ → Page
 page_read p bytes =
-    if has_index_rows bytes then Page.AtIndex (header_of bytes).level (node_of name_row p bytes) else Page.AtLeaf (node_of leaf_row p bytes)
+    if has_index_rows bytes then Page.IndexPage (header_of bytes).level (node_of name_row p bytes) else Page.LeafPage (node_of leaf_row p bytes)
 
 -- pages of an image
 abbrev pub pages_read : Image → List ℕ → List Page

@@ -13,7 +13,7 @@ use Rattle.spec_tree.specs.declared.known.IndexRow.{IndexRow}
 use Rattle.spec_tables.specs.Heads.{key_at, last_key, child_at, last_child, head_of, child_before, index_row}
 use Rattle.spec_levels.specs.Levels.{Row, first_key, keys_of}
 use Rattle.spec_levels.specs.Pages.{Page}
-use Rattle.law_trees.specs.Read.{leaf_row, name_row, node_of, page_read}
+use Rattle.law_trees.specs.Read.{leaf_row, child_row, node_of, page_read}
 use Rattle.law_trees.proofs.Ranges.{made, last_key_made, last_value_made}
 use Rattle.law_levels.specs.Known.{last_value, last_of, first_of, head_on, row_on}
 
@@ -76,11 +76,11 @@ some_row p o kind bytes test index =
     (λ some. let e = eqb-false (slot_count bytes) 0 some in omega (arith, e)) (cases_Bool (slot_count bytes == 0))
 
 -- a page as it is read
-pub index_read : (p : ℕ) (bytes : List ℕ) → has_index_rows bytes ≡ true → page_read p bytes ≡ Page.IndexPage (header_of bytes).level (node_of name_row p bytes)
-index_read p bytes e = picked (has_index_rows bytes) (Page.IndexPage (header_of bytes).level (node_of name_row p bytes)) (Page.LeafPage (node_of leaf_row p bytes)) e
+pub index_read : (p : ℕ) (bytes : List ℕ) → has_index_rows bytes ≡ true → page_read p bytes ≡ Page.IndexPage (header_of bytes).level (node_of child_row p bytes)
+index_read p bytes e = picked (has_index_rows bytes) (Page.IndexPage (header_of bytes).level (node_of child_row p bytes)) (Page.LeafPage (node_of leaf_row p bytes)) e
 
 pub leaf_read : (p : ℕ) (bytes : List ℕ) → has_index_rows bytes ≡ false → page_read p bytes ≡ Page.LeafPage (node_of leaf_row p bytes)
-leaf_read p bytes e = passed (has_index_rows bytes) (Page.IndexPage (header_of bytes).level (node_of name_row p bytes)) (Page.LeafPage (node_of leaf_row p bytes)) e
+leaf_read p bytes e = passed (has_index_rows bytes) (Page.IndexPage (header_of bytes).level (node_of child_row p bytes)) (Page.LeafPage (node_of leaf_row p bytes)) e
 
 abbrev head_with : ℕ → ℕ → List ℕ → ℕ → Option ℕ → Option ℕ → ℕ → PageHead
 head_with o p bytes level first last child = record {
@@ -101,10 +101,10 @@ head_same o p bytes l l' f f' t t' c c' a b d e =
 
 pub head_read : (p o : ℕ) (kind : Kind) (bytes : List ℕ) → PassesTest p o kind bytes → head_of o p bytes ≡ head_on o (page_read p bytes)
 head_read p o kind bytes test = ⊎_elim
-    (λ index. head_same o p bytes (header_of bytes).level (header_of bytes).level (key_at bytes 0) (first_of (keys_of (made (name_row bytes) 0 (slot_count bytes))))
-    (last_key bytes) (last_of (keys_of (made (name_row bytes) 0 (slot_count bytes)))) (last_child bytes) (last_value (made (name_row bytes) 0 (slot_count bytes)))
-    refl (key_first (name_row bytes) (slot_count bytes)) (key_last (name_row bytes) (slot_count bytes))
-    (picked (has_index_rows bytes) (child_at bytes (slot_count bytes - 1)) 0 index ∙ value_last (name_row bytes) (slot_count bytes) (some_row p o kind bytes test index))
+    (λ index. head_same o p bytes (header_of bytes).level (header_of bytes).level (key_at bytes 0) (first_of (keys_of (made (child_row bytes) 0 (slot_count bytes))))
+    (last_key bytes) (last_of (keys_of (made (child_row bytes) 0 (slot_count bytes)))) (last_child bytes) (last_value (made (child_row bytes) 0 (slot_count bytes)))
+    refl (key_first (child_row bytes) (slot_count bytes)) (key_last (child_row bytes) (slot_count bytes))
+    (picked (has_index_rows bytes) (child_at bytes (slot_count bytes - 1)) 0 index ∙ value_last (child_row bytes) (slot_count bytes) (some_row p o kind bytes test index))
     ∙ ap (head_on o) (sym (index_read p bytes index)))
     (λ leaf. head_same o p bytes (header_of bytes).level 0 (key_at bytes 0) (first_of (keys_of (made (leaf_row bytes) 0 (slot_count bytes))))
     (last_key bytes) (last_of (keys_of (made (leaf_row bytes) 0 (slot_count bytes)))) (last_child bytes) 0
@@ -120,7 +120,7 @@ row_with o p bytes i slot next before = record {
   parent = record { 0 = p };
   slot = slot;
   level = (header_of bytes).level;
-  key = (name_row bytes i).key;
+  key = (child_row bytes i).key;
   next_key = next;
   child = record { 0 = child_at bytes i };
   before = record { 0 = before };
@@ -140,9 +140,9 @@ before_made f (suc i) =
     ∙ value_last f (suc i) (omega arith)
 
 pub row_read : (o p : ℕ) (bytes : List ℕ) (i m : ℕ) → slot_count bytes ≡ i + suc m
-    → index_row o p bytes i ≡ row_on o (header_of bytes).level (node_of name_row p bytes) (made (name_row bytes) 0 i) (name_row bytes i) (made (name_row bytes) (i + 1) m)
+    → index_row o p bytes i ≡ row_on o (header_of bytes).level (node_of child_row p bytes) (made (child_row bytes) 0 i) (child_row bytes i) (made (child_row bytes) (i + 1) m)
 row_read o p bytes i m count =
-    let f = name_row bytes in
+    let f = child_row bytes in
     ap (λ x. row_with o p bytes i x (key_at bytes (i + 1)) (child_before bytes i)) (sym (length-map-range_with_len f 0 i))
     ∙ (ap (λ x. row_with o p bytes i (length (made f 0 i)) x (child_before bytes i)) (next_made f (slot_count bytes) i m count)
     ∙ ap (row_with o p bytes i (length (made f 0 i)) (first_key (made f (i + 1) m))) (before_made f i))

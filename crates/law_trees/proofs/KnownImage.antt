@@ -21,11 +21,11 @@ use Rattle.spec_tables.specs.KnownPages.{root_of, IsHeadIn, IsIndexRowIn, known_
 use Rattle.spec_levels.specs.Levels.{Row, Index}
 use Rattle.spec_levels.specs.Pages.{Page, page_of, level_of}
 use Rattle.law_levels.proofs.Facts.{IsKnownOf}
-use Rattle.law_trees.specs.Read.{leaf_row, name_row, node_of, page_read, pages_read}
+use Rattle.law_trees.specs.Read.{leaf_row, child_row, node_of, page_read, pages_read}
 use Rattle.law_trees.proofs.Ranges.{made, split_made, slot_made}
 use Rattle.law_trees.proofs.Heads.{picked, passed, head_read, row_read, index_read, leaf_read}
 use Rattle.law_levels.specs.Known.{Parent, head_on, row_on, parent_row}
-use Rattle.law_trees.specs.Tables.{IsTableOf}
+use Rattle.law_trees.proofs.Tables.{IsTableOf}
 
 -- the number of a page is that of what is read
 pub page_is : (p : ℕ) (bytes : List ℕ) → page_of (page_read p bytes) ≡ p
@@ -59,7 +59,7 @@ pub record FromIndex (image : Image) (ps : List ℕ) (l : ℕ) (n : Index) : Typ
   pub on : Contains ps q
   pub index : has_index_rows (page image q) ≡ true
   pub level : (header_of (page image q)).level ≡ l
-  pub node : node_of name_row q (page image q) ≡ n
+  pub node : node_of child_row q (page image q) ≡ n
 
 abbrev node_or : Index → Page → Index
 node_or other (Page.LeafPage n) = other
@@ -69,7 +69,7 @@ pub from_index : (image : Image) (ps : List ℕ) (l : ℕ) (n : Index) → Conta
 from_index image ps l n i =
     let r = read_from image ps (Page.IndexPage l n) i in
     let bytes = page image r.0 in
-    ⊎_elim (λ index. let e : Page.IndexPage (header_of bytes).level (node_of name_row r.0 bytes) ≡ Page.IndexPage l n = sym (index_read r.0 bytes index) ∙ r.2 in
+    ⊎_elim (λ index. let e : Page.IndexPage (header_of bytes).level (node_of child_row r.0 bytes) ≡ Page.IndexPage l n = sym (index_read r.0 bytes index) ∙ r.2 in
     record { q = r.0; on = r.1; index = index; level = ap level_of e; node = ap (node_or n) e })
     (λ leaf. let e : Page.LeafPage (node_of leaf_row r.0 bytes) ≡ Page.IndexPage l n = sym (leaf_read r.0 bytes leaf) ∙ r.2 in absurd (cc))
     (cases_Bool (has_index_rows bytes))
@@ -84,8 +84,8 @@ row_in : (g : Geometry) (image : Image) (row : CatalogRow) (ps : List ℕ) → I
 row_in g image row ps t k a =
     let f = from_index image ps a.level a.node a.on in
     let bytes = page image f.q in
-    let rows : made (name_row bytes) 0 (slot_count bytes) ≡ a.front ++ a.row ∷ a.back = ap (λ (n : Index). n.rows) f.node ∙ a.rows in
-    let s = slot_made (name_row bytes) 0 (slot_count bytes) a.front a.row a.back rows in
+    let rows : made (child_row bytes) 0 (slot_count bytes) ≡ a.front ++ a.row ∷ a.back = ap (λ (n : Index). n.rows) f.node ∙ a.rows in
+    let s = slot_made (child_row bytes) 0 (slot_count bytes) a.front a.row a.back rows in
     let i = length a.front in
     let count = s.count in
     let at : 0 + i ≡ i = omega arith in
@@ -97,9 +97,9 @@ row_in g image row ps t k a =
       object = t.object;
       seen = t.seen.sound f.q f.on;
       stands = subst (λ n. i < n) (sym (picked (has_index_rows bytes) (slot_count bytes) 0 f.index)) (omega (arith, count));
-      is = row_same row.id a.level (header_of bytes).level a.node (node_of name_row f.q bytes) a.front (made (name_row bytes) 0 i) a.row (name_row bytes i)
-          a.back (made (name_row bytes) (i + 1) s.after) (sym f.level) (sym f.node) s.before_is (s.is ∙ ap (name_row bytes) at)
-          (s.after_is ∙ ap (λ n. made (name_row bytes) n s.after) after)
+      is = row_same row.id a.level (header_of bytes).level a.node (node_of child_row f.q bytes) a.front (made (child_row bytes) 0 i) a.row (child_row bytes i)
+          a.back (made (child_row bytes) (i + 1) s.after) (sym f.level) (sym f.node) s.before_is (s.is ∙ ap (child_row bytes) at)
+          (s.after_is ∙ ap (λ n. made (child_row bytes) n s.after) after)
           ∙ sym (row_read row.id f.q bytes i s.after count);
     }
 
@@ -121,14 +121,14 @@ row_from g image row ps t c h mine =
     let after : 0 + i + 1 ≡ i + 1 = omega arith in (
       record {
         level = (header_of bytes).level;
-        node = node_of name_row q bytes;
-        front = made (name_row bytes) 0 i;
-        row = name_row bytes i;
-        back = made (name_row bytes) (i + 1) m;
+        node = node_of child_row q bytes;
+        front = made (child_row bytes) 0 i;
+        row = child_row bytes i;
+        back = made (child_row bytes) (i + 1) m;
         on = subst (Contains (pages_read image ps)) (index_read q bytes index.0) (read_in image ps q on);
-        rows = ap (made (name_row bytes) 0) count ∙ (split_made (name_row bytes) 0 i m
-            ∙ (ap (λ n. made (name_row bytes) 0 i ++ name_row bytes n ∷ made (name_row bytes) (0 + i + 1) m) at
-            ∙ ap (λ n. made (name_row bytes) 0 i ++ name_row bytes i ∷ made (name_row bytes) n m) after));
+        rows = ap (made (child_row bytes) 0) count ∙ (split_made (child_row bytes) 0 i m
+            ∙ (ap (λ n. made (child_row bytes) 0 i ++ child_row bytes n ∷ made (child_row bytes) (0 + i + 1) m) at
+            ∙ ap (λ n. made (child_row bytes) 0 i ++ child_row bytes i ∷ made (child_row bytes) n m) after));
         names = ap (λ (x : IndexRow). x.child.0) (sym is);
       },
       is ∙ read,

@@ -1,7 +1,9 @@
+pub mod Objects
+pub mod Tables
+pub mod FaultNumbers
 pub mod Ranges
 pub mod Heads
 pub mod KnownImage
 pub mod Order
 pub mod Proved
-pub mod Objects
 pub mod File

@@ -1,5 +1,5 @@
 -- Keys rise on a page exactly where no slot's key fails to be above that of the slot before.
-use Rattle.std.proofs.Common.{◌≡◌, ℕ, zero, suc, ◌+◌, ◌<◌, ◌≤◌, Option, Some, None, List, [], ◌∷◌, length, map, Contains, IsTrue, refl, sym, ap, ◌∙◌, subst, ⊎_elim, arith}
+use Rattle.std.proofs.Common.{◌≢◌, ◌≡◌, ℕ, zero, suc, ◌+◌, ◌<◌, ◌≤◌, Option, Some, None, List, [], ◌∷◌, length, map, Contains, IsTrue, refl, sym, ap, ◌∙◌, subst, ⊎_elim, arith}
 use Rattle.std.specs.Prelude.{nat_lt}
 use Rattle.std.proofs.lemmas.Bool.{cases_Bool, cases_lt, lt-ltb, ltb-true}
 use Rattle.std.proofs.lemmas.List.Elements.{Contains-append_cases}
@@ -16,12 +16,13 @@ use Rattle.spec_tables.specs.Seen.{IsSeen}
 use Rattle.spec_tables.specs.PageRules.{HasWrongOrder, wrong_order}
 use Rattle.spec_levels.specs.Levels.{Row, Node, Index, Leaf, Rises, keys_of, rows_of, IsUnder, IsIndexUnder, AreUnder, AreLevels}
 use Rattle.spec_levels.specs.Pages.{Page, page_of, keys_on, level_pages}
-use Rattle.law_trees.specs.Read.{leaf_row, name_row, page_read, pages_read}
+use Rattle.law_trees.specs.Read.{leaf_row, child_row, page_read, pages_read}
 use Rattle.law_trees.proofs.Ranges.{made}
 use Rattle.law_trees.proofs.Heads.{picked, passed, index_read, leaf_read, index_level, some_row}
 use Rattle.law_trees.proofs.KnownImage.{page_is, read_from, read_in, nonzero_page, from_index}
 use Rattle.law_levels.specs.Known.{AreWellFormed}
-use Rattle.law_trees.specs.Tables.{IsTableOf, IsOrdered}
+use Rattle.law_trees.specs.Laws.{IsOrdered}
+use Rattle.law_trees.proofs.Tables.{IsTableOf}
 
 rises_made : {V : Type 0} (f : ℕ → Row V) (low a n : ℕ) → ((i : ℕ) → a ≤ i → i + 1 < a + n → (f i).key < (f (i + 1)).key) → (0 < n → low ≤ (f a).key)
     → Rises low None (keys_of (made f a n))
@@ -51,7 +52,7 @@ key_on bytes i = row_key (page_row bytes i)
 pub page_rises : (p : ℕ) (bytes : List ℕ) → ((i : ℕ) → i + 1 < slot_count bytes → key_on bytes i < key_on bytes (i + 1)) → Rises 0 None (keys_on (page_read p bytes))
 page_rises p bytes up = ⊎_elim
     (λ index. subst (λ q. Rises 0 None (keys_on q)) (sym (index_read p bytes index))
-    (rises_made (name_row bytes) 0 0 (slot_count bytes) (λ i at within. up i (omega (arith, within))) (λ some. omega arith)))
+    (rises_made (child_row bytes) 0 0 (slot_count bytes) (λ i at within. up i (omega (arith, within))) (λ some. omega arith)))
     (λ leaf. subst (λ q. Rises 0 None (keys_on q)) (sym (leaf_read p bytes leaf))
     (rises_made (leaf_row bytes) 0 0 (slot_count bytes) (λ i at within. up i (omega (arith, within))) (λ some. omega arith)))
     (cases_Bool (has_index_rows bytes))
@@ -60,7 +61,7 @@ pub rises_page : (p : ℕ) (bytes : List ℕ) → Rises 0 None (keys_on (page_re
 rises_page p bytes rises i within =
     let at : 0 + i ≡ i = omega arith in
     subst (λ k. key_on bytes k < key_on bytes (k + 1)) at (⊎_elim
-    (λ index. adjacent (name_row bytes) 0 0 (slot_count bytes) i (subst (λ q. Rises 0 None (keys_on q)) (index_read p bytes index) rises) within)
+    (λ index. adjacent (child_row bytes) 0 0 (slot_count bytes) i (subst (λ q. Rises 0 None (keys_on q)) (index_read p bytes index) rises) within)
     (λ leaf. adjacent (leaf_row bytes) 0 0 (slot_count bytes) i (subst (λ q. Rises 0 None (keys_on q)) (leaf_read p bytes leaf) rises) within)
     (cases_Bool (has_index_rows bytes)))
 
@@ -111,7 +112,7 @@ rises_ordered g image row ps t rises p x seen h =
 pub are_pages : (g : Geometry) (image : Image) (row : CatalogRow) (ps : List ℕ) → IsTableOf g image row ps
     → ((p : Page) → Contains (pages_read image ps) p → Rises 0 None (keys_on p)) → AreWellFormed (pages_read image ps)
 are_pages g image row ps t rises = record {
-  one = λ p q i j same.
+  once = λ p q i j same.
       let a = read_from image ps p i in
       let b = read_from image ps q j in
       let at : a.0 ≡ b.0 = sym (page_is a.0 (page image a.0)) ∙ (ap page_of a.2 ∙ (same ∙ (sym (ap page_of b.2) ∙ page_is b.0 (page image b.0)))) in
@@ -120,16 +121,17 @@ are_pages g image row ps t rises = record {
       let a = read_from image ps p i in
       let at : a.0 ≡ 0 = sym (page_is a.0 (page image a.0)) ∙ (ap page_of a.2 ∙ none) in
       nonzero_page g (subst (λ n. IsTrue (is_ordinary g n)) at (t.seen.sound a.0 a.1).ordinary);
-  level = λ l n i. let f = from_index image ps l n i in
+  levels = λ l n i. let f = from_index image ps l n i in
       subst (λ k. (0 < k) × (k ≤ 15)) f.level (index_level f.q row.id row.kind (page image f.q) (t.seen.sound f.q f.on).passes f.index);
-  some = λ l n i. let f = from_index image ps l n i in
-      subst (λ (m : Index). (r : Row ℕ) × (rest : List (Row ℕ)) × (m.rows ≡ r ∷ rest)) f.node
-      (some_made (name_row (page image f.q)) (slot_count (page image f.q)) (some_row f.q row.id row.kind (page image f.q) (t.seen.sound f.q f.on).passes f.index));
+  some_row = λ l n i.
+      let f = from_index image ps l n i in
+      subst (λ (m : Index). m.rows ≢ []) f.node
+      (some_made (child_row (page image f.q)) (slot_count (page image f.q)) (some_row f.q row.id row.kind (page image f.q) (t.seen.sound f.q f.on).passes f.index));
   rises = rises;
 } where
-  some_made : (f : ℕ → Row ℕ) (n : ℕ) → 0 < n → (r : Row ℕ) × (rest : List (Row ℕ)) × (made f 0 n ≡ r ∷ rest)
+  some_made : (f : ℕ → Row ℕ) (n : ℕ) → 0 < n → made f 0 n ≢ []
   some_made f zero some = absurd (omega (arith, some))
-  some_made f (suc n) some = (f 0, made f 1 n, refl)
+  some_made f (suc n) some = λ e. cc
 
 -- the keys of each page of a tree rise
 weaken : (low : ℕ) (high : Option ℕ) (keys : List ℕ) → Rises low high keys → Rises low None keys

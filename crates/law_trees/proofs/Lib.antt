@@ -3,6 +3,7 @@ pub mod Tables
 pub mod FaultNumbers
 pub mod Ranges
 pub mod Heads
+pub mod RowsRead
 pub mod KnownImage
 pub mod Order
 pub mod Proved

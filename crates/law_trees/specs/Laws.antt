@@ -1,10 +1,12 @@
 -- In an image, a clustered table without errors of trees and of the order of keys is a tree of levels.
-use Rattle.std.specs.Prelude.{◌≡◌, ◌≢◌, ◌⊎◌, ◌↔◌, ◌<◌, IsTrue, true, ℕ, List, [], length, Contains, Some}
+use Rattle.std.specs.Prelude.{if◌then◌else◌, ◌≡◌, ◌≢◌, ◌⊎◌, ◌↔◌, ◌<◌, IsTrue, true, ℕ, List, [], length, Contains, Some}
 use Rattle.spec_file.specs.declared.geometry.Geometry.{Geometry}
 use Rattle.spec_file.specs.CatalogRows.{CatalogRow}
-use Rattle.spec_file.specs.Image.{Image, page}
+use Rattle.spec_file.specs.Image.{Image, page, page_size}
 use Rattle.spec_file.specs.Kinds.{is_clustered}
 use Rattle.spec_chain.specs.Chains.{IsObject}
+use Rattle.spec_rows.specs.Rows.{PageRow, DataRow, IndexRow, row_of}
+use Rattle.spec_rows.specs.Slots.{slot_count, page_row, has_index_rows}
 use Rattle.spec_check.specs.declared.report.CheckError.{CheckError}
 use Rattle.spec_check.specs.declared.report.CheckReport.{CheckReport}
 use Rattle.spec_check.specs.Allocation.{IsAllocationError}
@@ -17,7 +19,18 @@ use Rattle.spec_tables.specs.Written.{IsCheckOf}
 use Rattle.spec_levels.specs.Levels.{Tree}
 use Rattle.spec_levels.specs.Pages.{IsTreeOf}
 use Rattle.law_levels.specs.Known.{HasNoTreeErrors}
-use Rattle.law_trees.specs.Read.{pages_read}
+use Rattle.law_trees.specs.Read.{leaf_row, child_row, pages_read}
+
+-- the row of a slot as a node has it, in the words of the grammar
+abbrev pub row_read : List ℕ → ℕ → PageRow
+row_read bytes slot =
+    if has_index_rows bytes then IndexRow (child_row bytes slot).key (child_row bytes slot).value
+    else DataRow (leaf_row bytes slot).key (leaf_row bytes slot).value
+
+-- on a whole page that is seen, the rows that a node has are those of the grammar
+abbrev pub RowsAreRead : Type 0
+RowsAreRead = (g : Geometry) (image : Image) (row : CatalogRow) (number slot : ℕ) → IsSeen g image row number → length (page image number) ≡ page_size
+    → slot < slot_count (page image number) → row_of (page_row (page image number) slot) ≡ Some (row_read (page image number) slot)
 
 -- on no page seen of the object is a key out of order
 abbrev pub IsOrdered : Geometry → Image → CatalogRow → Type 0

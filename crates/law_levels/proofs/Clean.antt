@@ -2,7 +2,7 @@
 use Rattle.std.proofs.Common.{◌≡◌, ◌≢◌, ◌⊎◌, ℕ, ◌+◌, ◌<◌, ◌≤◌, Option, Some, None, List, [], ◌∷◌, ◌++◌, length, Contains}
 use Rattle.spec_levels.specs.Levels.{Row, Index, first_key, Rises}
 use Rattle.spec_levels.specs.Pages.{Page, page_of, prev_of, next_of, level_of, keys_on}
-use Rattle.law_levels.specs.Known.{Parent, last_value, last_of, first_of}
+use Rattle.law_levels.specs.Known.{Parent, last_value, last_in, first_in}
 
 -- High and Before of the row that stands on the node between front and back
 pub data High (seen : List Page) (node : Index) (back : List (Row ℕ)) (w : ℕ) : Type 0 where
@@ -18,7 +18,7 @@ pub data Before (seen : List Page) (node : Index) (front : List (Row ℕ)) (w : 
 
 -- the first key of a leaf is from low on, that of an index page is low
 abbrev pub FirstFits : ℕ → Page → Type 0
-FirstFits low (Page.LeafPage n) = (key : ℕ) → first_of (keys_on (Page.LeafPage n)) ≡ Some key → low ≤ key
+FirstFits low (Page.LeafPage n) = (key : ℕ) → first_in (keys_on (Page.LeafPage n)) ≡ Some key → low ≤ key
 FirstFits low (Page.IndexPage l n) = first_key n.rows ≡ Some low
 
 -- no error of a rule stands
@@ -36,7 +36,7 @@ pub record IsClean (root : ℕ) (seen : List Page) : Type 0 where
   -- 8931, 8933, 8934, 8935
   pub level : (p : Page) → Contains seen p → (a : Parent seen (page_of p)) → level_of p + 1 ≡ a.level
   pub first : (p : Page) → Contains seen p → (a : Parent seen (page_of p)) → FirstFits a.row.key p
-  pub high : (p : Page) → Contains seen p → (a : Parent seen (page_of p)) (key w : ℕ) → last_of (keys_on p) ≡ Some key → High seen a.node a.back w → key < w
+  pub high : (p : Page) → Contains seen p → (a : Parent seen (page_of p)) (key w : ℕ) → last_in (keys_on p) ≡ Some key → High seen a.node a.back w → key < w
   pub prev : (p : Page) → Contains seen p → (a : Parent seen (page_of p)) (w : ℕ) → Before seen a.node a.front w → prev_of p ≡ w
   -- 8977, 8978, 8979
   pub parent : (p : Page) → Contains seen p → (page_of p ≡ root) ⊎ Parent seen (page_of p)

@@ -4,7 +4,7 @@ use Rattle.std.proofs.lemmas.List.{length-append, append_assoc}
 use Rattle.spec_check.proofs.Members.{cons_here, cons_there}
 use Rattle.spec_levels.specs.Levels.{Row, Node, Index, IsBelow, Rises, first_key, keys_of, rows_of}
 use Rattle.spec_levels.specs.Pages.{Page, page_of, prev_of, level_of, keys_on}
-use Rattle.law_levels.specs.Known.{AreWellFormed, Parent, last_value, first_of}
+use Rattle.law_levels.specs.Known.{AreWellFormed, Parent, last_value, first_in}
 use Rattle.law_levels.proofs.Clean.{High, Before, FirstFits, IsClean}
 use Rattle.law_levels.proofs.Lists.{last_push, rises_between, some_rows}
 
@@ -41,14 +41,14 @@ last_or_is : (prior : ℕ) (row : Row ℕ) (rows : List (Row ℕ)) → last_or p
 last_or_is prior row [] = refl
 last_or_is prior row (next ∷ rows) = last_or_is row.value next rows
 
-first_is : {V : Type 0} (rows : List (Row V)) → first_of (keys_of rows) ≡ first_key rows
+first_is : {V : Type 0} (rows : List (Row V)) → first_in (keys_of rows) ≡ first_key rows
 first_is [] = refl
 first_is (row ∷ rows) = refl
 
 some_le : (key low : ℕ) → Some key ≡ Some low → low ≤ key
 some_le key low e = let is : key ≡ low = cc in omega (arith, is)
 
-pub first_fits : (low : ℕ) (p : Page) → FirstFits low p → (key : ℕ) → first_of (keys_on p) ≡ Some key → low ≤ key
+pub first_fits : (low : ℕ) (p : Page) → FirstFits low p → (key : ℕ) → first_in (keys_on p) ≡ Some key → low ≤ key
 first_fits low (Page.LeafPage n) fits key is = fits key is
 first_fits low (Page.IndexPage l n) fits key is = some_le key low (sym is ∙ (first_is n.rows ∙ fits))
 

@@ -5,7 +5,7 @@ use Rattle.std.proofs.lemmas.List.Elements.{Contains-append_left, Contains-appen
 use Rattle.spec_check.proofs.Members.{nothing_there, cons_cases, cons_there, map_from, map_in}
 use Rattle.spec_levels.specs.Levels.{Row, Index, Leaf, Tree, AreDistinct, rows_of, pages_of, first_key, root_row, IsUnder, IsIndexUnder, AreLevels}
 use Rattle.spec_levels.specs.Pages.{Page, page_of, prev_of, next_of, level_of, keys_on, level_pages, IsTreeOf}
-use Rattle.law_levels.specs.Known.{AreWellFormed, Parent, last_of}
+use Rattle.law_levels.specs.Known.{AreWellFormed, Parent, last_in}
 use Rattle.law_levels.proofs.Clean.{IsClean, High, Before, FirstFits}
 use Rattle.law_levels.proofs.Lists.{part_in, flat_in}
 use Rattle.law_levels.proofs.Fit.{AreSeen}
@@ -97,7 +97,7 @@ one_place rows (nodes ∷ more) leaves levels d l m n i j s t same =
 record Held (seen : List Page) (k : ℕ) (a : Parent seen k) (p : Page) : Type 0 where
   depth : level_of p + 1 ≡ a.level
   first : FirstFits a.row.key p
-  high : (key w : ℕ) → last_of (keys_on p) ≡ Some key → High seen a.node a.back w → key < w
+  high : (key w : ℕ) → last_in (keys_on p) ≡ Some key → High seen a.node a.back w → key < w
   prev : (w : ℕ) → Before seen a.node a.front w → prev_of p ≡ w
 
 held_under : (seen : List Page) → AreWellFormed seen → (leaves : List Leaf) (k : ℕ) (a : Parent seen k) (u : Under seen leaves k a) → Held seen k a u.p

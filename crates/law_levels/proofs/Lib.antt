@@ -13,3 +13,4 @@ pub mod Places
 pub mod ToClean
 pub mod FromClean
 pub mod Proved
+pub mod HandMade

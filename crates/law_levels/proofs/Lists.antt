@@ -4,7 +4,7 @@ use Rattle.std.proofs.lemmas.List.Elements.{Contains-append_left, Contains-appen
 use Rattle.std.specs.List.{flat_map}
 use Rattle.spec_check.proofs.Members.{nothing_there, cons_cases, cons_here, cons_there}
 use Rattle.spec_levels.specs.Levels.{Row, AreDistinct, IsBelow, Rises}
-use Rattle.law_levels.specs.Known.{last_value, last_of, first_of}
+use Rattle.law_levels.specs.Known.{last_value, last_in, first_in}
 
 -- one row more at the end is the last
 pub last_push : (front : List (Row ℕ)) (row : Row ℕ) → last_value (front ++ row ∷ []) ≡ row.value
@@ -20,7 +20,7 @@ distinct_append (x ∷ xs) ys a b apart = (
 )
 
 -- keys that rise keep within what their first and their last keep within
-raise : (low low' : ℕ) (keys : List ℕ) → Rises low None keys → ((key : ℕ) → first_of keys ≡ Some key → low' ≤ key) → Rises low' None keys
+raise : (low low' : ℕ) (keys : List ℕ) → Rises low None keys → ((key : ℕ) → first_in keys ≡ Some key → low' ≤ key) → Rises low' None keys
 raise low low' [] r first = tt
 raise low low' (key ∷ keys) r first = (first key refl, tt, r.2)
 
@@ -32,15 +32,15 @@ below_trans a b (Some high) h below = omega (arith, h, below)
 first_below : (low : ℕ) (high : Option ℕ) (key : ℕ) (keys : List ℕ) → Rises low high (key ∷ keys) → low ≤ key
 first_below low high key keys r = r.0
 
-lower : (low : ℕ) (high : Option ℕ) (keys : List ℕ) → Rises low None keys → ((key : ℕ) → last_of keys ≡ Some key → IsBelow key high) → Rises low high keys
+lower : (low : ℕ) (high : Option ℕ) (keys : List ℕ) → Rises low None keys → ((key : ℕ) → last_in keys ≡ Some key → IsBelow key high) → Rises low high keys
 lower low high [] r last = tt
 lower low high (key ∷ []) r last = (r.0, last key refl, tt)
 lower low high (key ∷ (next ∷ keys)) r last =
     let rest = lower (suc key) high (next ∷ keys) r.2 last in
     (r.0, below_trans key next high (omega (arith, rest.0)) rest.1, rest)
 
-pub rises_between : (low : ℕ) (high : Option ℕ) (keys : List ℕ) → Rises 0 None keys → ((key : ℕ) → first_of keys ≡ Some key → low ≤ key)
-    → ((key : ℕ) → last_of keys ≡ Some key → IsBelow key high) → Rises low high keys
+pub rises_between : (low : ℕ) (high : Option ℕ) (keys : List ℕ) → Rises 0 None keys → ((key : ℕ) → first_in keys ≡ Some key → low ≤ key)
+    → ((key : ℕ) → last_in keys ≡ Some key → IsBelow key high) → Rises low high keys
 rises_between low high keys r first last = lower low high keys (raise 0 low keys r first) last
 
 -- a member stands between what is before it and what is after it

@@ -6,7 +6,7 @@ use Rattle.std.proofs.lemmas.List.Elements.{Contains-append_left, Contains-appen
 use Rattle.spec_check.proofs.Members.{nothing_there, cons_cases, cons_here, cons_there, map_from, map_in}
 use Rattle.spec_levels.specs.Levels.{Row, Node, Index, Leaf, AreDistinct, IsBelow, Rises, first_key, first_page, keys_of, rows_of, IsUnder, IsIndexUnder, AreUnder, IsLinked, AreLevels}
 use Rattle.spec_levels.specs.Pages.{Page, page_of, prev_of, next_of, level_of, level_pages}
-use Rattle.law_levels.specs.Known.{AreWellFormed, Parent, last_value, last_of, first_of}
+use Rattle.law_levels.specs.Known.{AreWellFormed, Parent, last_value, last_in, first_in}
 use Rattle.law_levels.proofs.Clean.{High, Before}
 use Rattle.law_levels.proofs.Lists.{part, some_rows}
 use Rattle.law_levels.proofs.Fit.{Fits, last_or, AreSeen}
@@ -31,7 +31,7 @@ child_node Is names before (f ∷ front) row back (node ∷ nodes) under linked 
     let rest = child_node Is names f.value front row back nodes under.1 (subst (λ k. IsLinked k nodes) (sym page) linked.2) in
     record { node = rest.node; on = cons_there node nodes rest.node rest.on; is = rest.is; prev = rest.prev }
 
-leaf_first : (row : Row ℕ) (end : Option ℕ) (low : ℕ) (keys : List ℕ) → Rises low end keys → (key : ℕ) → first_of keys ≡ Some key → low ≤ key
+leaf_first : (row : Row ℕ) (end : Option ℕ) (low : ℕ) (keys : List ℕ) → Rises low end keys → (key : ℕ) → first_in keys ≡ Some key → low ≤ key
 leaf_first row end low [] r key is = absurd (cc)
 leaf_first row end low (k ∷ keys) r key is = let e : k ≡ key = cc in omega (arith, e, r.0)
 
@@ -142,7 +142,7 @@ under seen rows above leaves levels on all k a =
     record { at = at; round = r; p = c.0; fits = c.1; depth = omega (arith, depth, low) }
 
 -- a last key is below what all keys are below
-pub last_below : (low : ℕ) (high : Option ℕ) (keys : List ℕ) → Rises low high keys → (key : ℕ) → last_of keys ≡ Some key → IsBelow key high
+pub last_below : (low : ℕ) (high : Option ℕ) (keys : List ℕ) → Rises low high keys → (key : ℕ) → last_in keys ≡ Some key → IsBelow key high
 last_below low high [] r key is = absurd (cc)
 last_below low high (k ∷ []) r key is = let e : k ≡ key = cc in subst (λ n. IsBelow n high) e r.1
 last_below low high (k ∷ (next ∷ keys)) r key is = last_below (suc k) high (next ∷ keys) r.2 key is

@@ -15,7 +15,7 @@ use Rattle.spec_tree.specs.NeighbourRules.{HasNoPrev, HasNoPlace, LeadsTo, Names
 use Rattle.spec_tree.specs.Trees.{StandsAt}
 use Rattle.spec_levels.specs.Levels.{Row, first_key, keys_of}
 use Rattle.spec_levels.specs.Pages.{Page, page_of, prev_of, next_of, level_of, keys_on}
-use Rattle.law_levels.specs.Known.{AreWellFormed, Parent, first_of, head_on, link_on, parent_row, HasNoTreeErrors}
+use Rattle.law_levels.specs.Known.{AreWellFormed, Parent, first_in, head_on, link_on, parent_row, HasNoTreeErrors}
 use Rattle.law_levels.proofs.Clean.{IsClean, High, Before, FirstFits}
 use Rattle.law_levels.proofs.Facts.{IsKnownOf}
 use Rattle.law_levels.proofs.Search.{found_by, page_found, parent_found}
@@ -55,7 +55,7 @@ low_or a b h = ⊎_elim (λ less. absurd (h less)) (λ low. low) (cases_lt b a)
 less_or : (a b : ℕ) → (b ≤ a → ⊥) → a < b
 less_or a b h = ⊎_elim (λ less. less) (λ low. absurd (h low)) (cases_lt a b)
 
-pub first_same : (rows : List (Row ℕ)) → first_of (keys_of rows) ≡ first_key rows
+pub first_same : (rows : List (Row ℕ)) → first_in (keys_of rows) ≡ first_key rows
 first_same [] = refl
 first_same (row ∷ rows) = refl
 
@@ -65,7 +65,7 @@ first_fits o seen pages low (Page.IndexPage l n) i right =
     let some = some_rows n.rows (pages.some_row l n i) in
     let key = some.0.key in
     let first : first_key n.rows ≡ Some key = ap first_key some.2 in
-    let is : first_of (keys_on (Page.IndexPage l n)) ≡ Some key = first_same n.rows ∙ first in
+    let is : first_in (keys_on (Page.IndexPage l n)) ≡ Some key = first_same n.rows ∙ first in
     let same = same_or key low (λ no. right key (IsFirstKeyWrong.OfIndex (pages.levels l n i).0 is no)) in
     first ∙ ap Some same
 

@@ -29,14 +29,14 @@ pub record Parent (seen : List Page) (child : ℕ) : Type 0 where
   pub names : row.value ≡ child
 
 -- the first and the last of keys
-abbrev pub first_of : List ℕ → Option ℕ
-first_of [] = None
-first_of (key ∷ keys) = Some key
+abbrev pub first_in : List ℕ → Option ℕ
+first_in [] = None
+first_in (key ∷ keys) = Some key
 
-abbrev pub last_of : List ℕ → Option ℕ
-last_of [] = None
-last_of (key ∷ []) = Some key
-last_of (key ∷ (next ∷ keys)) = last_of (next ∷ keys)
+abbrev pub last_in : List ℕ → Option ℕ
+last_in [] = None
+last_in (key ∷ []) = Some key
+last_in (key ∷ (next ∷ keys)) = last_in (next ∷ keys)
 
 -- the page that the last of these rows names; 0 where there is no row
 abbrev pub last_value : List (Row ℕ) → ℕ
@@ -58,8 +58,8 @@ head_on object page = record {
   level = level_of page;
   prev = record { 0 = prev_of page };
   next = record { 0 = next_of page };
-  first = first_of (keys_on page);
-  last = last_of (keys_on page);
+  first = first_in (keys_on page);
+  last = last_in (keys_on page);
   last_child = record { 0 = last_child_on page };
 }
 

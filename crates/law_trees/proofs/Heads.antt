@@ -15,7 +15,7 @@ use Rattle.spec_levels.specs.Levels.{Row, first_key, keys_of}
 use Rattle.spec_levels.specs.Pages.{Page}
 use Rattle.law_trees.specs.Read.{leaf_row, child_row, node_of, page_read}
 use Rattle.law_trees.proofs.Ranges.{made, last_key_made, last_value_made}
-use Rattle.law_levels.specs.Known.{last_value, last_of, first_of, head_on, row_on}
+use Rattle.law_levels.specs.Known.{last_value, last_in, first_in, head_on, row_on}
 
 pub picked : {X : Type 0} (b : Bool) (x y : X) → b ≡ true → (if b then x else y) ≡ x
 picked b x y e = ap (λ c. if c then x else y) e
@@ -23,11 +23,11 @@ picked b x y e = ap (λ c. if c then x else y) e
 pub passed : {X : Type 0} (b : Bool) (x y : X) → b ≡ false → (if b then x else y) ≡ y
 passed b x y e = ap (λ c. if c then x else y) e
 
-pub key_first : {V : Type 0} (f : ℕ → Row V) (n : ℕ) → (if nat_lt 0 n then Some (f 0).key else None) ≡ first_of (keys_of (made f 0 n))
+pub key_first : {V : Type 0} (f : ℕ → Row V) (n : ℕ) → (if nat_lt 0 n then Some (f 0).key else None) ≡ first_in (keys_of (made f 0 n))
 key_first f zero = refl
 key_first f (suc n) = picked (nat_lt 0 (suc n)) (Some (f 0).key) None (lt-ltb 0 (suc n) (omega arith))
 
-pub key_last : {V : Type 0} (f : ℕ → Row V) (n : ℕ) → (if n == 0 then None else (if nat_lt (n - 1) n then Some (f (n - 1)).key else None)) ≡ last_of (keys_of (made f 0 n))
+pub key_last : {V : Type 0} (f : ℕ → Row V) (n : ℕ) → (if n == 0 then None else (if nat_lt (n - 1) n then Some (f (n - 1)).key else None)) ≡ last_in (keys_of (made f 0 n))
 key_last f zero = refl
 key_last f (suc n) =
     let at : suc n - 1 ≡ 0 + n = omega arith in
@@ -101,13 +101,13 @@ head_same o p bytes l l' f f' t t' c c' a b d e =
 
 pub head_read : (p o : ℕ) (kind : Kind) (bytes : List ℕ) → PassesTest p o kind bytes → head_of o p bytes ≡ head_on o (page_read p bytes)
 head_read p o kind bytes test = ⊎_elim
-    (λ index. head_same o p bytes (header_of bytes).level (header_of bytes).level (key_at bytes 0) (first_of (keys_of (made (child_row bytes) 0 (slot_count bytes))))
-    (last_key bytes) (last_of (keys_of (made (child_row bytes) 0 (slot_count bytes)))) (last_child bytes) (last_value (made (child_row bytes) 0 (slot_count bytes)))
+    (λ index. head_same o p bytes (header_of bytes).level (header_of bytes).level (key_at bytes 0) (first_in (keys_of (made (child_row bytes) 0 (slot_count bytes))))
+    (last_key bytes) (last_in (keys_of (made (child_row bytes) 0 (slot_count bytes)))) (last_child bytes) (last_value (made (child_row bytes) 0 (slot_count bytes)))
     refl (key_first (child_row bytes) (slot_count bytes)) (key_last (child_row bytes) (slot_count bytes))
     (picked (has_index_rows bytes) (child_at bytes (slot_count bytes - 1)) 0 index ∙ value_last (child_row bytes) (slot_count bytes) (some_row p o kind bytes test index))
     ∙ ap (head_on o) (sym (index_read p bytes index)))
-    (λ leaf. head_same o p bytes (header_of bytes).level 0 (key_at bytes 0) (first_of (keys_of (made (leaf_row bytes) 0 (slot_count bytes))))
-    (last_key bytes) (last_of (keys_of (made (leaf_row bytes) 0 (slot_count bytes)))) (last_child bytes) 0
+    (λ leaf. head_same o p bytes (header_of bytes).level 0 (key_at bytes 0) (first_in (keys_of (made (leaf_row bytes) 0 (slot_count bytes))))
+    (last_key bytes) (last_in (keys_of (made (leaf_row bytes) 0 (slot_count bytes)))) (last_child bytes) 0
     (leaf_level p o kind bytes test leaf) (key_first (leaf_row bytes) (slot_count bytes)) (key_last (leaf_row bytes) (slot_count bytes))
     (passed (has_index_rows bytes) (child_at bytes (slot_count bytes - 1)) 0 leaf)
     ∙ ap (head_on o) (sym (leaf_read p bytes leaf)))

@@ -2,12 +2,12 @@
 use Rattle.std.proofs.Common.{◌≡◌, ℕ, zero, suc, ◌+◌, Some, List, [], ◌∷◌, ◌++◌, length, map, refl, sym, ap, ◌∙◌, arith}
 use Rattle.std.specs.List.{range_with_len}
 use Rattle.spec_levels.specs.Levels.{Row, keys_of}
-use Rattle.law_levels.specs.Known.{last_value, last_of}
+use Rattle.law_levels.specs.Known.{last_value, last_in}
 
 abbrev pub made : {X : Type 0} → (ℕ → X) → ℕ → ℕ → List X
 made f a n = map f (range_with_len a n)
 
-pub last_key_made : {V : Type 0} (f : ℕ → Row V) (a n : ℕ) → last_of (keys_of (made f a (suc n))) ≡ Some (f (a + n)).key
+pub last_key_made : {V : Type 0} (f : ℕ → Row V) (a n : ℕ) → last_in (keys_of (made f a (suc n))) ≡ Some (f (a + n)).key
 last_key_made f a zero = let e : a ≡ a + 0 = omega arith in ap (λ k. Some (f k).key) e
 last_key_made f a (suc n) = let e : a + 1 + n ≡ a + suc n = omega arith in last_key_made f (a + 1) n ∙ ap (λ k. Some (f k).key) e
 

@@ -14,3 +14,5 @@ pub mod ToClean
 pub mod FromClean
 pub mod Proved
 pub mod HandMade
+pub mod RowsRise
+pub mod ScanLaw

@@ -1,3 +1,4 @@
 pub mod Known
+pub mod Scans
 pub mod Laws
 pub mod Examples

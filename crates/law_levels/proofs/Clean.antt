@@ -1,6 +1,6 @@
 -- The rules of trees about the pages seen of one clustered table, where none of their errors stands.
-use Rattle.std.proofs.Common.{◌≡◌, ◌≢◌, ◌⊎◌, ℕ, ◌+◌, ◌<◌, ◌≤◌, Option, Some, None, List, [], ◌∷◌, ◌++◌, length, Contains}
-use Rattle.spec_levels.specs.Levels.{Row, Index, first_key, Rises}
+use Rattle.std.proofs.Common.{◌≡◌, ◌≢◌, ◌⊎◌, ℕ, ◌+◌, ◌<◌, ◌≤◌, Some, None, List, length, Contains}
+use Rattle.spec_levels.specs.Levels.{Row, Index, first_key}
 use Rattle.spec_levels.specs.Pages.{Page, page_of, prev_of, next_of, level_of, keys_on}
 use Rattle.law_levels.specs.Known.{Parent, last_value, last_in, first_in}
 

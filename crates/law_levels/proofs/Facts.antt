@@ -1,13 +1,10 @@
 -- What is known of the pages of a clustered table, and that no error of the rules of trees stands at it.
-use Rattle.std.proofs.Common.{◌≡◌, ◌≢◌, ◌⊎◌, ℕ, List, length, Contains}
-use Rattle.spec_check.specs.declared.report.CheckError.{CheckError}
+use Rattle.std.proofs.Common.{◌≡◌, ◌≢◌, ◌⊎◌, ℕ, List, Contains}
 use Rattle.spec_tree.specs.declared.known.PageHead.{PageHead}
 use Rattle.spec_tree.specs.declared.known.Link.{Link}
 use Rattle.spec_tree.specs.declared.known.IndexRow.{IndexRow}
 use Rattle.spec_tree.specs.Known.{Known, IsTable, IsPage, IsUnseenOf, IsUnseen, IsSeenElsewhere}
-use Rattle.spec_tree.specs.Trees.{IsTreeError}
-use Rattle.spec_levels.specs.Levels.{Row, Index, first_key}
-use Rattle.spec_levels.specs.Pages.{Page, page_of, prev_of, next_of, level_of, keys_on}
+use Rattle.spec_levels.specs.Pages.{Page, page_of}
 use Rattle.law_levels.specs.Known.{Parent, head_on, link_on, parent_row}
 
 -- of object o, a clustered table with this root, just these pages are known; no other object has one of them, and none has page 0;

@@ -1,10 +1,10 @@
 -- The trees worked by hand.
-use Rattle.std.proofs.Common.{◌≡◌, ◌==◌, ◌&&◌, ℕ, zero, suc, ◌<◌, ◌≤◌, Bool, true, Some, None, List, [], ◌∷◌, ◌++◌, length, Contains, refl, sym, ap, ◌∙◌, subst, ⊎_elim, arith}
+use Rattle.std.proofs.Common.{◌≡◌, ◌==◌, ◌&&◌, ℕ, zero, suc, ◌<◌, ◌≤◌, Bool, true, Some, List, [], ◌∷◌, length, Contains, refl, sym, ap, ◌∙◌, subst, ⊎_elim, arith}
 use Rattle.std.specs.Prelude.{not}
 use Rattle.std.proofs.lemmas.Bool.{and_parts, not-true, eq-eqb, both_ways}
-use Rattle.std.proofs.lemmas.List.Elements.{Contains-append_left, Contains-append_right, Contains-append_cases}
+use Rattle.std.proofs.lemmas.List.Elements.{Contains-append_right, Contains-append_cases}
 use Rattle.spec_check.proofs.Members.{nothing_there, cons_cases, cons_here, cons_there}
-use Rattle.spec_levels.specs.Levels.{Row, AreDistinct, AreLevels, IsTree, root_row, pages_above, tree_pages, keys_of, first_key, Rises}
+use Rattle.spec_levels.specs.Levels.{Row, AreDistinct, AreLevels, IsTree, root_row, tree_pages}
 use Rattle.law_levels.specs.Examples.{row, leaf, empty_tree, Numbers, three_levels, right_numbers, AreRight, NumbersAreAsked, two_leaves, RowsAreAsked, above_leaf, tower, HeightIsAsked}
 use Rattle.law_levels.proofs.Lists.{distinct_append}
 use Rattle.law_levels.proofs.Rules.{apart}

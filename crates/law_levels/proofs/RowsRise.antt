@@ -1,5 +1,5 @@
 -- The rows of a tree rise by their keys, since those of each level do.
-use Rattle.std.proofs.Common.{◌≡◌, ℕ, suc, ◌≤◌, Option, Some, None, List, [], ◌∷◌, ◌++◌, sym, subst, arith}
+use Rattle.std.proofs.Common.{ℕ, suc, ◌≤◌, Option, Some, None, List, [], ◌∷◌, ◌++◌, sym, subst, arith}
 use Rattle.std.proofs.lemmas.List.{map-append}
 use Rattle.spec_levels.specs.Levels.{Row, Node, Index, Leaf, keys_of, rows_of, Rises, AreUnder, IsUnder, IsIndexUnder, AreLevels, root_row}
 use Rattle.law_levels.specs.Laws.{RowsRise}

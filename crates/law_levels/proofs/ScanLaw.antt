@@ -2,9 +2,9 @@
 use Rattle.std.proofs.Common.{◌≡◌, ◌≢◌, ℕ, suc, Some, List, [], ◌∷◌, ◌++◌, length, map, Contains, refl, sym, ap, ◌∙◌, subst, ⊎_elim}
 use Rattle.std.proofs.lemmas.List.Elements.{Contains-append_left, Contains-append_right}
 use Rattle.spec_check.proofs.Members.{nothing_there, cons_cases, cons_here, cons_there, map_in}
-use Rattle.spec_levels.specs.Levels.{Row, Index, Leaf, Tree, AreDistinct, AreLevels, IsLinked, first_key, first_page, rows_of, root_row, tree_pages}
+use Rattle.spec_levels.specs.Levels.{Row, Index, Leaf, Tree, AreDistinct, AreLevels, IsLinked, first_key, first_page, rows_of, root_row}
 use Rattle.spec_levels.specs.Pages.{Page, page_of, next_of, level_pages, IsTreeOf}
-use Rattle.law_levels.specs.Scans.{LeadsDown, AreInTurn, IsScan}
+use Rattle.law_levels.specs.Scans.{LeadsDown, AreInTurn}
 use Rattle.law_levels.specs.Laws.{ScanIsLeaves}
 use Rattle.law_levels.proofs.Build.{same_node, tree_pages_are}
 

@@ -1,15 +1,13 @@
 -- The trees of a whole file.
-use Rattle.std.proofs.Common.{◌≡◌, ◌≢◌, ℕ, List, [], ◌∷◌, Contains, refl, sym, ap, ◌∙◌, subst, inl, inr, ⊎_elim, arith}
+use Rattle.std.proofs.Common.{◌≡◌, ◌≢◌, List, [], ◌∷◌, Contains, refl, sym, ap, ◌∙◌, subst, inl, inr, ⊎_elim, arith}
 use Rattle.spec_check.proofs.Members.{nothing_there, cons_here}
 use Rattle.spec_check.specs.declared.report.CheckError.{CheckError}
-use Rattle.spec_check.specs.declared.report.CheckReport.{CheckReport}
 use Rattle.spec_file.specs.declared.geometry.Geometry.{Geometry}
 use Rattle.spec_file.specs.Image.{Image, page}
-use Rattle.spec_chain.specs.Chains.{IsObject}
 use Rattle.spec_tree.specs.declared.known.Root.{Root}
 use Rattle.spec_tables.specs.KnownPages.{known_of_image}
 use Rattle.spec_tables.specs.PageRules.{IsPageError}
-use Rattle.spec_tables.specs.Written.{IsCheckOf, Stands}
+use Rattle.spec_tables.specs.Written.{Stands}
 use Rattle.law_trees.specs.Laws.{HasSoundSystem, HasSoundTables, IsSoundBesideTrees, HasTrees, SoundFileHasTrees, CleanReportHasTrees}
 use Rattle.law_trees.proofs.Objects.{error_table}
 use Rattle.law_trees.proofs.FaultNumbers.{fault_other}

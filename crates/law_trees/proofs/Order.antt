@@ -4,7 +4,6 @@ use Rattle.std.specs.Prelude.{nat_lt}
 use Rattle.std.proofs.lemmas.Bool.{cases_Bool, cases_lt, lt-ltb, ltb-true}
 use Rattle.std.proofs.lemmas.List.Elements.{Contains-append_cases}
 use Rattle.spec_check.proofs.Members.{nothing_there, cons_cases, map_from}
-use Rattle.spec_check.specs.declared.report.CheckError.{CheckError}
 use Rattle.spec_file.specs.declared.geometry.Geometry.{Geometry}
 use Rattle.spec_file.specs.Image.{Image, page}
 use Rattle.spec_file.specs.CatalogRows.{CatalogRow}
@@ -12,8 +11,7 @@ use Rattle.spec_file.specs.Roles.{is_ordinary}
 use Rattle.spec_rows.specs.Rows.{row_key}
 use Rattle.spec_rows.specs.Slots.{slot_count, page_row, has_index_rows}
 use Rattle.spec_tables.specs.Heads.{key_at}
-use Rattle.spec_tables.specs.Seen.{IsSeen}
-use Rattle.spec_tables.specs.PageRules.{HasWrongOrder, wrong_order}
+use Rattle.spec_tables.specs.PageRules.{wrong_order}
 use Rattle.spec_levels.specs.Levels.{Row, Node, Index, Leaf, Rises, keys_of, rows_of, IsUnder, IsIndexUnder, AreUnder, AreLevels}
 use Rattle.spec_levels.specs.Pages.{Page, page_of, keys_on, level_pages}
 use Rattle.law_trees.specs.Read.{leaf_row, child_row, page_read, pages_read}

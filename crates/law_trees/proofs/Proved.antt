@@ -1,5 +1,5 @@
 -- The law of one table, from that of what is known.
-use Rattle.std.proofs.Common.{◌≡◌, ◌↔◌, ℕ, List, None, Contains, subst}
+use Rattle.std.proofs.Common.{◌↔◌, ℕ, List, None, Contains, subst}
 use Rattle.spec_file.specs.declared.geometry.Geometry.{Geometry}
 use Rattle.spec_file.specs.Image.{Image}
 use Rattle.spec_file.specs.CatalogRows.{CatalogRow}

@@ -1,5 +1,5 @@
 -- A clustered table of the catalog with the pages seen of it, where each object has a list of the pages seen of it.
-use Rattle.std.proofs.Common.{◌≡◌, IsTrue, ℕ, ◌<◌, List, length, refl, inr}
+use Rattle.std.proofs.Common.{◌≡◌, IsTrue, ℕ, List, refl, inr}
 use Rattle.spec_file.specs.declared.geometry.Geometry.{Geometry}
 use Rattle.spec_file.specs.Image.{Image, page}
 use Rattle.spec_file.specs.Catalog.{PassesCatalog}

@@ -1,5 +1,5 @@
 -- In an image, a clustered table without errors of trees and of the order of keys is a tree of levels.
-use Rattle.std.specs.Prelude.{if◌then◌else◌, ◌≡◌, ◌≢◌, ◌⊎◌, ◌↔◌, ◌<◌, IsTrue, true, ℕ, List, [], length, Contains, Some}
+use Rattle.std.specs.Prelude.{if◌then◌else◌, ◌≡◌, ◌≢◌, ◌⊎◌, ◌↔◌, ◌<◌, IsTrue, ℕ, List, [], length, Some}
 use Rattle.spec_file.specs.declared.geometry.Geometry.{Geometry}
 use Rattle.spec_file.specs.CatalogRows.{CatalogRow}
 use Rattle.spec_file.specs.Image.{Image, page, page_size}

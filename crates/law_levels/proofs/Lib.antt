@@ -16,3 +16,4 @@ pub mod Proved
 pub mod HandMade
 pub mod RowsRise
 pub mod ScanLaw
+pub mod OneTree

@@ -39,5 +39,5 @@ known_is o root seen pages = record {
   elsewhere = λ k. inr (λ w differs s h. differs (one_object o root seen w k s h));
 }
 
-pub law : SoundIsTree
-law o root seen pages = free_is_tree (known_of o root seen) o root seen (known_is o root seen pages) pages
+pub sound_is_tree : SoundIsTree
+sound_is_tree o root seen pages = free_is_tree (known_of o root seen) o root seen (known_is o root seen pages) pages

@@ -21,11 +21,11 @@ once_in (x ∷ xs) d p q i j e =
     (cons_cases x xs p i)
 
 -- pages of which each stands once and none is page 0
-record AreApart (seen : List Page) : Type 0 where
-  once : (p q : Page) → Contains seen p → Contains seen q → page_of p ≡ page_of q → p ≡ q
-  nonzero : (p : Page) → Contains seen p → page_of p ≢ 0
+pub record AreApart (seen : List Page) : Type 0 where
+  pub once : (p q : Page) → Contains seen p → Contains seen q → page_of p ≡ page_of q → p ≡ q
+  pub nonzero : (p : Page) → Contains seen p → page_of p ≢ 0
 
-apart : (root : ℕ) (seen : List Page) (tree : Tree) → IsTreeOf root seen tree → AreApart seen
+pub apart : (root : ℕ) (seen : List Page) (tree : Tree) → IsTreeOf root seen tree → AreApart seen
 apart root seen tree t =
     let all = level_pages tree.above tree.leaves in
     let same = tree_pages_are tree.above tree.leaves in record {
@@ -60,13 +60,13 @@ record Leftmost (seen : List Page) (leaves : List Leaf) (page : ℕ) : Type 0 wh
   leads : LeadsDown seen leaf page
   only : (other : Leaf) → LeadsDown seen other page → other ≡ leaf
 
-same_leaf : (n m : Leaf) → Page.LeafPage n ≡ Page.LeafPage m → n ≡ m
+pub same_leaf : (n m : Leaf) → Page.LeafPage n ≡ Page.LeafPage m → n ≡ m
 same_leaf n m e = cc
 
-not_both : (level : ℕ) (n : Index) (m : Leaf) → Page.IndexPage level n ≡ Page.LeafPage m → ⊥
+pub not_both : (level : ℕ) (n : Index) (m : Leaf) → Page.IndexPage level n ≡ Page.LeafPage m → ⊥
 not_both level n m e = cc
 
-first_row : (rows : List (Row ℕ)) (key : ℕ) → first_key rows ≡ Some key → (row : Row ℕ) × (rest : List (Row ℕ)) × (rows ≡ row ∷ rest)
+pub first_row : (rows : List (Row ℕ)) (key : ℕ) → first_key rows ≡ Some key → (row : Row ℕ) × (rest : List (Row ℕ)) × (rows ≡ row ∷ rest)
 first_row [] key e = absurd (cc)
 first_row (row ∷ rows) key e = (row, rows, refl)
 

@@ -10,6 +10,10 @@ abbrev pub SoundIsTree : Type 0
 SoundIsTree = (object root : ℕ) (seen : List Page) → AreWellFormed seen
     → HasNoTreeErrors (known_of object root seen) object ↔ ((tree : Tree) × IsTreeOf root seen tree)
 
+-- and those of one tree at most
+abbrev pub OneTree : Type 0
+OneTree = (root : ℕ) (seen : List Page) (tree other : Tree) → IsTreeOf root seen tree → IsTreeOf root seen other → tree ≡ other
+
 -- the rows of a tree, leaf after leaf, rise by their keys
 abbrev pub RowsRise : Type 0
 RowsRise = (root : ℕ) (tree : Tree) → IsTree root tree → Rises 0 None (keys_of (rows_of tree.leaves))

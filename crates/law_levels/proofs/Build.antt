@@ -87,7 +87,8 @@ same_node l k n m e = ap (node_of n) e
 
 -- the level below a level that has all its pages has all of its pages
 named_below : (seen : List Page) → AreWellFormed seen → (root top : ℕ) → IsClean root seen → ((p : Page) → Contains seen p → page_of p ≡ root → level_of p ≡ top)
-    → (level : ℕ) (nodes : List Index) → suc level ≤ top → ((p : Page) → Contains seen p → level_of p ≡ suc level → (n : Index) × Contains nodes n × (Page.IndexPage (suc level) n ≡ p))
+    → (level : ℕ) (nodes : List Index) → suc level ≤ top
+    → ((p : Page) → Contains seen p → level_of p ≡ suc level → (n : Index) × Contains nodes n × (Page.IndexPage (suc level) n ≡ p))
     → AreNamed seen level (rows_of nodes)
 named_below seen pages root top clean tops level nodes low all p i is =
     ⊎_elim (λ at_root. let high = tops p i at_root in absurd (omega (arith, high, is, low)))

@@ -90,7 +90,8 @@ prior rows (nodes ∷ more) leaves chained q i some =
 -- the last page of a level that has all its pages names no next
 last_next : {V : Type 0} (root : ℕ) (seen : List Page) (level : ℕ) (at : Node V → Page) → AreWellFormed seen → IsClean root seen → Views seen level at
     → ((q : Page) → Contains seen q → prev_of q ≢ 0 → Prior q seen) → (nodes : List (Node V)) → IsChained 0 nodes → AreDistinct (pages_of nodes) → AllOn seen at nodes
-    → ((q : Page) → Contains seen q → level_of q ≡ level → (n : Node V) × Contains nodes n × (at n ≡ q)) → (n : Node V) → Contains nodes n → n.page ≡ last_page nodes → n.next ≡ 0
+    → ((q : Page) → Contains seen q → level_of q ≡ level → (n : Node V) × Contains nodes n × (at n ≡ q)) → (n : Node V) → Contains nodes n
+    → n.page ≡ last_page nodes → n.next ≡ 0
 last_next {V = V} root seen level at pages clean views priors nodes chained distinct on all n i last = zero_or n.next (λ some.
     let here = on n i in
     let q = clean.next_seen (at n) here (λ none. some (sym (views.next n) ∙ none)) in

@@ -41,7 +41,8 @@ parent_seen K o root seen is k c s h at =
     let r = row_from K o root seen is k c (subst (λ n. IsRow K n k c) at h.row) in
     record { p = p.0; on = p.1; page = p.3; a = to_parent seen k (page_of p.0) r.0 (sym p.3); head = p.2; row = r.1 }
 
-first_right : (o : ℕ) (seen : List Page) → AreWellFormed seen → (low : ℕ) (p : Page) → Contains seen p → FirstFits low p → (first : ℕ) → IsFirstKeyWrong (head_on o p) low first → ⊥
+first_right : (o : ℕ) (seen : List Page) → AreWellFormed seen → (low : ℕ) (p : Page) → Contains seen p → FirstFits low p
+    → (first : ℕ) → IsFirstKeyWrong (head_on o p) low first → ⊥
 first_right o seen pages low (Page.LeafPage n) i fits first (IsFirstKeyWrong.OfLeaf level is less) = let low_is = fits first is in omega (arith, low_is, less)
 first_right o seen pages low (Page.LeafPage n) i fits first (IsFirstKeyWrong.OfIndex level is differs) = omega (arith, level)
 first_right o seen pages low (Page.IndexPage l n) i fits first (IsFirstKeyWrong.OfLeaf level is less) = let some = (pages.levels l n i).0 in omega (arith, level, some)
@@ -206,7 +207,8 @@ is_crossed K o root seen is clean k x at h =
     h.differs (ap (λ (t : PageHead). t.prev.0) q.2 ∙ (clean.crossed p.0 q.0 p.1 q.1 (q.3 ∙ sym p.3) ∙ ap (λ (l : Link). l.page.0) (sym p.2)))
 
 -- a page seen of the object is seen of no other
-not_other : (K : Known) (o root : ℕ) (seen : List Page) → IsKnownOf K o root seen → (k n w : ℕ) → n ≡ o → (p : Page) → Contains seen p → page_of p ≡ k → IsSeenElsewhere K n k w → ⊥
+not_other : (K : Known) (o root : ℕ) (seen : List Page) → IsKnownOf K o root seen → (k n w : ℕ) → n ≡ o → (p : Page) → Contains seen p → page_of p ≡ k
+    → IsSeenElsewhere K n k w → ⊥
 not_other K o root seen is k n w mine p i page h =
     h.another (is.alone p i w h.head (subst (λ m. IsPage K w m h.head) (sym page) h.page) ∙ sym mine)
 
@@ -246,7 +248,8 @@ child_nowhere K o root seen is clean k x at (IsChildNowhere.Linked c l names uns
 child_nowhere K o root seen is clean k x at (IsChildNowhere.Alone c names unseen alone e) =
     let p = child_of K o root seen is clean k c (of_object x (row_error 8980 c k 0) o e at) names in not_unseen K o root seen is k p.0 p.1 p.2 unseen
 
-stands_not : (K : Known) (o root : ℕ) (seen : List Page) → IsKnownOf K o root seen → AreWellFormed seen → IsClean root seen → (k : ℕ) (x : CheckError) → x.object ≡ o → StandsAt K k x → ⊥
+stands_not : (K : Known) (o root : ℕ) (seen : List Page) → IsKnownOf K o root seen → AreWellFormed seen → IsClean root seen
+    → (k : ℕ) (x : CheckError) → x.object ≡ o → StandsAt K k x → ⊥
 stands_not K o root seen is pages clean k x at (StandsAt.RootUnseen h) = root_unseen K o root seen is clean k x at h
 stands_not K o root seen is pages clean k x at (StandsAt.TwoParents h) = places_two K o root seen is clean k x at h
 stands_not K o root seen is pages clean k x at (StandsAt.WrongLevel h) = wrong_level K o root seen is clean k x at h

@@ -295,7 +295,8 @@ named seen rows (nodes ∷ more) leaves levels on p i =
     ⊎_elim (λ here. let n = map_from (Page.IndexPage level) nodes p here in
     let same = under_pages IsIndexUnder (λ r end m is. is.under.page) rows nodes levels.0 in
     inl (subst (λ q. Contains (values_of rows) (page_of q)) n.2 (subst (λ ks. Contains ks n.0.page) (sym same) (map_in (λ (m : Index). m.page) nodes n.0 n.1))))
-    (λ there. ⊎_elim (λ up. inr (parent_in seen level nodes (λ n j. on (Page.IndexPage level n) (Contains-append_left at rest (Page.IndexPage level n) (map_in (Page.IndexPage level) nodes n j))) (page_of p) up).0)
+    (λ there. ⊎_elim (λ up. inr (parent_in seen level nodes
+    (λ n j. on (Page.IndexPage level n) (Contains-append_left at rest (Page.IndexPage level n) (map_in (Page.IndexPage level) nodes n j))) (page_of p) up).0)
     (λ a. inr a) (named seen (rows_of nodes) more leaves levels.2 (λ q j. on q (Contains-append_right at rest q j)) p there))
     (Contains-append_cases at rest p i)
 

@@ -59,7 +59,8 @@ pub first_same : (rows : List (Row ℕ)) → first_in (keys_of rows) ≡ first_k
 first_same [] = refl
 first_same (row ∷ rows) = refl
 
-first_fits : (o : ℕ) (seen : List Page) → AreWellFormed seen → (low : ℕ) (p : Page) → Contains seen p → ((first : ℕ) → IsFirstKeyWrong (head_on o p) low first → ⊥) → FirstFits low p
+first_fits : (o : ℕ) (seen : List Page) → AreWellFormed seen → (low : ℕ) (p : Page) → Contains seen p
+    → ((first : ℕ) → IsFirstKeyWrong (head_on o p) low first → ⊥) → FirstFits low p
 first_fits o seen pages low (Page.LeafPage n) i right = λ key is. low_or low key (λ less. right key (IsFirstKeyWrong.OfLeaf refl is less))
 first_fits o seen pages low (Page.IndexPage l n) i right =
     let some = some_rows n.rows (pages.some_row l n i) in

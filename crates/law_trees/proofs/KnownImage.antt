@@ -35,7 +35,8 @@ read_from image ps p i = map_from (λ q. page_read q (page image q)) ps p i
 pub read_in : (image : Image) (ps : List ℕ) (q : ℕ) → Contains ps q → Contains (pages_read image ps) (page_read q (page image q))
 read_in image ps q i = map_in (λ k. page_read k (page image k)) ps q i
 
-head_in : (g : Geometry) (image : Image) (row : CatalogRow) (ps : List ℕ) → IsTableOf g image row ps → (q : ℕ) → Contains ps q → IsHeadIn g image (head_on row.id (page_read q (page image q)))
+head_in : (g : Geometry) (image : Image) (row : CatalogRow) (ps : List ℕ) → IsTableOf g image row ps → (q : ℕ) → Contains ps q
+    → IsHeadIn g image (head_on row.id (page_read q (page image q)))
 head_in g image row ps t q i =
     let seen = t.seen.sound q i in
     record { row = row; number = q; object = t.object; seen = seen; is = sym (head_read q row.id row.kind (page image q) seen.passes) }

@@ -29,16 +29,16 @@ row_read bytes slot =
 
 -- on a whole page that is seen, the rows that a node has are those of the grammar
 abbrev pub RowsAreRead : Type 0
-RowsAreRead = (g : Geometry) (image : Image) (row : CatalogRow) (number slot : ℕ) → IsSeen g image row number → length (page image number) ≡ page_size
+RowsAreRead = (geometry : Geometry) (image : Image) (row : CatalogRow) (number slot : ℕ) → IsSeen geometry image row number → length (page image number) ≡ page_size
     → slot < slot_count (page image number) → row_of (page_row (page image number) slot) ≡ Some (row_read (page image number) slot)
 
 -- on no page seen of the object is a key out of order
 abbrev pub IsOrdered : Geometry → Image → CatalogRow → Type 0
-IsOrdered g image row = (number : ℕ) (error : CheckError) → IsSeen g image row number → HasWrongOrder row number (page image number) error → ⊥
+IsOrdered geometry image row = (number : ℕ) (error : CheckError) → IsSeen geometry image row number → HasWrongOrder row number (page image number) error → ⊥
 
 -- no error of the rules of trees stands at the object, and no key of it is out of order
 abbrev pub IsSoundTable : Geometry → Image → CatalogRow → Type 0
-IsSoundTable g image row = HasNoTreeErrors (known_of_image g image) row.id × IsOrdered g image row
+IsSoundTable geometry image row = HasNoTreeErrors (known_of_image geometry image) row.id × IsOrdered geometry image row
 
 -- these pages, seen of the object, are those of a tree that has its root where the catalog says
 abbrev pub HasTree : Image → CatalogRow → List ℕ → Type 0
@@ -46,31 +46,31 @@ HasTree image row numbers = (tree : Tree) × IsTreeOf row.root (pages_read image
 
 -- no system page of the file is wrong, and it has page 9, where its catalog stands
 abbrev pub HasSoundSystem : Geometry → Image → Type 0
-HasSoundSystem g image = IsSystemSound g image × (9 < length image)
+HasSoundSystem geometry image = IsSystemSound geometry image × (9 < length image)
 
 -- a clustered table is sound exactly where the pages seen of it are those of a tree
 abbrev pub SoundTableIsTree : Type 0
-SoundTableIsTree = (g : Geometry) (image : Image) (row : CatalogRow) (numbers : List ℕ) → HasSoundSystem g image
-    → IsObject image row → IsTrue (is_clustered row.kind) → AreSeen g image row numbers → IsSoundTable g image row ↔ HasTree image row numbers
+SoundTableIsTree = (geometry : Geometry) (image : Image) (row : CatalogRow) (numbers : List ℕ) → HasSoundSystem geometry image
+    → IsObject image row → IsTrue (is_clustered row.kind) → AreSeen geometry image row numbers → IsSoundTable geometry image row ↔ HasTree image row numbers
 
 -- no error of the rules of trees, and no key out of order, stands in the file
 abbrev pub HasSoundTables : Geometry → Image → Type 0
-HasSoundTables g image =
-    ((error : CheckError) → IsTreeError (known_of_image g image) error → ⊥) × ((row : CatalogRow) → IsObject image row → IsOrdered g image row)
+HasSoundTables geometry image =
+    ((error : CheckError) → IsTreeError (known_of_image geometry image) error → ⊥) × ((row : CatalogRow) → IsObject image row → IsOrdered geometry image row)
 
 -- each clustered table is a tree of levels
 abbrev pub HasTrees : Geometry → Image → Type 0
-HasTrees g image = (row : CatalogRow) (numbers : List ℕ) → IsObject image row → IsTrue (is_clustered row.kind)
-    → AreSeen g image row numbers → HasTree image row numbers
+HasTrees geometry image = (row : CatalogRow) (numbers : List ℕ) → IsObject image row → IsTrue (is_clustered row.kind)
+    → AreSeen geometry image row numbers → HasTree image row numbers
 
 abbrev pub SoundFileHasTrees : Type 0
-SoundFileHasTrees = (g : Geometry) (image : Image) → HasSoundSystem g image → HasSoundTables g image ↔ HasTrees g image
+SoundFileHasTrees = (geometry : Geometry) (image : Image) → HasSoundSystem geometry image → HasSoundTables geometry image ↔ HasTrees geometry image
 
 -- maps, chains and pages by themselves have no error, but that keys may be out of order (2511)
 abbrev pub IsSoundBesideTrees : Geometry → Image → Type 0
-IsSoundBesideTrees g image = (error : CheckError) → IsAllocationError g image error ⊎ (IsPageError g image error × (error.number ≢ 2511)) → ⊥
+IsSoundBesideTrees geometry image = (error : CheckError) → IsAllocationError geometry image error ⊎ (IsPageError geometry image error × (error.number ≢ 2511)) → ⊥
 
 -- a report has no errors exactly where maps, chains and pages have none and each clustered table is a tree
 abbrev pub CleanReportHasTrees : Type 0
-CleanReportHasTrees = (g : Geometry) (image : Image) (report : CheckReport) → HasSoundSystem g image → IsCheckOf g image report
-    → report.errors ≡ [] ↔ (IsSoundBesideTrees g image × HasTrees g image)
+CleanReportHasTrees = (geometry : Geometry) (image : Image) (report : CheckReport) → HasSoundSystem geometry image → IsCheckOf geometry image report
+    → report.errors ≡ [] ↔ (IsSoundBesideTrees geometry image × HasTrees geometry image)

@@ -20,3 +20,10 @@ pub mod ReadingLeaves
 pub mod InsertKeeps
 pub mod WordsKeep
 pub mod Statements
+pub mod RowPage
+pub mod RowWritten
+pub mod RowChanges
+pub mod RowPlanned
+pub mod AgreeWords
+pub mod AgreeReading
+pub mod AgreePlans

@@ -2,6 +2,7 @@
 //! word keeps what this needs.
 #![tactic(auto)]
 
+ghost use Rattle.law_net.specs.Agreement.{InsertIsPlanned, CountIsPlanned};
 ghost use Rattle.law_net.specs.NetLaw.{NetChangesAreGood};
 ghost use Rattle.law_net.specs.Touched.{ChangesAreUnder};
 ghost use Rattle.law_net.specs.GoodViews.{TakeKeepsGood, GamKeepsGood, SgamKeepsGood, PfsKeepsGood, PageKeepsGood, CatalogKeepsGood};
@@ -34,4 +35,11 @@ pub fn word_laws()
 pub fn statement_laws()
     ensures insert { InsertIsGood }
     ensures count { CountLeavesView }
+{}
+
+/// INSERT and COUNT in words end as their outcomes over a sight say: with the same refusal, the same number of rows,
+/// or the same takes and changes.
+pub fn agreement_laws()
+    ensures insert { InsertIsPlanned }
+    ensures count { CountIsPlanned }
 {}

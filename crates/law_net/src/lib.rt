@@ -3,6 +3,7 @@
 #![tactic(auto)]
 
 ghost use Rattle.law_net.specs.Agreement.{InsertIsPlanned, CountIsPlanned};
+ghost use Rattle.law_net.specs.Examples.{RunsStayInExtents, CellsGoToTheLast, SlotsBeginByTheGreater, PagesBecomeAllocated, OthersDoNot, TakesAreInOrder, ChangesAreListedOnce};
 ghost use Rattle.law_net.specs.NetLaw.{NetChangesAreGood};
 ghost use Rattle.law_net.specs.Touched.{ChangesAreUnder};
 ghost use Rattle.law_net.specs.GoodViews.{TakeKeepsGood, GamKeepsGood, SgamKeepsGood, PfsKeepsGood, PageKeepsGood, CatalogKeepsGood};
@@ -42,4 +43,16 @@ pub fn statement_laws()
 pub fn agreement_laws()
     ensures insert { InsertIsPlanned }
     ensures count { CountIsPlanned }
+{}
+
+/// Small files, worked by hand: how runs of PFS bytes, cells of a page and slots are cut, which page becomes
+/// allocated, in which order takes stand, and that nothing is listed twice.
+pub fn examples()
+    ensures runs { RunsStayInExtents }
+    ensures cells { CellsGoToTheLast }
+    ensures slots { SlotsBeginByTheGreater }
+    ensures allocated { PagesBecomeAllocated }
+    ensures others { OthersDoNot }
+    ensures takes { TakesAreInOrder }
+    ensures once { ChangesAreListedOnce }
 {}

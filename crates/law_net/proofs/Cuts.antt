@@ -71,7 +71,8 @@ form_lengths (Bit page n) before after h =
 pub form_put : (cell : Cell) (before after : List ℕ) → has_cell_form cell before after ≡ true → MayPut cell after
 form_put (Bytes page off) before after h = tt
 form_put (Bit page n) before after h =
-    let s = eqb-true (slice_index before 0 + slice_index after 0) 1 (and_parts (ltb n 63904 && eqb (length before) 1 && eqb (length after) 1) (eqb (slice_index before 0 + slice_index after 0) 1) h).1 in
+    let s = eqb-true (slice_index before 0 + slice_index after 0) 1
+    (and_parts (ltb n 63904 && eqb (length before) 1 && eqb (length after) 1) (eqb (slice_index before 0 + slice_index after 0) 1) h).1 in
     omega (arith, s)
 
 -- what is after a change
@@ -220,7 +221,8 @@ pub record InRange (test : ℕ → Bool) (Z : ℕ → Zone) (n lo : ℕ) (p i j 
   pub in_zone : Z at p i j
 
 pub cut_range : (start now : Image) (f : ℕ → List Planned) (test : ℕ → Bool) (Z : ℕ → Zone) (n lo : ℕ) →
-    ((x : ℕ) → lo ≤ x → x < lo + n → test x ≡ true → IsCut start now (Z x) (f x)) → ((x y p i j : ℕ) → lo ≤ x → x < lo + n → lo ≤ y → y < lo + n → test x ≡ true → test y ≡ true → Z x p i j → Z y p i j → x ≡ y) →
+    ((x : ℕ) → lo ≤ x → x < lo + n → test x ≡ true → IsCut start now (Z x) (f x)) →
+    ((x y p i j : ℕ) → lo ≤ x → x < lo + n → lo ≤ y → y < lo + n → test x ≡ true → test y ≡ true → Z x p i j → Z y p i j → x ≡ y) →
     IsCut start now (InRange test Z n lo) (flat_map f (filter test (range_with_len lo n)))
 cut_range start now f test Z zero lo each one = cut_none start now (InRange test Z zero lo) (λ p i j z inside. absurd (none z.at z.low z.high))
   where

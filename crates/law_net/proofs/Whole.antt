@@ -33,10 +33,12 @@ pub record SomeByte (g : Geometry) (pages p i k : ℕ) : Type 0 where
   pub n : ℕ
   pub guarded : ByteGuarded g pages p i k n
 
-gams_guarded : (shape : FileShape) (start now : Image) → AreImages shape start now → (p i j : ℕ) → (z : Bits (gam_place shape.geometry) shape start now p i j) → BitGuarded shape.geometry shape.pages p i j z.at
+gams_guarded : (shape : FileShape) (start now : Image) → AreImages shape start now → (p i j : ℕ) → (z : Bits (gam_place shape.geometry) shape start now p i j) →
+    BitGuarded shape.geometry shape.pages p i j z.at
 gams_guarded shape start now images p i j z = gam_bit shape images.file z.at p i j (upper z.at (shape.pages / 8) z.high) z.in_zone
 
-sgams_guarded : (shape : FileShape) (start now : Image) → AreImages shape start now → (p i j : ℕ) → (z : Bits (sgam_place shape.geometry) shape start now p i j) → BitGuarded shape.geometry shape.pages p i j z.at
+sgams_guarded : (shape : FileShape) (start now : Image) → AreImages shape start now → (p i j : ℕ) → (z : Bits (sgam_place shape.geometry) shape start now p i j) →
+    BitGuarded shape.geometry shape.pages p i j z.at
 sgams_guarded shape start now images p i j z = sgam_bit shape images.file z.at p i j (upper z.at (shape.pages / 8) z.high) z.in_zone
 
 runs_guarded : (shape : FileShape) (start now : Image) → AreImages shape start now → (p i j : ℕ) → Pfs shape start now p i j → SomeByte shape.geometry shape.pages p i 4

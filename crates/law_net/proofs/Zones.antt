@@ -98,7 +98,8 @@ pub gam_bit : (shape : FileShape) → HasShape shape.geometry shape.pages → (e
 gam_bit shape file e p i j lt z =
     bit_place shape.geometry shape.pages (gam_place shape.geometry e) e p i j z (extents_guard_bits shape.geometry shape.pages e file.low file.high lt).0
 
-pub sgam_bit : (shape : FileShape) → HasShape shape.geometry shape.pages → (e p i j : ℕ) → e < shape.pages / 8 → IsBit (sgam_place shape.geometry e) p i j → BitGuarded shape.geometry shape.pages p i j e
+pub sgam_bit : (shape : FileShape) → HasShape shape.geometry shape.pages → (e p i j : ℕ) → e < shape.pages / 8 → IsBit (sgam_place shape.geometry e) p i j →
+    BitGuarded shape.geometry shape.pages p i j e
 sgam_bit shape file e p i j lt z =
     bit_place shape.geometry shape.pages (sgam_place shape.geometry e) e p i j z (extents_guard_bits shape.geometry shape.pages e file.low file.high lt).1
 
@@ -262,7 +263,8 @@ bit_zone P shape start now p i j role.Ordinary e low small h differ = absurd h
 bit_zone P shape start now p i j role.FileHeader e low small h differ = absurd h
 bit_zone P shape start now p i j role.Reserved e low small h differ = absurd h
 
-in_pfs : (shape : FileShape) (start now : Image) (p i j q : ℕ) → HasShape shape.geometry shape.pages → q < shape.pages → IsPfsOf shape.geometry p i q → (SameByte start now p i → ⊥) → Pfs shape start now p i j
+in_pfs : (shape : FileShape) (start now : Image) (p i j q : ℕ) → HasShape shape.geometry shape.pages → q < shape.pages → IsPfsOf shape.geometry p i q →
+    (SameByte start now p i → ⊥) → Pfs shape start now p i j
 in_pfs shape start now p i j q file lt is differ =
     let g = shape.geometry in
     let changes : is_byte_changed g start now q ≡ true =
@@ -285,10 +287,25 @@ in_pages : (shape : FileShape) (start now : Image) (p i j : ℕ) → p < shape.p
 in_pages shape start now p i j lt small ordinary differ =
     let differs : is_page_changed shape.geometry start now p ≡ true =
     and_from (is_ordinary shape.geometry p) (not (bytes_eq (page start p) (page now p))) ordinary
-    (not_from_false (bytes_eq (page start p) (page now p)) (false_from_ne_true (bytes_eq (page start p) (page now p)) (λ e. differ (ap (λ bytes. slice_index bytes i) ((bytes_decides (page start p) (page now p)).0 e))))) in
+    (not_from_false (bytes_eq (page start p) (page now p))
+    (false_from_ne_true (bytes_eq (page start p) (page now p)) (λ e. differ (ap (λ bytes. slice_index bytes i) ((bytes_decides (page start p) (page now p)).0 e))))) in
     elim (cases_Bool (is_iam now p)) [
-      | inl iam ↦ inl (record { at = p; low = omega arith; high = omega (arith, lt); passes = and_from (is_page_changed shape.geometry start now p) (is_iam now p) differs iam; in_zone = record { page = refl; low = omega arith; high = small } })
-      | inr other ↦ inr (record { at = p; low = omega arith; high = omega (arith, lt); passes = and_from (is_page_changed shape.geometry start now p) (not (is_iam now p)) differs (not_from_false (is_iam now p) other); in_zone = record { page = refl; low = omega arith; high = small } })
+      | inl iam ↦ inl (record {
+        at = p;
+        low = omega arith;
+        high = omega (arith, lt);
+        passes = and_from (is_page_changed shape.geometry start now p)
+            (is_iam now p) differs iam;
+        in_zone = record { page = refl; low = omega arith; high = small };
+      })
+      | inr other ↦ inr (record {
+        at = p;
+        low = omega arith;
+        high = omega (arith, lt);
+        passes = and_from (is_page_changed shape.geometry start now p)
+            (not (is_iam now p)) differs (not_from_false (is_iam now p) other);
+        in_zone = record { page = refl; low = omega arith; high = small };
+      })
     ]
 
 byte_zone : (P : Resource → Type 0) (shape : FileShape) (start now : Image) (p i j : ℕ) (r : Role) → HasShape shape.geometry shape.pages → role_of shape.geometry p ≡ r → p < shape.pages → i < 8192 →

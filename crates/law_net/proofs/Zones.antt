@@ -42,8 +42,8 @@ Iams shape start now = InRange (λ p. is_page_changed shape.geometry start now p
 abbrev pub Others : FileShape → Image → Image → Zone
 Others shape start now = InRange (λ p. is_page_changed shape.geometry start now p && not (is_iam now p)) (λ p. IsSpan p 0 8192) shape.pages 0
 
-abbrev pub All : FileShape → Image → Image → Zone
-All shape start now =
+abbrev pub AnyPart : FileShape → Image → Image → Zone
+AnyPart shape start now =
     Or (Bits (gam_place shape.geometry) shape start now) (Or (Bits (sgam_place shape.geometry) shape start now)
     (Or (Pfs shape start now) (Or (Iams shape start now) (Or (IsSpan 9 0 8192) (Others shape start now)))))
 
@@ -240,7 +240,7 @@ in_bits shape start now bit_of e p i j low small lt page_is at_is differ = recor
         ∙ ap (λ k. bit_at (slice_index (page image (bit_of e).page) (maps_start + (bit_of e).at / 8)) k) bit_is
 
 bit_zone : (P : Resource → Type 0) (shape : FileShape) (start now : Image) (p i j : ℕ) (r : Role) → role_of shape.geometry p ≡ r → maps_start ≤ i → j < 8 →
-    IsSomeAnd (bit_guard_by r shape.geometry shape.pages p (8 * (i - maps_start) + j)) P → (read start (place p i j) ≡ read now (place p i j) → ⊥) → All shape start now p i j
+    IsSomeAnd (bit_guard_by r shape.geometry shape.pages p (8 * (i - maps_start) + j)) P → (read start (place p i j) ≡ read now (place p i j) → ⊥) → AnyPart shape start now p i j
 bit_zone P shape start now p i j role.Gam e low small h differ =
     let g = shape.geometry in
     let n = 8 * (i - maps_start) + j in
@@ -309,7 +309,7 @@ in_pages shape start now p i j lt small ordinary differ =
     ]
 
 byte_zone : (P : Resource → Type 0) (shape : FileShape) (start now : Image) (p i j : ℕ) (r : Role) → HasShape shape.geometry shape.pages → role_of shape.geometry p ≡ r → p < shape.pages → i < 8192 →
-    IsSomeAnd (byte_guard_by r shape.geometry shape.pages p i) P → (SameByte start now p i → ⊥) → All shape start now p i j
+    IsSomeAnd (byte_guard_by r shape.geometry shape.pages p i) P → (SameByte start now p i → ⊥) → AnyPart shape start now p i j
 byte_zone P shape start now p i j role.Pfs file e lt small h differ =
     let g = shape.geometry in
     let all = (if_some P (leb maps_start i && ltb (i - maps_start) (pfs_span g) && ltb (paged_at p i) shape.pages) (resource.Byte (record { 0 = paged_at p i })) h).0 in
@@ -328,7 +328,7 @@ byte_zone P shape start now p i j role.Reserved file e lt small h differ = absur
 
 -- each difference stands in a part
 pub all_in_zones : (P : Resource → Type 0) (shape : FileShape) (start now : Image) → AreImages shape start now → DifferOnlyAt P shape start now → (p i j : ℕ) → IsInside (place p i j) start →
-    (read start (place p i j) ≡ read now (place p i j)) ⊎ All shape start now p i j
+    (read start (place p i j) ≡ read now (place p i j)) ⊎ AnyPart shape start now p i j
 all_in_zones P shape start now images differ p i j inside = elim (cases_eq (read start (place p i j)) (read now (place p i j))) [
   | inl same ↦ inl same
   | inr other ↦ elim (cases_lt j 8) [

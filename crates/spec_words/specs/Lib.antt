@@ -1,0 +1,6 @@
+pub mod NetChanges
+pub mod Takes
+pub mod Views
+pub mod Words
+pub mod Tables
+pub mod Heaps

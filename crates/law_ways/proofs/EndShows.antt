@@ -2,12 +2,13 @@
 use Rattle.std.proofs.Common.{◌≡◌, ℕ, zero, suc, ◌+◌, ◌<◌, ◌≤◌, ◌==◌, true, false, List, [], ◌∷◌, ◌++◌, length, Option, Some, None, refl, sym, ap, ◌∙◌, subst, inl, inr, arith, append-nil}
 use Rattle.std.proofs.lemmas.Bool.{cases_Bool, cases_eq, eqb-true, eqb-false, eq-eqb, ne_eqb}
 use Rattle.spec_levels.specs.Levels.{Row, Node, Tree, rows_of, pages_of, Payload}
-use Rattle.spec_ways.specs.Delete.{collapsed, Shrunk, ended}
-use Rattle.spec_ways.specs.Insert.{linked, named, topped, named_root}
+use Rattle.spec_ways.specs.Delete.{collapsed, Shrunk, lowered}
+use Rattle.spec_ways.specs.DeleteWrites.{losses_written, only_value, only_child, last_from, last_only_child, only_children_from, only_children, collapsed_children, page_as_root, delete_written}
+use Rattle.spec_ways.specs.Insert.{linked, renumbered, top_renumbered, root_rows}
+use Rattle.spec_ways.specs.Pages.{Page, LeafPage, IndexPage, Pages, ShowsLevel, Shows, with_page}
 use Rattle.spec_ways.specs.Rows.{without}
-use Rattle.spec_ways.specs.Shown.{Page, LeafPage, IndexPage, Pages, ShowsAll, Shows, wrote, wrote_losses, one_value, only_child, bottom_from, bottom, children_from, children_read, children_end, as_root, wrote_delete}
-use Rattle.spec_ways.specs.Sinks.{Loss, Untouched, Keeps, Goes, gone_of, Sink, sunk_at, sink, IsSunk, edge_below, AreSunk, freed, frees, frees_below}
-use Rattle.spec_ways.specs.Ways.{Path, key_toward}
+use Rattle.spec_ways.specs.Sinks.{Loss, Untouched, Keeps, Goes, gone_key_of, Sink, sink_through, sink, IsSunk, edge_below, AreSunk, freed_page, freed_pages, freed_below_root}
+use Rattle.spec_ways.specs.Ways.{Way, key_toward}
 use Rattle.law_ways.proofs.Bounds.{HasKey}
 use Rattle.law_ways.proofs.Fits.{Level, Fits, count, all_pages}
 use Rattle.law_ways.proofs.GrowLaws.{count_append, rows_start}
@@ -25,30 +26,30 @@ one_node low page [] l = absurd l
 one_node low page (m ∷ []) l = (m, refl, sym l.0)
 one_node low page (m ∷ o ∷ ns) l = absurd l.2
 
-one_shows : {V : Type 0} (shape : Node V → Page) (image : Pages) (low page : ℕ) (nodes : List (Node V)) (l : Level None (row_at low page) nodes) → ShowsAll shape image nodes
+one_shows : {V : Type 0} (shape : Node V → Page) (image : Pages) (low page : ℕ) (nodes : List (Node V)) (l : Level None (row_at low page) nodes) → ShowsLevel shape image nodes
     → image page ≡ shape (one_node low page nodes l).0
 one_shows shape image low page [] l s = absurd l
 one_shows shape image low page (m ∷ []) l s = ap image l.0 ∙ s.0
 one_shows shape image low page (m ∷ o ∷ ns) l s = absurd l.2
 
-no_child : (rows : List (Row ℕ)) → (length rows ≡ 1 → ⊥) → one_value rows ≡ None
+no_child : (rows : List (Row ℕ)) → (length rows ≡ 1 → ⊥) → only_value rows ≡ None
 no_child [] none = refl
 no_child (r ∷ []) none = absurd (none refl)
 no_child (r ∷ s ∷ rest) none = refl
 
 -- the tree that is left when levels with one row go, and the page of its top
 record Bottomed (m low page : ℕ) (image : Pages) (above : List (List (Node ℕ))) (leaves : List (Node Payload)) (t : Tree) : Type 0 where
-  exact : (p : ℕ) → count p (all_pages t.above t.leaves) + count p (page ∷ children_read m image page) ≡ count p (all_pages above leaves) + count p (bottom m image page ∷ [])
-  fits : Fits None (row_at low (bottom m image page)) t.above t.leaves
+  exact : (p : ℕ) → count p (all_pages t.above t.leaves) + count p (page ∷ only_children m image page) ≡ count p (all_pages above leaves) + count p (last_only_child m image page ∷ [])
+  fits : Fits None (row_at low (last_only_child m image page)) t.above t.leaves
   shows : Shows image t.above t.leaves
 
-stops : (m : ℕ) (image : Pages) (page : ℕ) → only_child (image page) ≡ None → bottom m image page ≡ page
+stops : (m : ℕ) (image : Pages) (page : ℕ) → only_child (image page) ≡ None → last_only_child m image page ≡ page
 stops zero image page e = refl
-stops (suc m) image page e = ap (bottom_from (bottom m image) page) e
+stops (suc m) image page e = ap (last_from (last_only_child m image) page) e
 
-childless : (m : ℕ) (image : Pages) (page : ℕ) → only_child (image page) ≡ None → children_read m image page ≡ []
+childless : (m : ℕ) (image : Pages) (page : ℕ) → only_child (image page) ≡ None → only_children m image page ≡ []
 childless zero image page e = refl
-childless (suc m) image page e = ap (children_from (children_read m image)) e
+childless (suc m) image page e = ap (only_children_from (only_children m image)) e
 
 bottomed : (m low page : ℕ) (image : Pages) (above : List (List (Node ℕ))) (leaves : List (Node Payload)) → length above ≤ m → Fits None (row_at low page) above leaves → Shows image above leaves
     → Bottomed m low page image above leaves (collapsed above leaves)
@@ -63,13 +64,13 @@ bottomed (suc m) low page image (nodes ∷ more) leaves long f s =
     elim (cases_Bool (length (rows_of nodes) == 1)) [
       | inl one ↦
           let row = single low (rows_of nodes) (rows_start low None (row_at low page) nodes refl f.0 f.1) (eqb-true (length (rows_of nodes)) 1 one) in
-          let e : bottom (suc m) image page ≡ bottom m image row.0 =
-          ap (bottom_from (bottom m image) page) (there ∙ ap one_value (sym rows_are ∙ row.1)) in
+          let e : last_only_child (suc m) image page ≡ last_only_child m image row.0 =
+          ap (last_from (last_only_child m image) page) (there ∙ ap only_value (sym rows_are ∙ row.1)) in
           let h = bottomed m low row.0 image more leaves (omega (arith, long)) (subst (λ R. Fits None R more leaves) row.1 f.3) s.1 in
           subst (Bottomed (suc m) low page image (nodes ∷ more) leaves) (sym (goes one))
           (record {
             exact = λ p.
-                let g = ap (λ q. count p (q ∷ [])) e in let i = h.exact p in let c = ap (λ o. count p (children_from (children_read m image) o)) (there ∙ ap one_value (sym rows_are ∙ row.1)) in let j = ap (count p) (one_page low page nodes f.0) in
+                let g = ap (λ q. count p (q ∷ [])) e in let i = h.exact p in let c = ap (λ o. count p (only_children_from (only_children m image) o)) (there ∙ ap only_value (sym rows_are ∙ row.1)) in let j = ap (count p) (one_page low page nodes f.0) in
                 let k = count_append p (pages_of nodes) (all_pages more leaves) in omega (arith, g, i, j, k, c);
             fits = subst (λ p. Fits None (row_at low p) (collapsed more leaves).above (collapsed more leaves).leaves) (sym e) h.fits;
             shows = h.shows;
@@ -91,23 +92,23 @@ bottomed (suc m) low page image (nodes ∷ more) leaves long f s =
     stays e = rw e refl
 
 -- the top level in the root's page
-top_shows : {V : Type 0} (shape : Node V → Page) → ((root : ℕ) (n : Node V) → as_root root (shape n) ≡ shape (record { page = root; prev = 0; next = 0; rows = n.rows }))
-    → (root low page : ℕ) (image : Pages) (nodes : List (Node V)) → Level None (row_at low page) nodes → ShowsAll shape image nodes
-    → ShowsAll shape (wrote root (as_root root (image page)) image) (linked 0 (named (root ∷ []) nodes))
+top_shows : {V : Type 0} (shape : Node V → Page) → ((root : ℕ) (n : Node V) → page_as_root root (shape n) ≡ shape (record { page = root; prev = 0; next = 0; rows = n.rows }))
+    → (root low page : ℕ) (image : Pages) (nodes : List (Node V)) → Level None (row_at low page) nodes → ShowsLevel shape image nodes
+    → ShowsLevel shape (with_page root (page_as_root root (image page)) image) (linked 0 (renumbered (root ∷ []) nodes))
 top_shows shape shaped root low page image nodes l s =
     let n = one_node low page nodes l in
-    let now = as_root root (image page) in
-    subst (λ ns. ShowsAll shape (wrote root now image) (linked 0 (named (root ∷ []) ns))) (sym n.1)
-    (wrote_here root now image ∙ ap (as_root root) (one_shows shape image low page nodes l s) ∙ shaped root n.0, tt)
+    let now = page_as_root root (image page) in
+    subst (λ ns. ShowsLevel shape (with_page root now image) (linked 0 (renumbered (root ∷ []) ns))) (sym n.1)
+    (wrote_here root now image ∙ ap (page_as_root root) (one_shows shape image low page nodes l s) ∙ shaped root n.0, tt)
 
 topped_shows : (root low page : ℕ) (image : Pages) (above : List (List (Node ℕ))) (leaves : List (Node Payload)) → Fits None (row_at low page) above leaves → Shows image above leaves
     → count root (all_pages above leaves) ≤ count root (page ∷ [])
-    → let t = topped (root ∷ []) above leaves in Shows (wrote root (as_root root (image page)) image) t.above t.leaves
+    → let t = top_renumbered (root ∷ []) above leaves in Shows (with_page root (page_as_root root (image page)) image) t.above t.leaves
 topped_shows root low page image [] leaves f s apart = top_shows LeafPage (λ r n. refl) root low page image leaves f.0 s
 topped_shows root low page image (nodes ∷ more) leaves f s apart = (
   top_shows (IndexPage (suc (length more))) (λ r n. refl) root low page image nodes f.0 s.0,
-  tree_same image (wrote root (as_root root (image page)) image) more leaves
-      (λ p some. wrote_there root p (as_root root (image page)) image (λ same.
+  tree_same image (with_page root (page_as_root root (image page)) image) more leaves
+      (λ p some. wrote_there root p (page_as_root root (image page)) image (λ same.
       let a = count_append root (pages_of nodes) (all_pages more leaves) in let b = ap (count root) (one_page low page nodes f.0) in
       let c = subst (λ q. 0 < count q (all_pages more leaves)) same some in omega (arith, a, b, c, apart))) s.1,
 )
@@ -130,34 +131,34 @@ losses_match edge (n ∷ ns) (l ∷ losses) [] above' h = absurd h
 losses_match edge (n ∷ ns) (l ∷ losses) (nodes ∷ more) [] h = absurd h
 
 abbrev pub top_gone : List (Loss ℕ) → Loss Payload → Option ℕ
-top_gone [] loss = gone_of 0 loss
-top_gone (l ∷ losses) loss = gone_of 0 l
+top_gone [] loss = gone_key_of 0 loss
+top_gone (l ∷ losses) loss = gone_key_of 0 l
 
-sunk_top : (k : ℕ) (n : Node ℕ) (b : Sink) (o : Option ℕ) → top_gone (sunk_at 0 n b o).above (sunk_at 0 n b o).leaf ≡ (sunk_at 0 n b o).gone
+sunk_top : (k : ℕ) (n : Node ℕ) (b : Sink) (o : Option ℕ) → top_gone (sink_through 0 n b o).above (sink_through 0 n b o).leaf ≡ (sink_through 0 n b o).gone_key
 sunk_top k n b None = refl
 sunk_top k n b (Some g) = refl
 
-pub sink_top : (k : ℕ) (ns : List (Node ℕ)) (leaf : Node Payload) → let c = sink 0 k ns leaf in top_gone c.above c.leaf ≡ c.gone
+pub sink_top : (k : ℕ) (ns : List (Node ℕ)) (leaf : Node Payload) → let c = sink 0 k ns leaf in top_gone c.above c.leaf ≡ c.gone_key
 sink_top k [] leaf = refl
-sink_top k (n ∷ ns) leaf = let b = sink (key_toward k n.rows) k ns leaf in sunk_top k n b b.gone
+sink_top k (n ∷ ns) leaf = let b = sink (key_toward k n.rows) k ns leaf in sunk_top k n b b.gone_key
 
-stays_freed : {V : Type 0} (p : ℕ) (loss : Loss V) (n : Node V) → gone_of 0 loss ≡ None → count p (freed loss n) ≡ 0
+stays_freed : {V : Type 0} (p : ℕ) (loss : Loss V) (n : Node V) → gone_key_of 0 loss ≡ None → count p (freed_page loss n) ≡ 0
 stays_freed p Untouched n e = refl
 stays_freed p (Keeps rows below) n e = refl
 stays_freed p Goes n e = absurd (cc)
 
-goes_freed : {V : Type 0} (p g : ℕ) (loss : Loss V) (n : Node V) → gone_of 0 loss ≡ Some g → count p (freed loss n) ≡ count p (n.page ∷ [])
+goes_freed : {V : Type 0} (p g : ℕ) (loss : Loss V) (n : Node V) → gone_key_of 0 loss ≡ Some g → count p (freed_page loss n) ≡ count p (n.page ∷ [])
 goes_freed p g Untouched n e = absurd (cc)
 goes_freed p g (Keeps rows below) n e = absurd (cc)
 goes_freed p g Goes n e = refl
 
 stays_below : (p : ℕ) (ns : List (Node ℕ)) (losses : List (Loss ℕ)) (leaf : Node Payload) (loss : Loss Payload) → length ns ≡ length losses → top_gone losses loss ≡ None
-    → count p (frees ns losses leaf loss) ≡ count p (frees_below ns losses leaf loss)
+    → count p (freed_pages ns losses leaf loss) ≡ count p (freed_below_root ns losses leaf loss)
 stays_below p [] [] leaf loss same e = stays_freed p loss leaf e
 stays_below p [] (l ∷ losses) leaf loss same e = absurd (omega (arith, same))
 stays_below p (n ∷ ns) [] leaf loss same e = refl
 stays_below p (n ∷ ns) (l ∷ losses) leaf loss same e =
-    let a = count_append p (frees ns losses leaf loss) (freed l n) in let b = stays_freed p l n e in omega (arith, a, b)
+    let a = count_append p (freed_pages ns losses leaf loss) (freed_page l n) in let b = stays_freed p l n e in omega (arith, a, b)
 
 no_pages : (p : ℕ) (above : List (List (Node ℕ))) (leaves : List (Node Payload)) → Fits None [] above leaves → count p (all_pages above leaves) ≡ 0
 no_pages p [] [] f = refl
@@ -165,27 +166,27 @@ no_pages p [] (n ∷ ns) f = absurd f.0
 no_pages p ([] ∷ more) leaves f = no_pages p more leaves f.3
 no_pages p ((n ∷ ns) ∷ more) leaves f = absurd f.0
 
-no_root : (g root : ℕ) (above : List (List (Node ℕ))) (leaves : List (Node Payload)) → HasKey g (named_root root) → Fits None (without g (named_root root)) above leaves → Fits None [] above leaves
+no_root : (g root : ℕ) (above : List (List (Node ℕ))) (leaves : List (Node Payload)) → HasKey g (root_rows root) → Fits None (without g (root_rows root)) above leaves → Fits None [] above leaves
 no_root g root above leaves (inl e) f = let z = eq-eqb g 0 e in rw z at f
 no_root g root above leaves (inr none) f = absurd none
 
-root_page : {V : Type 0} (p root : ℕ) (n : Node V) (loss : Loss V) (edge : Option ℕ) (nodes nodes' : List (Node V)) → IsSunk n loss edge nodes nodes' → Level None (named_root root) nodes
+root_page : {V : Type 0} (p root : ℕ) (n : Node V) (loss : Loss V) (edge : Option ℕ) (nodes nodes' : List (Node V)) → IsSunk n loss edge nodes nodes' → Level None (root_rows root) nodes
     → count p (n.page ∷ []) ≡ count p (root ∷ [])
 root_page p root n loss edge nodes nodes' st l = ap (λ q. count p (q ∷ [])) (elim (cases_eq root n.page) [
   | inl same ↦ sym same
   | inr other ↦ absurd (
-      let a = pages_join n.page st.left (n ∷ st.right) in let b = ap (λ l. count n.page (pages_of l)) st.before in let c = ap (count n.page) (one_page 0 root nodes l) in
+      let a = pages_join n.page st.left (n ∷ st.right) in let b = ap (λ l. count n.page (pages_of l)) st.was in let c = ap (count n.page) (one_page 0 root nodes l) in
       let d = counts_self n.page (pages_of st.right) in let e : count n.page (root ∷ []) ≡ 0 = (let f = ne_eqb root n.page other in rw f refl) in omega (arith, a, b, c, d, e))
 ])
 
 root_goes : (p g root : ℕ) (leaves leaves' : List (Node Payload)) (leaf : Node Payload) (loss : Loss Payload) → IsSunk leaf loss None leaves leaves'
-    → (ns : List (Node ℕ)) (losses : List (Loss ℕ)) (above above' : List (List (Node ℕ))) → Fits None (named_root root) above leaves → AreSunk None ns losses above above' → top_gone losses loss ≡ Some g
-    → count p (frees ns losses leaf loss) ≡ count p (frees_below ns losses leaf loss) + count p (root ∷ [])
+    → (ns : List (Node ℕ)) (losses : List (Loss ℕ)) (above above' : List (List (Node ℕ))) → Fits None (root_rows root) above leaves → AreSunk None ns losses above above' → top_gone losses loss ≡ Some g
+    → count p (freed_pages ns losses leaf loss) ≡ count p (freed_below_root ns losses leaf loss) + count p (root ∷ [])
 root_goes p g root leaves leaves' leaf loss st [] [] [] [] f h e =
     let a = goes_freed p g loss leaf e in let b = root_page p root leaf loss None leaves leaves' st f.0 in omega (arith, a, b)
 root_goes p g root leaves leaves' leaf loss st (n ∷ ns) (l ∷ losses) (nodes ∷ more) (nodes' ∷ more') f h e =
     let a = goes_freed p g l n e in let b = root_page p root n l None nodes nodes' h.0 f.0 in
-    let c = count_append p (frees ns losses leaf loss) (freed l n) in omega (arith, a, b, c)
+    let c = count_append p (freed_pages ns losses leaf loss) (freed_page l n) in omega (arith, a, b, c)
 root_goes p g root leaves leaves' leaf loss st [] [] [] (nodes' ∷ more') f h e = absurd h
 root_goes p g root leaves leaves' leaf loss st [] [] (nodes ∷ more) above' f h e = absurd h
 root_goes p g root leaves leaves' leaf loss st [] (l ∷ losses) above above' f h e = absurd h
@@ -193,18 +194,18 @@ root_goes p g root leaves leaves' leaf loss st (n ∷ ns) [] above above' f h e 
 root_goes p g root leaves leaves' leaf loss st (n ∷ ns) (l ∷ losses) [] above' f h e = absurd h
 root_goes p g root leaves leaves' leaf loss st (n ∷ ns) (l ∷ losses) (nodes ∷ more) [] f h e = absurd h
 
-pub delete_shows : (root k : ℕ) (way : Path) (c : Sink) (b : Shrunk) (tree : Tree) (image : Pages) (o : Option ℕ) → Fits None (named_root root) tree.above tree.leaves
-    → AreSunk None way.above c.above tree.above b.above → IsSunk way.leaf c.leaf None tree.leaves b.leaves → IsShrunk k (named_root root) tree.above tree.leaves b o → Shows image tree.above tree.leaves
+pub delete_shows : (root k : ℕ) (way : Way) (c : Sink) (b : Shrunk) (tree : Tree) (image : Pages) (o : Option ℕ) → Fits None (root_rows root) tree.above tree.leaves
+    → AreSunk None way.above c.above tree.above b.above → IsSunk way.leaf c.leaf None tree.leaves b.leaves → IsShrunk k (root_rows root) tree.above tree.leaves b o → Shows image tree.above tree.leaves
     → ((p : ℕ) → count p (all_pages tree.above tree.leaves) ≤ 1) → count 0 (all_pages tree.above tree.leaves) ≡ 0 → top_gone c.above c.leaf ≡ o
-    → EndShows image (wrote_delete root way c o image) tree (ended root b o) (frees_below way.above c.above way.leaf c.leaf ++ children_end root way c image o)
+    → EndShows image (delete_written root way c o image) tree (lowered root b o) (freed_below_root way.above c.above way.leaf c.leaf ++ collapsed_children root way c image o)
 delete_shows root k way c b tree image None f h l shrinks s once nonzero at_top =
-    let low = losses_show way.leaf c.leaf tree.leaves b.leaves l image None (named_root root) way.above c.above tree.above b.above f h s once nonzero in
-    let one = wrote_losses None way.above c.above way.leaf c.leaf image in
+    let low = losses_show way.leaf c.leaf tree.leaves b.leaves l image None (root_rows root) way.above c.above tree.above b.above f h s once nonzero in
+    let one = losses_written None way.above c.above way.leaf c.leaf image in
     let m = length way.above in
     let long = losses_long None way.above c.above tree.above b.above h in
     let u = bottomed m 0 root one b.above b.leaves (omega (arith, long.1)) shrinks.lower low.shows in
     let t = collapsed b.above b.leaves in
-    let q = bottom m one root in
+    let q = last_only_child m one root in
     let a = u.exact root in
     let d = low.exact root in
     let e = once root in
@@ -213,10 +214,10 @@ delete_shows root k way c b tree image None f h l shrinks s once nonzero at_top 
     let tops = topped_is (root ∷ []) None (row_at 0 q) t.above t.leaves refl u.fits in
     record {
       shows = top;
-      same = λ p none. wrote_there root p (as_root root (one q)) one (other_page root p tree.above tree.leaves (root_counts root root tree.above tree.leaves f) none) ∙ low.same p none;
+      same = λ p none. wrote_there root p (page_as_root root (one q)) one (other_page root p tree.above tree.leaves (root_counts root root tree.above tree.leaves f) none) ∙ low.same p none;
       exact = λ p.
           let i = u.exact p in let j = low.exact p in let v = tops.pages_are p in
-          let w = count_append p (frees_below way.above c.above way.leaf c.leaf) (children_end root way c image None) in
+          let w = count_append p (freed_below_root way.above c.above way.leaf c.leaf) (collapsed_children root way c image None) in
           let x = stays_below p way.above c.above way.leaf c.leaf (losses_match None way.above c.above tree.above b.above h) at_top in omega (arith, i, j, v, w, x);
     }
 delete_shows root k way c b tree image (Some g) f h l shrinks s once nonzero at_top =
@@ -225,9 +226,9 @@ delete_shows root k way c b tree image (Some g) f h l shrinks s once nonzero at_
       shows = (wrote_here root now image, tt);
       same = λ p none. wrote_there root p now image (other_page root p tree.above tree.leaves (root_counts root root tree.above tree.leaves f) none);
       exact = λ p.
-          let low = losses_show way.leaf c.leaf tree.leaves b.leaves l image None (named_root root) way.above c.above tree.above b.above f h s once nonzero in
+          let low = losses_show way.leaf c.leaf tree.leaves b.leaves l image None (root_rows root) way.above c.above tree.above b.above f h s once nonzero in
           let i = low.exact p in
           let j = no_pages p b.above b.leaves (no_root g root b.above b.leaves shrinks.lower.has shrinks.lower.fits) in
-          let w = count_append p (frees_below way.above c.above way.leaf c.leaf) (children_end root way c image (Some g)) in
+          let w = count_append p (freed_below_root way.above c.above way.leaf c.leaf) (collapsed_children root way c image (Some g)) in
           let x = root_goes p g root tree.leaves b.leaves way.leaf c.leaf l way.above c.above tree.above b.above f h at_top in omega (arith, i, j, w, x);
     }

@@ -3,10 +3,11 @@ use Rattle.std.proofs.Common.{◌≡◌, ℕ, List, [], ◌∷◌, length, Some,
 use Rattle.std.specs.Prelude.{if◌then◌else◌}
 use Rattle.spec_levels.specs.Levels.{Row, Node, Tree, Payload}
 use Rattle.spec_ways.specs.Delete.{deleted}
+use Rattle.spec_ways.specs.DeleteWrites.{delete_reads, delete_frees, delete_written}
 use Rattle.spec_ways.specs.Insert.{Cut, Cuts, inserted}
-use Rattle.spec_ways.specs.Shown.{Pages, LeafPage, IndexPage, Shows, read_way, delete_reads, delete_frees, wrote_delete}
+use Rattle.spec_ways.specs.Pages.{Pages, LeafPage, IndexPage, Shows, read_way}
 use Rattle.spec_ways.specs.Sinks.{sink}
-use Rattle.spec_ways.specs.Ways.{Path}
+use Rattle.spec_ways.specs.Ways.{Way}
 
 -- two rows fit a page; of three it keeps one
 abbrev two_fit : {V : Type 0} → Cut V
@@ -90,7 +91,7 @@ image p =
     else if p == 30 then LeafPage (node 30 20 21 (at 4 ∷ []))
     else LeafPage (node 21 30 0 (at 6 ∷ at 7 ∷ []))
 
-way_3 : Path
+way_3 : Way
 way_3 = record { above = node 9 0 0 (row 0 31 ∷ row 4 32 ∷ []) ∷ node 31 0 32 (row 0 20 ∷ []) ∷ []; leaf = node 20 0 30 (at 3 ∷ []) }
 
 is_shown : Shows image three.above three.leaves
@@ -102,7 +103,7 @@ unfolding image way_3
 is_way = refl
 
 -- the way; next of 20 and of 31, which go; the left edge, 32; the root's only child
-reads_3 : delete_reads way_3 (sink 0 3 way_3.above way_3.leaf) image 9 ≡ 9 ∷ 31 ∷ 20 ∷ 30 ∷ 32 ∷ 32 ∷ 32 ∷ []
+reads_3 : delete_reads 9 way_3 (sink 0 3 way_3.above way_3.leaf) image ≡ 9 ∷ 31 ∷ 20 ∷ 30 ∷ 32 ∷ 32 ∷ 32 ∷ []
 unfolding image way_3
 reads_3 = refl
 
@@ -110,6 +111,6 @@ frees_3 : delete_frees 9 way_3 (sink 0 3 way_3.above way_3.leaf) image ≡ 20 �
 unfolding image way_3
 frees_3 = refl
 
-root_now : wrote_delete 9 way_3 (sink 0 3 way_3.above way_3.leaf) None image 9 ≡ IndexPage 1 (node 9 0 0 (row 0 30 ∷ row 6 21 ∷ []))
+root_now : delete_written 9 way_3 (sink 0 3 way_3.above way_3.leaf) None image 9 ≡ IndexPage 1 (node 9 0 0 (row 0 30 ∷ row 6 21 ∷ []))
 unfolding image way_3
 root_now = refl

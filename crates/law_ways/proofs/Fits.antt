@@ -31,7 +31,7 @@ abbrev pub with_up : Option (Row ℕ) → List (Row ℕ) → List (Row ℕ)
 with_up None rows = rows
 with_up (Some u) rows = with_row u rows
 
--- the row that goes up stands between these keys
+-- the row that goes separator stands between these keys
 abbrev pub IsUp : ℕ → Option ℕ → Option (Row ℕ) → Type 0
 IsUp low high None = ⊤
 IsUp low high (Some u) = (low < u.key) × IsBelow u.key high

@@ -1,7 +1,7 @@
--- A row put into a leaf, and what goes up from there.
+-- A row put_row into a leaf, and what goes separator from there.
 use Rattle.std.proofs.Common.{◌≡◌, ℕ, suc, ◌+◌, ◌<◌, ◌≤◌, List, [], ◌∷◌, ◌++◌, length, Option, Some, None, nat_lt, refl, sym, ap, ◌∙◌, subst, arith}
 use Rattle.spec_levels.specs.Levels.{Row, Node, rows_of, first_page, IsLinked, IsBelow, pages_of, Payload}
-use Rattle.spec_ways.specs.Insert.{linked, Cut, Cuts, put, Grown, next_page, left_over, risen, grown, IsCut}
+use Rattle.spec_ways.specs.Insert.{linked, Cut, Cuts, put_row, Grown, first_fresh, left_over, with_separator, grown, IsCut}
 use Rattle.spec_ways.specs.Rows.{with_row}
 use Rattle.law_ways.proofs.Bounds.{Within}
 use Rattle.law_ways.proofs.Fits.{Level, Starts, StartsAt, Fits, with_up, IsUp, count, page_up, all_pages}
@@ -45,15 +45,15 @@ module _ {V : Type 0} where
   rows_start low high (r ∷ rest) (n ∷ ns) at l s = starts_append low n.rows (rows_of ns) (subst (λ k. StartsAt k n.rows) at s.0)
 
   pub put_at : (cut : Cut V) → IsCut cut → (right : ℕ) (x : Row V) (low : ℕ) (high : Option ℕ) (rows : List (Row ℕ)) (nodes : List (Node V)) → IsBelow x.key high
-      → StartsAt low rows → Within low high rows → Level high rows nodes → low ≤ x.key → IsPut low high right x rows nodes (put cut right x rows nodes)
+      → StartsAt low rows → Within low high rows → Level high rows nodes → low ≤ x.key → IsPut low high right x rows nodes (put_row cut right x rows nodes)
   put_at cut sound right x low high [] nodes below at w l le = absurd at
   put_at cut sound right x low high (r ∷ rest) [] below at w l le = absurd l
   put_at cut sound right x low high (r ∷ rest) (n ∷ ns) below at w l le =
-      subst (λ k. IsPut k high right x (r ∷ rest) (n ∷ ns) (put cut right x (r ∷ rest) (n ∷ ns))) at
+      subst (λ k. IsPut k high right x (r ∷ rest) (n ∷ ns) (put_row cut right x (r ∷ rest) (n ∷ ns))) at
       (put_is cut sound right x high below r rest n ns (omega arith, w.1, w.2) l (omega (arith, le, at)))
 
 -- the new page that a split takes
-taken : (o : Option (Row ℕ)) (fresh : List ℕ) → ((u : Row ℕ) → o ≡ Some u → u.value ≡ next_page fresh) → 0 < length fresh → (p : ℕ) → count p (page_up o) + count p (left_over o fresh) ≡ count p fresh
+taken : (o : Option (Row ℕ)) (fresh : List ℕ) → ((u : Row ℕ) → o ≡ Some u → u.value ≡ first_fresh fresh) → 0 < length fresh → (p : ℕ) → count p (page_up o) + count p (left_over o fresh) ≡ count p fresh
 taken None fresh is some p = omega arith
 taken (Some u) [] is some p = absurd (omega (arith, some))
 taken (Some u) (f ∷ fresh) is some p = let e = is u refl in rw e (omega arith)
@@ -88,7 +88,7 @@ alike_up a b high (r ∷ rest) (n ∷ ns) l s h =
 
 pub record IsGrown (low : ℕ) (high : Option ℕ) (rows : List (Row ℕ)) (above : List (List (Node ℕ))) (leaves : List (Node Payload)) (fresh : List ℕ) (x : Row Payload) (b : Grown) (o : Option (Row ℕ)) : Type 0 where
   pub fits : Fits high (with_up o rows) b.above b.leaves
-  pub up : IsUp low high o
+  pub separator : IsUp low high o
   pub contents : rows_of b.leaves ≡ with_row x (rows_of leaves)
   pub alike : (u : Row ℕ) → o ≡ Some u → AreAlike x.key u.key rows
   pub pages_are : (p : ℕ) → count p (all_pages b.above b.leaves) + count p b.fresh ≡ count p (all_pages above leaves) + count p fresh
@@ -98,30 +98,30 @@ pub record IsGrown (low : ℕ) (high : Option ℕ) (rows : List (Row ℕ)) (abov
 
 module _ (cuts : Cuts) (sound_leaf : IsCut cuts.leaf) (sound_index : IsCut cuts.index) (x : Row Payload) (low : ℕ) (high : Option ℕ) (below : IsBelow x.key high) (le : low ≤ x.key) where
   grown_leaves : (fresh : List ℕ) (rows : List (Row ℕ)) (leaves : List (Node Payload)) → StartsAt low rows → Within low high rows → Level high rows leaves → 0 < length fresh
-      → let b = grown cuts fresh x rows [] leaves in IsGrown low high rows [] leaves fresh x b b.up
+      → let b = grown cuts fresh x rows [] leaves in IsGrown low high rows [] leaves fresh x b b.separator
   grown_leaves fresh rows leaves at w l some =
-      let c = put cuts.leaf (next_page fresh) x rows leaves in
-      let is = put_at cuts.leaf sound_leaf (next_page fresh) x low high rows leaves below at w l le in
+      let c = put_row cuts.leaf (first_fresh fresh) x rows leaves in
+      let is = put_at cuts.leaf sound_leaf (first_fresh fresh) x low high rows leaves below at w l le in
       record {
-        fits = (linked_level 0 high (with_up c.up rows) c.nodes is.level, linked_is 0 c.nodes);
-        up = is.up;
+        fits = (linked_level 0 high (with_up c.separator rows) c.nodes is.level, linked_is 0 c.nodes);
+        separator = is.separator;
         contents = linked_rows 0 c.nodes ∙ is.contents;
         alike = is.alike;
         pages_are = λ p.
             let e = is.pages_are p in
-            let f = taken c.up fresh is.right_is some p in
+            let f = taken c.separator fresh is.right_is some p in
             let g = ap (count p) (linked_pages 0 c.nodes) in omega (arith, e, f, g);
-        less = λ p. let f = taken c.up fresh is.right_is some p in omega (arith, f);
-        enough = fewer c.up fresh;
+        less = λ p. let f = taken c.separator fresh is.right_is some p in omega (arith, f);
+        enough = fewer c.separator fresh;
         height = refl;
       }
 
   risen_is : (fresh : List ℕ) (rows : List (Row ℕ)) (nodes : List (Node ℕ)) (more : List (List (Node ℕ))) (leaves : List (Node Payload)) → StartsAt low rows → Within low high rows
       → Level high rows nodes → Starts rows nodes → IsLinked 0 nodes → suc (length more) < length fresh → (b : Grown) (o : Option (Row ℕ)) → IsGrown low high (rows_of nodes) more leaves fresh x b o
-      → let t = risen cuts.index rows nodes b o in IsGrown low high rows (nodes ∷ more) leaves fresh x t t.up
+      → let t = with_separator cuts.index rows nodes b o in IsGrown low high rows (nodes ∷ more) leaves fresh x t t.separator
   risen_is fresh rows nodes more leaves at w l s linked many b None h = record {
     fits = (l, s, linked, h.fits);
-    up = tt;
+    separator = tt;
     contents = h.contents;
     alike = λ u e. absurd (cc);
     pages_are = λ p.
@@ -133,17 +133,17 @@ module _ (cuts : Cuts) (sound_leaf : IsCut cuts.leaf) (sound_index : IsCut cuts.
     height = ap suc h.height;
   }
   risen_is fresh rows nodes more leaves at w l s are_linked many b (Some y) h =
-      let c = put cuts.index (next_page b.fresh) y rows nodes in
+      let c = put_row cuts.index (first_fresh b.fresh) y rows nodes in
       let some : 0 < length b.fresh = omega (arith, many, h.enough) in
-      let is = put_at cuts.index sound_index (next_page b.fresh) y low high rows nodes h.up.1 at w l (omega (arith, h.up.0)) in
+      let is = put_at cuts.index sound_index (first_fresh b.fresh) y low high rows nodes h.separator.1 at w l (omega (arith, h.separator.0)) in
       record {
         fits = (
-          linked_level 0 high (with_up c.up rows) c.nodes is.level,
-          linked_starts 0 (with_up c.up rows) c.nodes (is.starts s),
+          linked_level 0 high (with_up c.separator rows) c.nodes is.level,
+          linked_starts 0 (with_up c.separator rows) c.nodes (is.starts s),
           linked_is 0 c.nodes,
           subst (λ r. Fits high r b.above b.leaves) (sym (linked_rows 0 c.nodes ∙ is.contents)) h.fits,
         );
-        up = is.up;
+        separator = is.separator;
         contents = h.contents;
         alike = λ u e. alike_trans x.key y.key u.key rows (alike_up x.key y.key high rows nodes l s (h.alike y refl)) (is.alike u e);
         pages_are = λ p.
@@ -152,16 +152,16 @@ module _ (cuts : Cuts) (sound_leaf : IsCut cuts.leaf) (sound_index : IsCut cuts.
             let g = count_append p (pages_of (linked 0 c.nodes)) (all_pages b.above b.leaves) in
             let i = ap (count p) (linked_pages 0 c.nodes) in
             let j = is.pages_are p in
-            let k = taken c.up b.fresh is.right_is some p in omega (arith, e, f, g, i, j, k);
-        less = λ p. let e = h.less p in let f = taken c.up b.fresh is.right_is some p in omega (arith, e, f);
-        enough = let e = h.enough in let f = fewer c.up b.fresh in omega (arith, e, f);
+            let k = taken c.separator b.fresh is.right_is some p in omega (arith, e, f, g, i, j, k);
+        less = λ p. let e = h.less p in let f = taken c.separator b.fresh is.right_is some p in omega (arith, e, f);
+        enough = let e = h.enough in let f = fewer c.separator b.fresh in omega (arith, e, f);
         height = ap suc h.height;
       }
 
   pub grown_is : (fresh : List ℕ) (rows : List (Row ℕ)) (above : List (List (Node ℕ))) (leaves : List (Node Payload)) → StartsAt low rows → Within low high rows
-      → Fits high rows above leaves → length above < length fresh → let b = grown cuts fresh x rows above leaves in IsGrown low high rows above leaves fresh x b b.up
+      → Fits high rows above leaves → length above < length fresh → let b = grown cuts fresh x rows above leaves in IsGrown low high rows above leaves fresh x b b.separator
   grown_is fresh rows [] leaves at w fits many = grown_leaves fresh rows leaves at w fits.0 many
   grown_is fresh rows (nodes ∷ more) leaves at w fits many =
       let b = grown cuts fresh x (rows_of nodes) more leaves in
-      risen_is fresh rows nodes more leaves at w fits.0 fits.1 fits.2 many b b.up
+      risen_is fresh rows nodes more leaves at w fits.0 fits.1 fits.2 many b b.separator
       (grown_is fresh (rows_of nodes) more leaves (rows_start low high rows nodes at fits.0 fits.1) (level_within low high rows nodes w fits.0) fits.3 (omega (arith, many)))

@@ -2,8 +2,9 @@
 use Rattle.std.proofs.Common.{◌≡◌, ◌↔◌, ℕ, zero, suc, ◌≤◌, List, [], ◌∷◌, ◌++◌, Option, None, Contains, refl, sym, ap, ◌∙◌, subst, arith}
 use Rattle.spec_levels.specs.Levels.{Row, Node, Tree, rows_of, tree_pages, AreDistinct, IsTree, Payload}
 use Rattle.spec_ways.specs.Climbs.{climb}
-use Rattle.spec_ways.specs.Insert.{Cuts, named_root, left_over, grown, raised, inserted, IsCut}
-use Rattle.spec_ways.specs.Shown.{Shows, wrote_insert}
+use Rattle.spec_ways.specs.Insert.{Cuts, root_rows, left_over, grown, raised, inserted, IsCut, AreFresh}
+use Rattle.spec_ways.specs.InsertWrites.{insert_written}
+use Rattle.spec_ways.specs.Pages.{Shows}
 use Rattle.law_ways.proofs.Bounds.{Within}
 use Rattle.law_ways.proofs.Bridge.{fits_from, levels_from, counted, contains_from, once, distinct_from, pages_are_all, rises_from}
 use Rattle.law_ways.proofs.Fits.{Fits, count, all_pages}
@@ -13,7 +14,9 @@ use Rattle.law_ways.proofs.PutLaws.{level_within}
 use Rattle.law_ways.proofs.RaiseShows.{climb_top, insert_shows}
 use Rattle.law_ways.proofs.StepLaws.{climbs}
 use Rattle.law_ways.proofs.WayReads.{way_is_read}
-use Rattle.law_ways.specs.Laws.{ContentsRise, PathsLead, WaysAreRead, AreFresh, InsertKeeps, InsertClimbs, InsertIsWritten}
+use Rattle.law_ways.proofs.WayAsks.{pages_asked}
+use Rattle.law_ways.specs.WayLaws.{ContentsRise, WaysLead, WaysAreRead}
+use Rattle.law_ways.specs.InsertLaws.{InsertKeeps, InsertClimbs, InsertIsWritten}
 use Rattle.law_ways.proofs.TopLaws as top
 
 -- the rows of the leaves rise
@@ -25,7 +28,7 @@ fits_within low high rows (nodes ∷ more) leaves w f = fits_within low high (ro
 pub contents_rise : ContentsRise
 contents_rise root tree is =
     rises_from 0 None (rows_of tree.leaves)
-    (fits_within 0 None (named_root root) tree.above tree.leaves (omega arith, tt, tt) (fits_from (named_root root) tree.above tree.leaves is.levels))
+    (fits_within 0 None (root_rows root) tree.above tree.leaves (omega arith, tt, tt) (fits_from (root_rows root) tree.above tree.leaves is.levels))
 
 pub tree_counts : (tree : Tree) (p : ℕ) → count p (all_pages tree.above tree.leaves) ≡ count p (tree_pages tree)
 tree_counts tree p = ap (count p) (pages_are_all tree.above tree.leaves)
@@ -37,20 +40,23 @@ none_zero xs none = by_count (count 0 xs) refl
     by_count zero e = refl
     by_count (suc n) e = absurd (none (contains_from 0 xs (omega (arith, e))))
 
-pub paths_lead : PathsLead
-paths_lead root k tree is =
-    let h = leads k 0 (named_root root) tree.above tree.leaves (omega arith) refl (omega arith, tt, tt) (fits_from (named_root root) tree.above tree.leaves is.levels)
+pub ways_lead : WaysLead
+ways_lead root k tree is =
+    let h = leads k 0 (root_rows root) tree.above tree.leaves (omega arith) refl (omega arith, tt, tt) (fits_from (root_rows root) tree.above tree.leaves is.levels)
     (λ p. let a = tree_counts tree p in let b = once p (tree_pages tree) is.distinct in omega (arith, a, b)) in
-    record { way = h.path; is = h.is; long = h.long; holds = h.holds }
+    record { way = h.way; is = h.is; long = h.long; holds = h.holds }
 
 pub ways_are_read : WaysAreRead
-ways_are_read root k tree image way is s e = way_is_read 15 k image tree.above tree.leaves is.height s root way e
+ways_are_read root k tree image way is s e = record {
+  read = way_is_read 15 k image tree.above tree.leaves is.height s root way e;
+  asked = pages_asked 15 k image tree.above tree.leaves is.height s root way e;
+}
 
 -- the pages of the tree with the row, counted
 new_counts : (cuts : Cuts) (fresh : List ℕ) (root : ℕ) (x : Row Payload) (tree : Tree) → IsCut cuts.leaf → IsCut cuts.index → IsTree root tree → AreFresh fresh tree
     → let t = inserted cuts fresh root x tree in ((p : ℕ) → count p (all_pages t.above t.leaves) ≤ 1) × (count 0 (all_pages t.above t.leaves) ≡ 0)
 new_counts cuts fresh root x tree leaf index is new =
-    let h = top.inserted_is cuts leaf index fresh root x tree (omega (arith, new.enough)) (fits_from (named_root root) tree.above tree.leaves is.levels) in
+    let h = top.inserted_is cuts leaf index fresh root x tree (omega (arith, new.enough)) (fits_from (root_rows root) tree.above tree.leaves is.levels) in
     let before = tree_counts tree in (
       λ p. let a = h.added p in let b = before p in let d = once p (fresh ++ tree_pages tree) new.distinct in
           let e = count_append p fresh (tree_pages tree) in omega (arith, a, b, d, e),
@@ -60,13 +66,13 @@ new_counts cuts fresh root x tree leaf index is new =
 pub insert_keeps : InsertKeeps
 insert_keeps cuts fresh root x tree leaf index is new =
     let t = inserted cuts fresh root x tree in
-    let h = top.inserted_is cuts leaf index fresh root x tree (omega (arith, new.enough)) (fits_from (named_root root) tree.above tree.leaves is.levels) in
+    let h = top.inserted_is cuts leaf index fresh root x tree (omega (arith, new.enough)) (fits_from (root_rows root) tree.above tree.leaves is.levels) in
     let before = tree_counts tree in
     let after = tree_counts t in
     let good = new_counts cuts fresh root x tree leaf index is new in
     record {
       is_tree = λ low. record {
-        levels = levels_from (named_root root) t.above t.leaves h.fits;
+        levels = levels_from (root_rows root) t.above t.leaves h.fits;
         distinct = distinct_from (tree_pages t) (λ p. let a = good.0 p in let b = after p in omega (arith, a, b));
         nonzero = λ has. let some = counted 0 (tree_pages t) has in let b = after 0 in omega (arith, good.1, b, some);
         height = low;
@@ -81,16 +87,16 @@ insert_keeps cuts fresh root x tree leaf index is new =
 
 pub insert_climbs : InsertClimbs
 insert_climbs cuts fresh root x tree leaf index is new =
-    let b = grown cuts fresh x (named_root root) tree.above tree.leaves in
+    let b = grown cuts fresh x (root_rows root) tree.above tree.leaves in
     let t = inserted cuts fresh root x tree in
-    let in_all = top.inserted_is cuts leaf index fresh root x tree (omega (arith, new.enough)) (fits_from (named_root root) tree.above tree.leaves is.levels) in
-    let h = climbs cuts leaf index fresh x 0 (omega arith) (named_root root) tree.above tree.leaves refl (omega arith, tt, tt)
-    (fits_from (named_root root) tree.above tree.leaves is.levels) (omega (arith, new.enough))
+    let in_all = top.inserted_is cuts leaf index fresh root x tree (omega (arith, new.enough)) (fits_from (root_rows root) tree.above tree.leaves is.levels) in
+    let h = climbs cuts leaf index fresh x 0 (omega arith) (root_rows root) tree.above tree.leaves refl (omega arith, tt, tt)
+    (fits_from (root_rows root) tree.above tree.leaves is.levels) (omega (arith, new.enough))
     (λ p. let a = tree_counts tree p in let b = once p (tree_pages tree) is.distinct in omega (arith, a, b)) in
     let c = climb cuts fresh x h.way.above h.way.leaf in
-    let left_is : left_over b.up b.fresh ≡ left_over c.up c.fresh = ap (λ o. left_over o b.fresh) h.up ∙ ap (left_over c.up) h.fresh_is in
-    let exact : (p : ℕ) → count p (tree_pages t ++ left_over b.up b.fresh) ≡ count p (fresh ++ tree_pages tree) = λ p.
-    let i = in_all.exact p in let j = tree_counts t p in let k = tree_counts tree p in let l = count_append p (tree_pages t) (left_over b.up b.fresh) in
+    let left_is : left_over b.separator b.fresh ≡ left_over c.separator c.fresh = ap (λ o. left_over o b.fresh) h.separator ∙ ap (left_over c.separator) h.fresh_is in
+    let exact : (p : ℕ) → count p (tree_pages t ++ left_over b.separator b.fresh) ≡ count p (fresh ++ tree_pages tree) = λ p.
+    let i = in_all.exact p in let j = tree_counts t p in let k = tree_counts tree p in let l = count_append p (tree_pages t) (left_over b.separator b.fresh) in
     let m = count_append p fresh (tree_pages tree) in omega (arith, i, j, k, l, m) in
     record {
       way = h.way;
@@ -99,14 +105,14 @@ insert_climbs cuts fresh root x tree leaf index is new =
       above_steps = h.above_steps;
       leaf_steps = h.leaf_steps;
       fresh_is = h.fresh_is;
-      raises = ap (raised root b) h.up;
+      raises = ap (raised root b) h.separator;
       pages_are = λ p. subst (λ (left : List ℕ). Contains (tree_pages t ++ left) p ↔ Contains (fresh ++ tree_pages tree) p) left_is
           (let e = exact p in (
-            λ has. contains_from p (fresh ++ tree_pages tree) (let some = counted p (tree_pages t ++ left_over b.up b.fresh) has in omega (arith, e, some)),
-            λ has. contains_from p (tree_pages t ++ left_over b.up b.fresh) (let some = counted p (fresh ++ tree_pages tree) has in omega (arith, e, some)),
+            λ has. contains_from p (fresh ++ tree_pages tree) (let some = counted p (tree_pages t ++ left_over b.separator b.fresh) has in omega (arith, e, some)),
+            λ has. contains_from p (tree_pages t ++ left_over b.separator b.fresh) (let some = counted p (fresh ++ tree_pages tree) has in omega (arith, e, some)),
           ));
       apart = subst (λ (left : List ℕ). AreDistinct (tree_pages t ++ left)) left_is
-          (distinct_from (tree_pages t ++ left_over b.up b.fresh) (λ p. let e = exact p in let f = once p (fresh ++ tree_pages tree) new.distinct in omega (arith, e, f)));
+          (distinct_from (tree_pages t ++ left_over b.separator b.fresh) (λ p. let e = exact p in let f = once p (fresh ++ tree_pages tree) new.distinct in omega (arith, e, f)));
     }
 
 pub no_count : (xs : List ℕ) (p : ℕ) → (Contains xs p → ⊥) → count p xs ≡ 0
@@ -118,17 +124,17 @@ no_count xs p none = by_count (count p xs) refl
 
 pub insert_is_written : InsertIsWritten
 insert_is_written cuts fresh root x tree image leaf index is new s =
-    let b = grown cuts fresh x (named_root root) tree.above tree.leaves in
-    let f = fits_from (named_root root) tree.above tree.leaves is.levels in
-    let h = climbs cuts leaf index fresh x 0 (omega arith) (named_root root) tree.above tree.leaves refl (omega arith, tt, tt) f (omega (arith, new.enough))
+    let b = grown cuts fresh x (root_rows root) tree.above tree.leaves in
+    let f = fits_from (root_rows root) tree.above tree.leaves is.levels in
+    let h = climbs cuts leaf index fresh x 0 (omega arith) (root_rows root) tree.above tree.leaves refl (omega arith, tt, tt) f (omega (arith, new.enough))
     (λ p. let a = tree_counts tree p in let b = once p (tree_pages tree) is.distinct in omega (arith, a, b)) in
     let c = climb cuts fresh x h.way.above h.way.leaf in
     let good = new_counts cuts fresh root x tree leaf index is new in
     let t = inserted cuts fresh root x tree in
-    let r = insert_shows root h.way c b tree image b.up f h.above_steps h.leaf_steps h.fresh_is (climb_top cuts fresh x h.way.above h.way.leaf ∙ sym h.up) s good.0 good.1 in
+    let r = insert_shows root h.way c b tree image b.separator f h.above_steps h.leaf_steps h.fresh_is (climb_top cuts fresh x h.way.above h.way.leaf ∙ sym h.separator) s good.0 good.1 in
     record {
       way = h.way;
       is = h.is;
-      shows = subst (λ o. Shows (wrote_insert root h.way c o image) t.above t.leaves) h.up r.shows;
-      same = λ p none. subst (λ o. wrote_insert root h.way c o image p ≡ image p) h.up (r.same p (tree_counts t p ∙ no_count (tree_pages t) p none));
+      shows = subst (λ o. Shows (insert_written root h.way c o image) t.above t.leaves) h.separator r.shows;
+      same = λ p none. subst (λ o. insert_written root h.way c o image p ≡ image p) h.separator (r.same p (tree_counts t p ∙ no_count (tree_pages t) p none));
     }

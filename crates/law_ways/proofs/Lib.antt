@@ -1,4 +1,4 @@
-pub mod Asks
+pub mod WayAsks
 pub mod Bounds
 pub mod Bridge
 pub mod DeleteLaw

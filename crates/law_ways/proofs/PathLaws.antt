@@ -2,11 +2,12 @@
 use Rattle.std.proofs.Common.{◌≡◌, ℕ, suc, ◌<◌, ◌≤◌, Bool, true, false, List, [], ◌∷◌, ◌++◌, length, Some, None, nat_lt, refl, sym, ap, ◌∙◌, subst, inl, inr, arith}
 use Rattle.std.proofs.lemmas.Bool.{cases_Bool, cases_eq, eq-eqb, ne_eqb, ltb-false, lt-ltb, le-ltb}
 use Rattle.spec_levels.specs.Levels.{Row, Node, rows_of, pages_of, Payload}
-use Rattle.spec_ways.specs.Delete.{Taken, take_out, left_with, past, headed, heads}
-use Rattle.spec_ways.specs.Insert.{is_here, Cut, Put, parted, behind, put}
-use Rattle.spec_ways.specs.Rows.{held, with_row}
-use Rattle.spec_ways.specs.Sinks.{edge_is}
-use Rattle.spec_ways.specs.Ways.{toward_by, child_toward, key_toward, page_in, Path, under, at_leaf, toward, path_from}
+use Rattle.law_ways.proofs.Bounds.{toward_by}
+use Rattle.spec_ways.specs.Delete.{Taken, take_row, kept_page, before_taken, with_first_keys}
+use Rattle.spec_ways.specs.Insert.{Cut, Put, cut_page, before_put, put_row}
+use Rattle.spec_ways.specs.Rows.{with_first_key, is_below_first, value_at, with_row}
+use Rattle.spec_ways.specs.Sinks.{with_edge}
+use Rattle.spec_ways.specs.Ways.{child_toward, key_toward, node_at, Way, through, ending_at, through_child, way_from}
 use Rattle.law_ways.proofs.Bounds.{Within, shifted}
 use Rattle.law_ways.proofs.Fits.{Level, Starts, StartsAt, Fits, count, all_pages}
 use Rattle.law_ways.proofs.GrowLaws.{rows_start, starts_append, count_append}
@@ -16,21 +17,21 @@ use Rattle.law_ways.proofs.TakeLaws.{take_later, toward_here, toward_later, shif
 use Rattle.std.proofs.lemmas.Grind.{flat_map-append}
 
 abbrev pub onto : {V : Type 0} → List (Node V) → Put V → Put V
-onto left c = record { nodes = left ++ c.nodes; up = c.up }
+onto left c = record { nodes = left ++ c.nodes; separator = c.separator }
 
 abbrev pub behind_left : {V : Type 0} → List (Node V) → Taken V → Taken V
-behind_left left c = record { nodes = left ++ c.nodes; gone = c.gone }
+behind_left left c = record { nodes = left ++ c.nodes; gone_key = c.gone_key }
 
-here_alike : (k j : ℕ) (rest : List (Row ℕ)) → AreAlike k j rest → is_here k rest ≡ true → is_here j rest ≡ true
+here_alike : (k j : ℕ) (rest : List (Row ℕ)) → AreAlike k j rest → is_below_first k rest ≡ true → is_below_first j rest ≡ true
 here_alike k j [] alike e = refl
 here_alike k j (s ∷ rest) alike e = sym alike.0 ∙ e
 
-above_here : (k : ℕ) (rest : List (Row ℕ)) → Within (suc k) None rest → is_here k rest ≡ true
+above_here : (k : ℕ) (rest : List (Row ℕ)) → Within (suc k) None rest → is_below_first k rest ≡ true
 above_here k [] w = refl
 above_here k (s ∷ rest) w = lt-ltb k s.key w.0
 
 module _ (of : Row ℕ → ℕ) where
-  -- rows behind, whose keys are above
+  -- rows before_put, whose keys are above
   pub toward_left : (k : ℕ) (xs ys : List (Row ℕ)) → Within (suc k) None ys → (low : ℕ) → StartsAt low xs → toward_by of k (xs ++ ys) ≡ toward_by of k xs
   toward_left k [] ys w low s = absurd s
   toward_left k (x ∷ []) ys w low s = toward_here of k x ys (above_here k ys w)
@@ -49,33 +50,33 @@ module _ (of : Row ℕ → ℕ) where
       toward_later of k x (z ∷ zs ++ ys) (le-ltb k z.key (omega (arith, w.2.1, le))) ∙ toward_right (suc x.key) mid k (z ∷ zs) ys w.2 s le
 
 module _ {V : Type 0} where
-  page_here : (p : ℕ) (n : Node V) (ns : List (Node V)) → n.page ≡ p → page_in p (n ∷ ns) ≡ Some n
+  page_here : (p : ℕ) (n : Node V) (ns : List (Node V)) → n.page ≡ p → node_at p (n ∷ ns) ≡ Some n
   page_here p n ns same = let e = eq-eqb n.page p same in rw e refl
 
-  page_later : (p : ℕ) (n : Node V) (ns : List (Node V)) → (n.page ≡ p → ⊥) → page_in p (n ∷ ns) ≡ page_in p ns
+  page_later : (p : ℕ) (n : Node V) (ns : List (Node V)) → (n.page ≡ p → ⊥) → node_at p (n ∷ ns) ≡ node_at p ns
   page_later p n ns other = let e = ne_eqb n.page p other in rw e refl
 
-  page_counts : (p : ℕ) (nodes : List (Node V)) (n : Node V) → page_in p nodes ≡ Some n → 0 < count p (pages_of nodes)
+  page_counts : (p : ℕ) (nodes : List (Node V)) (n : Node V) → node_at p nodes ≡ Some n → 0 < count p (pages_of nodes)
   page_counts p [] n e = absurd (cc)
   page_counts p (m ∷ ns) n e = elim (cases_eq m.page p) [
     | inl same ↦ let f = eq-eqb m.page p same in rw f (omega arith)
     | inr other ↦ let h = page_counts p ns n (sym (page_later p m ns other) ∙ e) in omega (arith, h)
   ]
 
-  heads_headed : (g : ℕ) (rest : List (Row ℕ)) (ns : List (Node V)) → Level None rest ns → Starts rest ns → heads (headed g rest) ns ≡ edge_is (Some g) ns
+  heads_headed : (g : ℕ) (rest : List (Row ℕ)) (ns : List (Node V)) → Level None rest ns → Starts rest ns → with_first_keys (with_first_key g rest) ns ≡ with_edge (Some g) ns
   heads_headed g [] [] l s = refl
   heads_headed g [] (m ∷ ns) l s = absurd l
   heads_headed g (q ∷ rest) [] l s = absurd l
-  heads_headed g (q ∷ rest) (m ∷ ns) l s = ap (λ l. record { page = m.page; prev = m.prev; next = m.next; rows = headed g m.rows } ∷ l) (heads_same rest ns s.1)
+  heads_headed g (q ∷ rest) (m ∷ ns) l s = ap (λ l. record { page = m.page; prev = m.prev; next = m.next; rows = with_first_key g m.rows } ∷ l) (heads_same rest ns s.1)
 
-  -- the page of a level where the key belongs, among those before it and behind it
+  -- the page of a level where the key belongs, among those before it and before_put it
   pub record Spot (k low : ℕ) (rows : List (Row ℕ)) (nodes : List (Node V)) : Type 0 where
     pub left : List (Node V)
     pub node : Node V
     pub right : List (Node V)
     pub key : ℕ
     pub nodes_are : nodes ≡ left ++ node ∷ right
-    pub is : page_in (child_toward k rows) nodes ≡ Some node
+    pub is : node_at (child_toward k rows) nodes ≡ Some node
     pub page : child_toward k rows ≡ node.page
     pub key_is : key_toward k rows ≡ key
     pub least : low ≤ key
@@ -84,11 +85,11 @@ module _ {V : Type 0} where
     pub back : Within (suc k) None (rows_of right)
     pub starts : Starts rows nodes → StartsAt key node.rows
     pub puts : (cut : Cut V) (new : ℕ) (x : Row V) → AreAlike k x.key rows →
-        put cut new x rows nodes ≡ onto left (parted (cut (with_row x node.rows)) new node (with_row x node.rows) right)
-    pub edges : (g : ℕ) → g ≡ key → Starts rows nodes → heads (shifted g rows) (left ++ right) ≡ left ++ edge_is (Some g) right
-    pub takes : (change : ℕ → List (Row V) → List (Row V)) (j : ℕ) → AreAlike k j rows → take_out change j rows nodes ≡ behind_left left (left_with key node (change key node.rows) right)
+        put_row cut new x rows nodes ≡ onto left (cut_page (cut (with_row x node.rows)) new node (with_row x node.rows) right)
+    pub edges : (g : ℕ) → g ≡ key → Starts rows nodes → with_first_keys (shifted g rows) (left ++ right) ≡ left ++ with_edge (Some g) right
+    pub takes : (change : ℕ → List (Row V) → List (Row V)) (j : ℕ) → AreAlike k j rows → take_row change j rows nodes ≡ behind_left left (kept_page key node (change key node.rows) right)
 
-  spot_here : (k : ℕ) (r : Row ℕ) (rest : List (Row ℕ)) (n : Node V) (ns : List (Node V)) → Within r.key None (r ∷ rest) → Level None (r ∷ rest) (n ∷ ns) → is_here k rest ≡ true
+  spot_here : (k : ℕ) (r : Row ℕ) (rest : List (Row ℕ)) (n : Node V) (ns : List (Node V)) → Within r.key None (r ∷ rest) → Level None (r ∷ rest) (n ∷ ns) → is_below_first k rest ≡ true
       → Spot k r.key (r ∷ rest) (n ∷ ns)
   spot_here k r rest n ns w l e = record {
     left = [];
@@ -105,12 +106,12 @@ module _ {V : Type 0} where
     back = level_within (suc k) None rest ns (here_within k (suc r.key) None rest e w.2) l.2;
     starts = λ s. s.0;
     puts = λ cut new x alike. let f = here_alike k x.key rest alike.1 e in rw f refl;
-    edges = λ g at s. ap (λ l. heads l ns) (shifted_same g r rest at) ∙ heads_headed g rest ns l.2 s.1;
+    edges = λ g at s. ap (λ l. with_first_keys l ns) (shifted_same g r rest at) ∙ heads_headed g rest ns l.2 s.1;
     takes = λ change j alike. let f = here_alike k j rest alike.1 e in rw f refl;
   }
 
   spot_past : (k : ℕ) (r s : Row ℕ) (rest : List (Row ℕ)) (n m : Node V) (ns : List (Node V)) → Within r.key None (r ∷ s ∷ rest) → Level None (r ∷ s ∷ rest) (n ∷ m ∷ ns)
-      → is_here k (s ∷ rest) ≡ false → ((p : ℕ) → count p (pages_of (n ∷ m ∷ ns)) ≤ 1) → Spot k s.key (s ∷ rest) (m ∷ ns) → Spot k r.key (r ∷ s ∷ rest) (n ∷ m ∷ ns)
+      → is_below_first k (s ∷ rest) ≡ false → ((p : ℕ) → count p (pages_of (n ∷ m ∷ ns)) ≤ 1) → Spot k s.key (s ∷ rest) (m ∷ ns) → Spot k r.key (r ∷ s ∷ rest) (n ∷ m ∷ ns)
   spot_past k r s rest n m ns w l e once h =
       let p = child_toward k (s ∷ rest) in
       let there = page_counts p (m ∷ ns) h.node h.is in
@@ -122,7 +123,7 @@ module _ {V : Type 0} where
         right = h.right;
         key = h.key;
         nodes_are = ap (λ l. n ∷ l) h.nodes_are;
-        is = ap (λ q. page_in q (n ∷ m ∷ ns)) (toward_later (λ r. r.value) k r (s ∷ rest) e) ∙ page_later p n (m ∷ ns) other ∙ h.is;
+        is = ap (λ q. node_at q (n ∷ m ∷ ns)) (toward_later (λ r. r.value) k r (s ∷ rest) e) ∙ page_later p n (m ∷ ns) other ∙ h.is;
         page = toward_later (λ r. r.value) k r (s ∷ rest) e ∙ h.page;
         key_is = toward_later (λ r. r.key) k r (s ∷ rest) e ∙ h.key_is;
         least = let f = h.least in omega (arith, f, w.2.0);
@@ -130,13 +131,13 @@ module _ {V : Type 0} where
         front = join_within r.key s.key (Some h.key) n.rows (rows_of h.left) (omega (arith, w.2.0)) (λ j less. let f = h.least in omega (arith, f, less)) l.1 h.front;
         back = h.back;
         starts = λ st. h.starts st.1;
-        puts = λ cut new x alike. put_later cut new x r (s ∷ rest) n (m ∷ ns) (sym alike.1.0 ∙ e) ∙ ap (λ c. behind n c) (h.puts cut new x alike.1);
+        puts = λ cut new x alike. put_later cut new x r (s ∷ rest) n (m ∷ ns) (sym alike.1.0 ∙ e) ∙ ap (λ c. before_put n c) (h.puts cut new x alike.1);
         edges = λ g at st.
             let f = h.least in
-            ap (λ l. heads l (n ∷ h.left ++ h.right)) (shifted_other g r (s ∷ rest) (λ same. omega (arith, same, at, f, w.2.0)))
-            ∙ ap (λ (rs : List (Row V)). record { page = n.page; prev = n.prev; next = n.next; rows = rs } ∷ heads (shifted g (s ∷ rest)) (h.left ++ h.right)) (headed_same r.key n.rows st.0)
+            ap (λ l. with_first_keys l (n ∷ h.left ++ h.right)) (shifted_other g r (s ∷ rest) (λ same. omega (arith, same, at, f, w.2.0)))
+            ∙ ap (λ (rs : List (Row V)). record { page = n.page; prev = n.prev; next = n.next; rows = rs } ∷ with_first_keys (shifted g (s ∷ rest)) (h.left ++ h.right)) (headed_same r.key n.rows st.0)
             ∙ ap (λ l. n ∷ l) (h.edges g at st.1);
-        takes = λ change j alike. take_later change j r (s ∷ rest) n (m ∷ ns) (sym alike.1.0 ∙ e) ∙ ap (λ c. past n c) (h.takes change j alike.1);
+        takes = λ change j alike. take_later change j r (s ∷ rest) n (m ∷ ns) (sym alike.1.0 ∙ e) ∙ ap (λ c. before_taken n c) (h.takes change j alike.1);
       }
 
   spot : (k : ℕ) (r : Row ℕ) (rest : List (Row ℕ)) (n : Node V) (ns : List (Node V)) → Within r.key None (r ∷ rest) → Level None (r ∷ rest) (n ∷ ns)
@@ -144,7 +145,7 @@ module _ {V : Type 0} where
   spot k r [] n [] w l once = spot_here k r [] n [] w l refl
   spot k r [] n (m ∷ ns) w l once = absurd l.2
   spot k r (s ∷ rest) n [] w l once = absurd l.2
-  spot k r (s ∷ rest) n (m ∷ ns) w l once = elim (cases_Bool (is_here k (s ∷ rest))) [
+  spot k r (s ∷ rest) n (m ∷ ns) w l once = elim (cases_Bool (is_below_first k (s ∷ rest))) [
     | inl e ↦ spot_here k r (s ∷ rest) n (m ∷ ns) w l e
     | inr e ↦ spot_past k r s rest n m ns w l e once (spot k s rest m ns (omega arith, w.2.1, w.2.2) l.2 (λ p. let f = once p in omega (arith, f)))
   ]
@@ -158,11 +159,11 @@ module _ {V : Type 0} where
   spot_rows : (k low : ℕ) (rows : List (Row ℕ)) (nodes : List (Node V)) (s : Spot k low rows nodes) → rows_of nodes ≡ rows_of s.left ++ (s.node.rows ++ rows_of s.right)
   spot_rows k low rows nodes s = ap (λ l. rows_of l) s.nodes_are ∙ flat_map-append (λ (n : Node V). n.rows) s.left (s.node ∷ s.right)
 
-  pub spot_holds : (k low : ℕ) (rows : List (Row ℕ)) (nodes : List (Node V)) (s : Spot k low rows nodes) → low ≤ k → held k s.node.rows ≡ held k (rows_of nodes)
+  pub spot_holds : (k low : ℕ) (rows : List (Row ℕ)) (nodes : List (Node V)) (s : Spot k low rows nodes) → low ≤ k → value_at k s.node.rows ≡ value_at k (rows_of nodes)
   spot_holds k low rows nodes s le =
       sym (held_left (suc k) None k s.node.rows (rows_of s.right) (omega arith) s.back)
       ∙ sym (held_right low s.key k (rows_of s.left) (s.node.rows ++ rows_of s.right) (s.not_above le) s.front)
-      ∙ ap (held k) (sym (spot_rows k low rows nodes s))
+      ∙ ap (value_at k) (sym (spot_rows k low rows nodes s))
 
 pub spot_toward : (of : Row ℕ → ℕ) (k low : ℕ) (rows : List (Row ℕ)) (nodes : List (Node ℕ)) (s : Spot k low rows nodes) → low ≤ k → Starts rows nodes
     → toward_by of k s.node.rows ≡ toward_by of k (rows_of nodes)
@@ -178,24 +179,24 @@ spot_child = spot_toward (λ r. r.value)
 
 -- the way leads to the leaf where the key belongs
 pub record Leads (k : ℕ) (rows : List (Row ℕ)) (above : List (List (Node ℕ))) (leaves : List (Node Payload)) : Type 0 where
-  pub path : Path
-  pub is : path_from k above leaves (child_toward k rows) ≡ Some path
-  pub long : length path.above ≡ length above
-  pub holds : held k path.leaf.rows ≡ held k (rows_of leaves)
+  pub way : Way
+  pub is : way_from k above leaves (child_toward k rows) ≡ Some way
+  pub long : length way.above ≡ length above
+  pub holds : value_at k way.leaf.rows ≡ value_at k (rows_of leaves)
 
 pub leads : (k low : ℕ) (rows : List (Row ℕ)) (above : List (List (Node ℕ))) (leaves : List (Node Payload)) → low ≤ k → StartsAt low rows → Within low None rows
     → Fits None rows above leaves → ((p : ℕ) → count p (all_pages above leaves) ≤ 1) → Leads k rows above leaves
 leads k low rows [] leaves le at w f once =
     let s = spot_at k low rows leaves at w f.0 once in
-    record { path = record { above = []; leaf = s.node }; is = ap at_leaf s.is; long = refl; holds = spot_holds k low rows leaves s le }
+    record { way = record { above = []; leaf = s.node }; is = ap ending_at s.is; long = refl; holds = spot_holds k low rows leaves s le }
 leads k low rows (nodes ∷ more) leaves le at w f once =
     let counts = λ (p : ℕ). count_append p (pages_of nodes) (all_pages more leaves) in
     let s = spot_at k low rows nodes at w f.0 (λ p. let a = once p in let b = counts p in omega (arith, a, b)) in
     let h = leads k low (rows_of nodes) more leaves le (rows_start low None rows nodes at f.0 f.1) (level_within low None rows nodes w f.0) f.3
     (λ p. let a = once p in let b = counts p in omega (arith, a, b)) in
     record {
-      path = record { above = s.node ∷ h.path.above; leaf = h.path.leaf };
-      is = ap (toward (path_from k more leaves) k) s.is ∙ ap (λ q. under s.node (path_from k more leaves q)) (spot_child k low rows nodes s le f.1) ∙ ap (under s.node) h.is;
+      way = record { above = s.node ∷ h.way.above; leaf = h.way.leaf };
+      is = ap (through_child (way_from k more leaves) k) s.is ∙ ap (λ q. through s.node (way_from k more leaves q)) (spot_child k low rows nodes s le f.1) ∙ ap (through s.node) h.is;
       long = ap suc h.long;
       holds = h.holds;
     }

@@ -2,7 +2,7 @@
 use Rattle.std.proofs.Common.{◌≡◌, ℕ, suc, ◌<◌, ◌≤◌, List, [], ◌∷◌, ◌++◌, Option, Some, None, refl, sym, ap, ◌∙◌, subst, inl, inr, arith}
 use Rattle.std.proofs.lemmas.Bool.{cases_order, cases_eq, lt-ltb, le-ltb, eq-eqb, ne_eqb}
 use Rattle.spec_levels.specs.Levels.{Row, IsBelow}
-use Rattle.spec_ways.specs.Rows.{with_row, without, held}
+use Rattle.spec_ways.specs.Rows.{with_row, without, value_at}
 use Rattle.law_ways.proofs.Bounds.{Within}
 
 pub below_below : (a b : ℕ) (high : Option ℕ) → a ≤ b → IsBelow b high → IsBelow a high
@@ -27,10 +27,10 @@ module _ {V : Type 0} where
   pub without_other : (k : ℕ) (y : Row V) (ys : List (Row V)) → (k ≡ y.key → ⊥) → without k (y ∷ ys) ≡ y ∷ without k ys
   without_other k y ys other = let f = ne_eqb k y.key other in rw f refl
 
-  pub held_same : (k : ℕ) (y : Row V) (ys : List (Row V)) → k ≡ y.key → held k (y ∷ ys) ≡ Some y.value
+  pub held_same : (k : ℕ) (y : Row V) (ys : List (Row V)) → k ≡ y.key → value_at k (y ∷ ys) ≡ Some y.value
   held_same k y ys same = let f = eq-eqb k y.key same in rw f refl
 
-  pub held_other : (k : ℕ) (y : Row V) (ys : List (Row V)) → (k ≡ y.key → ⊥) → held k (y ∷ ys) ≡ held k ys
+  pub held_other : (k : ℕ) (y : Row V) (ys : List (Row V)) → (k ≡ y.key → ⊥) → value_at k (y ∷ ys) ≡ value_at k ys
   held_other k y ys other = let f = ne_eqb k y.key other in rw f refl
 
   -- bounds that widen
@@ -100,18 +100,18 @@ module _ {V : Type 0} where
       without_other k z (zs ++ ys) (λ same. omega (arith, same, le, w.1)) ∙ ap (λ l. z ∷ l) (without_right (suc z.key) mid k zs ys le w.2)
 
   -- what a row holds
-  pub holds_none : (low : ℕ) (high : Option ℕ) (k : ℕ) (xs : List (Row V)) → k < low → Within low high xs → held k xs ≡ None
+  pub holds_none : (low : ℕ) (high : Option ℕ) (k : ℕ) (xs : List (Row V)) → k < low → Within low high xs → value_at k xs ≡ None
   holds_none low high k [] less w = refl
   holds_none low high k (x ∷ xs) less w =
       held_other k x xs (λ same. omega (arith, same, less, w.0)) ∙ holds_none (suc x.key) high k xs (omega (arith, less, w.0)) w.2
 
-  pub held_left : (low : ℕ) (high : Option ℕ) (k : ℕ) (xs ys : List (Row V)) → k < low → Within low high ys → held k (xs ++ ys) ≡ held k xs
+  pub held_left : (low : ℕ) (high : Option ℕ) (k : ℕ) (xs ys : List (Row V)) → k < low → Within low high ys → value_at k (xs ++ ys) ≡ value_at k xs
   held_left low high k [] ys less w = holds_none low high k ys less w
   held_left low high k (z ∷ zs) ys less w = elim (cases_eq k z.key) [
     | inl same ↦ held_same k z (zs ++ ys) same ∙ sym (held_same k z zs same)
     | inr other ↦ held_other k z (zs ++ ys) other ∙ held_left low high k zs ys less w ∙ sym (held_other k z zs other)
   ]
 
-  pub held_right : (low mid k : ℕ) (xs ys : List (Row V)) → mid ≤ k → Within low (Some mid) xs → held k (xs ++ ys) ≡ held k ys
+  pub held_right : (low mid k : ℕ) (xs ys : List (Row V)) → mid ≤ k → Within low (Some mid) xs → value_at k (xs ++ ys) ≡ value_at k ys
   held_right low mid k [] ys le w = refl
   held_right low mid k (z ∷ zs) ys le w = held_other k z (zs ++ ys) (λ same. omega (arith, same, le, w.1)) ∙ held_right (suc z.key) mid k zs ys le w.2

@@ -2,8 +2,8 @@
 use Rattle.std.proofs.Common.{◌≡◌, ℕ, suc, ◌+◌, ◌≤◌, ◌==◌, true, false, List, [], ◌∷◌, ◌++◌, length, Option, Some, None, refl, sym, ap, ◌∙◌, subst, inl, inr, arith}
 use Rattle.std.proofs.lemmas.Bool.{cases_Bool, eqb-true, eq-eqb}
 use Rattle.spec_levels.specs.Levels.{Row, Node, Tree, rows_of, IsLinked, pages_of, Payload}
-use Rattle.spec_ways.specs.Delete.{take_out, leaf_without, index_without, heads, edged, Shrunk, settled, sunk, shrunk, collapsed, ended, deleted}
-use Rattle.spec_ways.specs.Insert.{linked, named_root}
+use Rattle.spec_ways.specs.Delete.{take_row, leaf_without, index_without, with_first_keys, with_left_edges, Shrunk, below_loss, without_separator, shrunk, collapsed, lowered, deleted}
+use Rattle.spec_ways.specs.Insert.{linked, root_rows}
 use Rattle.spec_ways.specs.Rows.{without}
 use Rattle.law_ways.proofs.Bounds.{Within, shifted, HasKey}
 use Rattle.law_ways.proofs.Fits.{Level, Starts, StartsAt, Fits, count, all_pages}
@@ -13,26 +13,26 @@ use Rattle.law_ways.proofs.TakeLaws.{heads_same, heads_linked, heads_pages, IsLe
 use Rattle.law_ways.proofs.TopLaws.{topped_is, level_pages}
 
 -- the edge of levels whose pages begin with their keys
-pub edged_same : (rows : List (Row ℕ)) (above : List (List (Node ℕ))) (leaves : List (Node Payload)) → Fits None rows above leaves → edged rows above ≡ above
+pub edged_same : (rows : List (Row ℕ)) (above : List (List (Node ℕ))) (leaves : List (Node Payload)) → Fits None rows above leaves → with_left_edges rows above ≡ above
 edged_same rows [] leaves f = refl
 edged_same rows (nodes ∷ more) leaves f =
-    ap (λ (ns : List (Node ℕ)). ns ∷ edged (rows_of ns) more) (heads_same rows nodes f.1) ∙ ap (λ l. nodes ∷ l) (edged_same (rows_of nodes) more leaves f.3)
+    ap (λ (ns : List (Node ℕ)). ns ∷ with_left_edges (rows_of ns) more) (heads_same rows nodes f.1) ∙ ap (λ l. nodes ∷ l) (edged_same (rows_of nodes) more leaves f.3)
 
-edged_pages : (rows : List (Row ℕ)) (above : List (List (Node ℕ))) (leaves : List (Node Payload)) → all_pages (edged rows above) leaves ≡ all_pages above leaves
+edged_pages : (rows : List (Row ℕ)) (above : List (List (Node ℕ))) (leaves : List (Node Payload)) → all_pages (with_left_edges rows above) leaves ≡ all_pages above leaves
 edged_pages rows [] leaves = refl
 edged_pages rows (nodes ∷ more) leaves =
-    ap (λ l. l ++ all_pages (edged (rows_of (heads rows nodes)) more) leaves) (heads_pages rows nodes)
-    ∙ ap (λ l. pages_of nodes ++ l) (edged_pages (rows_of (heads rows nodes)) more leaves)
+    ap (λ l. l ++ all_pages (with_left_edges (rows_of (with_first_keys rows nodes)) more) leaves) (heads_pages rows nodes)
+    ∙ ap (λ l. pages_of nodes ++ l) (edged_pages (rows_of (with_first_keys rows nodes)) more leaves)
 
-edged_height : (rows : List (Row ℕ)) (above : List (List (Node ℕ))) → length (edged rows above) ≡ length above
+edged_height : (rows : List (Row ℕ)) (above : List (List (Node ℕ))) → length (with_left_edges rows above) ≡ length above
 edged_height rows [] = refl
-edged_height rows (nodes ∷ more) = ap suc (edged_height (rows_of (heads rows nodes)) more)
+edged_height rows (nodes ∷ more) = ap suc (edged_height (rows_of (with_first_keys rows nodes)) more)
 
-settled_pages : (o : Option ℕ) (rows : List (Row ℕ)) (below : List (List (Node ℕ))) (leaves : List (Node Payload)) → all_pages (settled o rows below) leaves ≡ all_pages below leaves
+settled_pages : (o : Option ℕ) (rows : List (Row ℕ)) (below : List (List (Node ℕ))) (leaves : List (Node Payload)) → all_pages (below_loss o rows below) leaves ≡ all_pages below leaves
 settled_pages None rows below leaves = edged_pages rows below leaves
 settled_pages (Some k) rows below leaves = refl
 
-settled_height : (o : Option ℕ) (rows : List (Row ℕ)) (below : List (List (Node ℕ))) → length (settled o rows below) ≡ length below
+settled_height : (o : Option ℕ) (rows : List (Row ℕ)) (below : List (List (Node ℕ))) → length (below_loss o rows below) ≡ length below
 settled_height None rows below = edged_height rows below
 settled_height (Some k) rows below = refl
 
@@ -40,7 +40,7 @@ settled_height (Some k) rows below = refl
 pub record IsLess (rows : List (Row ℕ)) (g : ℕ) (above : List (List (Node ℕ))) (leaves : List (Node Payload)) : Type 0 where
   pub has : HasKey g rows
   pub fits : Fits None (without g rows) above leaves
-  pub next : Fits None (shifted g rows) (edged (shifted g rows) above) leaves
+  pub next : Fits None (shifted g rows) (with_left_edges (shifted g rows) above) leaves
 
 abbrev pub IsLower : List (Row ℕ) → List (List (Node ℕ)) → List (Node Payload) → Option ℕ → Type 0
 IsLower rows above leaves None = Fits None rows above leaves
@@ -61,16 +61,16 @@ leaves_lower rows nodes (Some g) h = record {
 }
 
 abbrev Stands : List (Row ℕ) → List (Node ℕ) → List (List (Node ℕ)) → List (Node Payload) → Type 0
-Stands rows nodes below leaves = Level None rows nodes × Starts rows nodes × IsLinked 0 nodes × Fits None (rows_of nodes) (edged (rows_of nodes) below) leaves
+Stands rows nodes below leaves = Level None rows nodes × Starts rows nodes × IsLinked 0 nodes × Fits None (rows_of nodes) (with_left_edges (rows_of nodes) below) leaves
 
 level_lower : (g : ℕ) (rows : List (Row ℕ)) (nodes nodes' : List (Node ℕ)) (below : List (List (Node ℕ))) (leaves : List (Node Payload)) (o : Option ℕ) → IsCutOut g rows nodes nodes' o
-    → IsLess (rows_of nodes) g below leaves → IsLower rows (linked 0 nodes' ∷ settled o (rows_of nodes') below) leaves o
+    → IsLess (rows_of nodes) g below leaves → IsLower rows (linked 0 nodes' ∷ below_loss o (rows_of nodes') below) leaves o
 level_lower g rows nodes nodes' below leaves None h b = (
   linked_level 0 None rows nodes' h.level,
   linked_starts 0 rows nodes' h.starts,
   linked_is 0 nodes',
-  subst (λ R. Fits None R (edged (rows_of nodes') below) leaves) (sym (linked_rows 0 nodes')) (elim h.rows_are [
-    | inl e ↦ subst (λ R. Fits None R (edged R below) leaves) (sym e.1) b.next
+  subst (λ R. Fits None R (with_left_edges (rows_of nodes') below) leaves) (sym (linked_rows 0 nodes')) (elim h.rows_are [
+    | inl e ↦ subst (λ R. Fits None R (with_left_edges R below) leaves) (sym e.1) b.next
     | inr e ↦
         let f = subst (λ R. Fits None R below leaves) (sym e.1) b.fits in
         subst (λ l. Fits None (rows_of nodes') l leaves) (sym (edged_same (rows_of nodes') below leaves f)) f
@@ -87,16 +87,16 @@ level_lower g rows nodes nodes' below leaves (Some q) h b =
         subst (λ R. Fits None R below leaves) (sym (linked_rows 0 nodes' ∙ h.rows_are)) b.fits,
       );
       next = subst (λ N. Stands S N below leaves) (sym (heads_linked 0 S nodes')) (
-        linked_level 0 None S (heads S nodes') h.next,
-        linked_starts 0 S (heads S nodes') h.next_starts,
-        linked_is 0 (heads S nodes'),
-        subst (λ R. Fits None R (edged R below) leaves) (sym (linked_rows 0 (heads S nodes') ∙ h.next_rows)) b.next,
+        linked_level 0 None S (with_first_keys S nodes') h.next,
+        linked_starts 0 S (with_first_keys S nodes') h.next_starts,
+        linked_is 0 (with_first_keys S nodes'),
+        subst (λ R. Fits None R (with_left_edges R below) leaves) (sym (linked_rows 0 (with_first_keys S nodes') ∙ h.next_rows)) b.next,
       );
     })
 
 sunk_is : (k low : ℕ) (rows : List (Row ℕ)) (nodes : List (Node ℕ)) (more : List (List (Node ℕ))) (leaves : List (Node Payload)) → StartsAt low rows → Within low None rows
     → Level None rows nodes → Starts rows nodes → IsLinked 0 nodes → (b : Shrunk) (o : Option ℕ) → IsShrunk k (rows_of nodes) more leaves b o
-    → let t = sunk rows nodes b o in IsShrunk k rows (nodes ∷ more) leaves t t.gone
+    → let t = without_separator rows nodes b o in IsShrunk k rows (nodes ∷ more) leaves t t.gone_key
 sunk_is k low rows nodes more leaves at w l s linked b None h = record {
   contents = h.contents;
   fewer = λ p.
@@ -107,9 +107,9 @@ sunk_is k low rows nodes more leaves at w l s linked b None h = record {
   lower = (l, s, linked, h.lower);
 }
 sunk_is k low rows nodes more leaves at w l s is_linked b (Some g) h =
-    let c = take_out (index_without g) g rows nodes in
+    let c = take_row (index_without g) g rows nodes in
     let out = index_out_at g low rows nodes at w l s in
-    let below = settled c.gone (rows_of c.nodes) b.above in
+    let below = below_loss c.gone_key (rows_of c.nodes) b.above in
     record {
       contents = h.contents;
       fewer = λ p.
@@ -117,29 +117,29 @@ sunk_is k low rows nodes more leaves at w l s is_linked b (Some g) h =
           let f = count_append p (pages_of nodes) (all_pages more leaves) in
           let i = count_append p (pages_of (linked 0 c.nodes)) (all_pages below b.leaves) in
           let j = ap (count p) (linked_pages 0 c.nodes) in
-          let m = ap (count p) (settled_pages c.gone (rows_of c.nodes) b.above b.leaves) in
+          let m = ap (count p) (settled_pages c.gone_key (rows_of c.nodes) b.above b.leaves) in
           let n = out.fewer p in omega (arith, e, f, i, j, m, n);
-      height = ap suc (settled_height c.gone (rows_of c.nodes) b.above ∙ h.height);
-      lower = level_lower g rows nodes c.nodes b.above b.leaves c.gone out.left h.lower;
+      height = ap suc (settled_height c.gone_key (rows_of c.nodes) b.above ∙ h.height);
+      lower = level_lower g rows nodes c.nodes b.above b.leaves c.gone_key out.left h.lower;
     }
 
 pub shrunk_is : (k low : ℕ) (rows : List (Row ℕ)) (above : List (List (Node ℕ))) (leaves : List (Node Payload)) → StartsAt low rows → Within low None rows → Fits None rows above leaves
-    → let b = shrunk k rows above leaves in IsShrunk k rows above leaves b b.gone
+    → let b = shrunk k rows above leaves in IsShrunk k rows above leaves b b.gone_key
 shrunk_is k low rows [] leaves at w f =
-    let c = take_out (leaf_without k) k rows leaves in
+    let c = take_row (leaf_without k) k rows leaves in
     let is = leaf_taken_at k low rows leaves at w f.0 in
     record {
       contents = linked_rows 0 c.nodes ∙ is.contents;
       fewer = λ p. let e = is.fewer p in let g = ap (count p) (linked_pages 0 c.nodes) in omega (arith, e, g);
       height = refl;
-      lower = leaves_lower rows c.nodes c.gone is.left;
+      lower = leaves_lower rows c.nodes c.gone_key is.left;
     }
 shrunk_is k low rows (nodes ∷ more) leaves at w f =
     let b = shrunk k (rows_of nodes) more leaves in
-    sunk_is k low rows nodes more leaves at w f.0 f.1 f.2 b b.gone
+    sunk_is k low rows nodes more leaves at w f.0 f.1 f.2 b b.gone_key
     (shrunk_is k low (rows_of nodes) more leaves (rows_start low None rows nodes at f.0 f.1) (level_within low None rows nodes w f.0) f.3)
 
--- levels under one row, when those with one row are gone
+-- levels under one row, when those with one row are gone_key
 pub record IsCollapsed (low page : ℕ) (above : List (List (Node ℕ))) (leaves : List (Node Payload)) (t : Tree) : Type 0 where
   pub page' : ℕ
   fits : Fits None (record { key = low; value = page' } ∷ []) t.above t.leaves
@@ -190,18 +190,18 @@ nothing_under ((n ∷ ns) ∷ more) leaves f = absurd f.0
 
 -- what taking a row from a tree does
 pub record IsDeleted (root k : ℕ) (tree t : Tree) : Type 0 where
-  pub fits : Fits None (named_root root) t.above t.leaves
+  pub fits : Fits None (root_rows root) t.above t.leaves
   pub contents : rows_of t.leaves ≡ without k (rows_of tree.leaves)
   pub fewer : (p : ℕ) → count p (all_pages t.above t.leaves) ≤ count p (all_pages tree.above tree.leaves)
   pub height : length t.above ≤ length tree.above
 
-pub root_counts : (root p : ℕ) (above : List (List (Node ℕ))) (leaves : List (Node Payload)) → Fits None (named_root root) above leaves → count p (root ∷ []) ≤ count p (all_pages above leaves)
+pub root_counts : (root p : ℕ) (above : List (List (Node ℕ))) (leaves : List (Node Payload)) → Fits None (root_rows root) above leaves → count p (root ∷ []) ≤ count p (all_pages above leaves)
 root_counts root p [] leaves f = let e = ap (count p) (one_page 0 root leaves f.0) in omega (arith, e)
 root_counts root p (nodes ∷ more) leaves f =
     let e = ap (count p) (one_page 0 root nodes f.0) in let g = count_append p (pages_of nodes) (all_pages more leaves) in omega (arith, e, g)
 
-ended_is : (root k : ℕ) (tree : Tree) (b : Shrunk) (o : Option ℕ) → Fits None (named_root root) tree.above tree.leaves → IsShrunk k (named_root root) tree.above tree.leaves b o
-    → IsDeleted root k tree (ended root b o)
+ended_is : (root k : ℕ) (tree : Tree) (b : Shrunk) (o : Option ℕ) → Fits None (root_rows root) tree.above tree.leaves → IsShrunk k (root_rows root) tree.above tree.leaves b o
+    → IsDeleted root k tree (lowered root b o)
 ended_is root k tree b None f h =
     let c = collapsed_is 0 root b.above b.leaves h.lower in
     let u = collapsed b.above b.leaves in
@@ -219,11 +219,11 @@ ended_is root k tree b (Some g) f h = record {
   height = omega arith;
 }
   where
-    by_key : HasKey g (named_root root) → Fits None [] b.above b.leaves
+    by_key : HasKey g (root_rows root) → Fits None [] b.above b.leaves
     by_key (inl e) = let z = eq-eqb g 0 e in rw z at h.lower.fits
     by_key (inr none) = absurd none
 
-pub deleted_is : (root k : ℕ) (tree : Tree) → Fits None (named_root root) tree.above tree.leaves → IsDeleted root k tree (deleted root k tree)
+pub deleted_is : (root k : ℕ) (tree : Tree) → Fits None (root_rows root) tree.above tree.leaves → IsDeleted root k tree (deleted root k tree)
 deleted_is root k tree f =
-    let b = shrunk k (named_root root) tree.above tree.leaves in
-    ended_is root k tree b b.gone f (shrunk_is k 0 (named_root root) tree.above tree.leaves refl (omega arith, tt, tt) f)
+    let b = shrunk k (root_rows root) tree.above tree.leaves in
+    ended_is root k tree b b.gone_key f (shrunk_is k 0 (root_rows root) tree.above tree.leaves refl (omega arith, tt, tt) f)

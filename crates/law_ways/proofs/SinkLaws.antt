@@ -3,12 +3,12 @@
 use Rattle.std.proofs.Common.{◌≡◌, ℕ, suc, ◌≤◌, Bool, true, false, List, [], ◌∷◌, ◌++◌, Option, Some, None, nat_lt, refl, sym, ap, ◌∙◌, subst, inl, inr, arith}
 use Rattle.std.proofs.lemmas.Bool.{cases_Bool, eq-eqb, ne_eqb, ltb-false}
 use Rattle.spec_levels.specs.Levels.{Row, Node, rows_of, pages_of, first_page, IsLinked, Payload}
-use Rattle.spec_ways.specs.Climbs.{prev_is, Grows}
-use Rattle.spec_ways.specs.Delete.{headed, Taken, left_with, take_out, leaf_without, index_without, heads, edged, Shrunk, settled, sunk, shrunk}
-use Rattle.spec_ways.specs.Insert.{linked, key_of_first}
-use Rattle.spec_ways.specs.Rows.{without}
-use Rattle.spec_ways.specs.Sinks.{Loss, Untouched, Keeps, Goes, loss_of, gone_of, edge_of, Sink, sunk_at, sink, next_is, edge_is, lost, IsSunk, AreSunk}
-use Rattle.spec_ways.specs.Ways.{child_toward, key_toward, Path, under, at_leaf, toward, path_from}
+use Rattle.spec_ways.specs.Climbs.{with_first_prev, Grows}
+use Rattle.spec_ways.specs.Delete.{Taken, kept_page, take_row, leaf_without, index_without, with_first_keys, with_left_edges, Shrunk, below_loss, without_separator, shrunk}
+use Rattle.spec_ways.specs.Insert.{linked}
+use Rattle.spec_ways.specs.Rows.{with_first_key, lowest_key, without}
+use Rattle.spec_ways.specs.Sinks.{Loss, Untouched, Keeps, Goes, loss_of, gone_key_of, edge_of, Sink, sink_through, sink, with_last_next, with_edge, after_loss, IsSunk, AreSunk}
+use Rattle.spec_ways.specs.Ways.{child_toward, key_toward, Way, through, ending_at, through_child, way_from}
 use Rattle.law_ways.proofs.Bounds.{Within, shifted}
 use Rattle.law_ways.proofs.Fits.{Level, Starts, StartsAt, Fits, count, all_pages}
 use Rattle.law_ways.proofs.GrowLaws.{linked_rows, rows_start, count_append, alike_up}
@@ -45,85 +45,85 @@ key_same k g (r ∷ q ∷ rest) h = elim (cases_Bool (nat_lt k q.key)) [
 ]
 
 module _ {V : Type 0} where
-  edge_first : (e : Option ℕ) (nodes : List (Node V)) → first_page (edge_is e nodes) ≡ first_page nodes
+  edge_first : (e : Option ℕ) (nodes : List (Node V)) → first_page (with_edge e nodes) ≡ first_page nodes
   edge_first None nodes = refl
   edge_first (Some g) [] = refl
   edge_first (Some g) (n ∷ ns) = refl
 
-  relinked : (b q : ℕ) (e : Option ℕ) (nodes : List (Node V)) → IsLinked q nodes → linked b (edge_is e nodes) ≡ prev_is b (edge_is e nodes)
+  relinked : (b q : ℕ) (e : Option ℕ) (nodes : List (Node V)) → IsLinked q nodes → linked b (with_edge e nodes) ≡ with_first_prev b (with_edge e nodes)
   relinked b q None [] l = refl
   relinked b q (Some g) [] l = refl
   relinked b q None (n ∷ ns) l =
       ap (λ (p : ℕ). record { page = n.page; prev = b; next = p; rows = n.rows } ∷ linked n.page ns) (sym l.1)
       ∙ ap (λ l. record { page = n.page; prev = b; next = n.next; rows = n.rows } ∷ l) (linked_same n.page ns l.2)
   relinked b q (Some g) (n ∷ ns) l =
-      ap (λ (p : ℕ). record { page = n.page; prev = b; next = p; rows = headed g n.rows } ∷ linked n.page ns) (sym l.1)
-      ∙ ap (λ l. record { page = n.page; prev = b; next = n.next; rows = headed g n.rows } ∷ l) (linked_same n.page ns l.2)
+      ap (λ (p : ℕ). record { page = n.page; prev = b; next = p; rows = with_first_key g n.rows } ∷ linked n.page ns) (sym l.1)
+      ∙ ap (λ l. record { page = n.page; prev = b; next = n.next; rows = with_first_key g n.rows } ∷ l) (linked_same n.page ns l.2)
 
-  -- what linking the pages again changes where one is gone
+  -- what linking the pages again changes where one is gone_key
   linked_gone : (b : ℕ) (left : List (Node V)) (n : Node V) (right : List (Node V)) (e : Option ℕ) → IsLinked b (left ++ n ∷ right)
-      → linked b (left ++ edge_is e right) ≡ next_is (first_page right) left ++ prev_is n.prev (edge_is e right)
-  linked_gone b [] n right e l = relinked b n.page e right l.2 ∙ ap (λ p. prev_is p (edge_is e right)) (sym l.0)
+      → linked b (left ++ with_edge e right) ≡ with_last_next (first_page right) left ++ with_first_prev n.prev (with_edge e right)
+  linked_gone b [] n right e l = relinked b n.page e right l.2 ∙ ap (λ p. with_first_prev p (with_edge e right)) (sym l.0)
   linked_gone b (m ∷ []) n right e l =
-      ap (λ (p : ℕ). record { page = m.page; prev = p; next = first_page (edge_is e right); rows = m.rows } ∷ linked m.page (edge_is e right)) (sym l.0)
-      ∙ ap (λ (p : ℕ). record { page = m.page; prev = m.prev; next = p; rows = m.rows } ∷ linked m.page (edge_is e right)) (edge_first e right)
+      ap (λ (p : ℕ). record { page = m.page; prev = p; next = first_page (with_edge e right); rows = m.rows } ∷ linked m.page (with_edge e right)) (sym l.0)
+      ∙ ap (λ (p : ℕ). record { page = m.page; prev = m.prev; next = p; rows = m.rows } ∷ linked m.page (with_edge e right)) (edge_first e right)
       ∙ ap (λ l. record { page = m.page; prev = m.prev; next = first_page right; rows = m.rows } ∷ l) (linked_gone m.page [] n right e l.2)
   linked_gone b (m ∷ o ∷ ms) n right e l =
-      ap (λ (p : ℕ). record { page = m.page; prev = p; next = o.page; rows = m.rows } ∷ linked m.page (o ∷ ms ++ edge_is e right)) (sym l.0)
-      ∙ ap (λ (p : ℕ). record { page = m.page; prev = m.prev; next = p; rows = m.rows } ∷ linked m.page (o ∷ ms ++ edge_is e right)) (sym l.1)
+      ap (λ (p : ℕ). record { page = m.page; prev = p; next = o.page; rows = m.rows } ∷ linked m.page (o ∷ ms ++ with_edge e right)) (sym l.0)
+      ∙ ap (λ (p : ℕ). record { page = m.page; prev = m.prev; next = p; rows = m.rows } ∷ linked m.page (o ∷ ms ++ with_edge e right)) (sym l.1)
       ∙ ap (λ l. m ∷ l) (linked_gone m.page (o ∷ ms) n right e l.2)
 
   -- a row taken from a level, as its page tells
   abbrev left_taken : ℕ → List (Node V) → Node V → List (Node V) → List (Row V) → Taken V
-  left_taken key left n right rows = behind_left left (left_with key n rows right)
+  left_taken key left n right rows = behind_left left (kept_page key n rows right)
 
   taken_loss : (key : ℕ) (left : List (Node V)) (n : Node V) (right : List (Node V)) (rows : List (Row V)) (below : Option ℕ) → IsLinked 0 (left ++ n ∷ right)
-      → linked 0 (left_taken key left n right rows).nodes ≡ lost (loss_of rows below) None left n right
+      → linked 0 (left_taken key left n right rows).nodes ≡ after_loss (loss_of rows below) None left n right
   taken_loss key left n right [] below l = linked_gone 0 left n right None l
   taken_loss key left n right (y ∷ ys) below l = linked_step 0 left n right (Grows (y ∷ ys)) l
 
   taken_gone : (key : ℕ) (left : List (Node V)) (n : Node V) (right : List (Node V)) (rows : List (Row V)) (below : Option ℕ)
-      → (left_taken key left n right rows).gone ≡ gone_of key (loss_of rows below)
+      → (left_taken key left n right rows).gone_key ≡ gone_key_of key (loss_of rows below)
   taken_gone key left n right [] below = refl
   taken_gone key left n right (y ∷ ys) below = refl
 
 abbrev pub SunkCase : ℕ → List (Row ℕ) → List (Node ℕ) → List (Loss ℕ) → List (List (Node ℕ)) → List (List (Node ℕ)) → Option ℕ → Type 0
 SunkCase key rows ns losses above above' None = AreSunk None ns losses above above'
-SunkCase key rows ns losses above above' (Some g) = (g ≡ key) × AreSunk None ns losses above above' × AreSunk (Some g) ns losses above (edged (shifted g rows) above')
+SunkCase key rows ns losses above above' (Some g) = (g ≡ key) × AreSunk None ns losses above above' × AreSunk (Some g) ns losses above (with_left_edges (shifted g rows) above')
 
 abbrev from_taken : List (Row ℕ) → Shrunk → Taken ℕ → Shrunk
-from_taken rows b c = record { above = linked 0 c.nodes ∷ settled c.gone (rows_of c.nodes) b.above; leaves = b.leaves; gone = c.gone }
+from_taken rows b c = record { above = linked 0 c.nodes ∷ below_loss c.gone_key (rows_of c.nodes) b.above; leaves = b.leaves; gone_key = c.gone_key }
 
-first_is : (key : ℕ) (xs : List (Row ℕ)) → StartsAt key xs → key_of_first xs ≡ key
+first_is : (key : ℕ) (xs : List (Row ℕ)) → StartsAt key xs → lowest_key xs ≡ key
 first_is key [] s = absurd s
 first_is key (x ∷ xs) s = s
 
 edge_yes : (g key : ℕ) (xs : List (Row ℕ)) → StartsAt key xs → g ≡ key → edge_of g xs ≡ Some g
-edge_yes g key xs s same = let e = eq-eqb g (key_of_first xs) (same ∙ sym (first_is key xs s)) in rw e refl
+edge_yes g key xs s same = let e = eq-eqb g (lowest_key xs) (same ∙ sym (first_is key xs s)) in rw e refl
 
 edge_no : (g key : ℕ) (xs : List (Row ℕ)) → StartsAt key xs → (g ≡ key → ⊥) → edge_of g xs ≡ None
-edge_no g key xs s other = let e = ne_eqb g (key_of_first xs) (λ same. other (same ∙ first_is key xs s)) in rw e refl
+edge_no g key xs s other = let e = ne_eqb g (lowest_key xs) (λ same. other (same ∙ first_is key xs s)) in rw e refl
 
 -- one level more
 module _ (k low : ℕ) (rows : List (Row ℕ)) (nodes : List (Node ℕ)) (more : List (List (Node ℕ))) (s : Spot k low rows nodes) (st : Starts rows nodes) (links : IsLinked 0 nodes)
     (ns : List (Node ℕ)) (losses : List (Loss ℕ)) (leaves : List (Node Payload)) (b : Shrunk) (g : ℕ) (alike : AreAlike k g rows) where
   sunk_level : (rs : List (Row ℕ)) → IsOut g rows nodes (left_taken s.key s.left s.node s.right rs) → AreSunk None ns losses more b.above
-      → AreSunk (Some g) ns losses more (edged (shifted g (rows_of nodes)) b.above) → Fits None (without g (rows_of nodes)) b.above b.leaves
+      → AreSunk (Some g) ns losses more (with_left_edges (shifted g (rows_of nodes)) b.above) → Fits None (without g (rows_of nodes)) b.above b.leaves
       → let t = from_taken rows b (left_taken s.key s.left s.node s.right rs) in
-      SunkCase s.key rows (s.node ∷ ns) (loss_of rs (edge_of g s.node.rows) ∷ losses) (nodes ∷ more) t.above t.gone
+      SunkCase s.key rows (s.node ∷ ns) (loss_of rs (edge_of g s.node.rows) ∷ losses) (nodes ∷ more) t.above t.gone_key
   sunk_level [] out plain edge f =
       let h = out.left in
       let S = shifted g rows in
       let nodes' = s.left ++ s.right in
       let at : g ≡ s.key = sym h.same in
       let l = subst (IsLinked 0) s.nodes_are links in
-      let heads_are : heads S (linked 0 nodes') ≡ linked 0 (s.left ++ edge_is (Some g) s.right) = heads_linked 0 S nodes' ∙ ap (linked 0) (s.edges g at st) in (
+      let heads_are : with_first_keys S (linked 0 nodes') ≡ linked 0 (s.left ++ with_edge (Some g) s.right) = heads_linked 0 S nodes' ∙ ap (linked 0) (s.edges g at st) in (
         refl,
-        (record { left = s.left; right = s.right; before = s.nodes_are; now = linked_gone 0 s.left s.node s.right None l }, plain),
-        subst (λ j. AreSunk (Some j) (s.node ∷ ns) (Goes ∷ losses) (nodes ∷ more) (edged (shifted j rows) (linked 0 nodes' ∷ b.above))) at (
-          record { left = s.left; right = s.right; before = s.nodes_are; now = heads_are ∙ linked_gone 0 s.left s.node s.right (Some g) l },
-          subst (λ R. AreSunk (Some g) ns losses more (edged R b.above))
-              (sym (ap (λ l. rows_of l) (heads_linked 0 S nodes') ∙ linked_rows 0 (heads S nodes') ∙ h.next_rows)) edge,
+        (record { left = s.left; right = s.right; was = s.nodes_are; is = linked_gone 0 s.left s.node s.right None l }, plain),
+        subst (λ j. AreSunk (Some j) (s.node ∷ ns) (Goes ∷ losses) (nodes ∷ more) (with_left_edges (shifted j rows) (linked 0 nodes' ∷ b.above))) at (
+          record { left = s.left; right = s.right; was = s.nodes_are; is = heads_are ∙ linked_gone 0 s.left s.node s.right (Some g) l },
+          subst (λ R. AreSunk (Some g) ns losses more (with_left_edges R b.above))
+              (sym (ap (λ l. rows_of l) (heads_linked 0 S nodes') ∙ linked_rows 0 (with_first_keys S nodes') ∙ h.next_rows)) edge,
         ),
       )
   sunk_level (y ∷ ys) out plain edge f =
@@ -131,11 +131,11 @@ module _ (k low : ℕ) (rows : List (Row ℕ)) (nodes : List (Node ℕ)) (more :
       let nodes' = (left_taken s.key s.left s.node s.right (y ∷ ys)).nodes in
       let l = subst (IsLinked 0) s.nodes_are links in
       let same_key : h.key ≡ s.key = sym h.key_is ∙ key_same k g rows alike ∙ s.key_is in (
-        record { left = s.left; right = s.right; before = s.nodes_are; now = linked_step 0 s.left s.node s.right (Grows (y ∷ ys)) l },
+        record { left = s.left; right = s.right; was = s.nodes_are; is = linked_step 0 s.left s.node s.right (Grows (y ∷ ys)) l },
         elim h.rows_are [
-          | inl a ↦ subst (λ e. AreSunk e ns losses more (edged (rows_of nodes') b.above)) (sym (edge_yes g s.key s.node.rows (s.starts st) (a.0 ∙ same_key)))
-              (subst (λ R. AreSunk (Some g) ns losses more (edged R b.above)) (sym a.1) edge)
-          | inr c ↦ subst (λ e. AreSunk e ns losses more (edged (rows_of nodes') b.above)) (sym (edge_no g s.key s.node.rows (s.starts st) (λ e. c.0 (e ∙ sym same_key))))
+          | inl a ↦ subst (λ e. AreSunk e ns losses more (with_left_edges (rows_of nodes') b.above)) (sym (edge_yes g s.key s.node.rows (s.starts st) (a.0 ∙ same_key)))
+              (subst (λ R. AreSunk (Some g) ns losses more (with_left_edges R b.above)) (sym a.1) edge)
+          | inr c ↦ subst (λ e. AreSunk e ns losses more (with_left_edges (rows_of nodes') b.above)) (sym (edge_no g s.key s.node.rows (s.starts st) (λ e. c.0 (e ∙ sym same_key))))
               (subst (λ l. AreSunk None ns losses more l)
               (sym (edged_same (rows_of nodes') b.above b.leaves (subst (λ R. Fits None R b.above b.leaves) (sym c.1) f))) plain)
         ],
@@ -143,11 +143,11 @@ module _ (k low : ℕ) (rows : List (Row ℕ)) (nodes : List (Node ℕ)) (more :
 
 -- a row taken from levels
 pub record Sinks (k : ℕ) (rows : List (Row ℕ)) (above : List (List (Node ℕ))) (leaves : List (Node Payload)) (b : Shrunk) : Type 0 where
-  pub way : Path
-  pub is : path_from k above leaves (child_toward k rows) ≡ Some way
+  pub way : Way
+  pub is : way_from k above leaves (child_toward k rows) ≡ Some way
   pub leaf_loss : IsSunk way.leaf (sink (key_toward k rows) k way.above way.leaf).leaf None leaves b.leaves
-  pub gone_is : b.gone ≡ (sink (key_toward k rows) k way.above way.leaf).gone
-  pub above_losses : SunkCase (key_toward k rows) rows way.above (sink (key_toward k rows) k way.above way.leaf).above above b.above b.gone
+  pub gone_is : b.gone_key ≡ (sink (key_toward k rows) k way.above way.leaf).gone_key
+  pub above_losses : SunkCase (key_toward k rows) rows way.above (sink (key_toward k rows) k way.above way.leaf).above above b.above b.gone_key
 
 sinks_leaves : (k low : ℕ) (rows : List (Row ℕ)) (leaves : List (Node Payload)) → StartsAt low rows → Within low None rows → Level None rows leaves → IsLinked 0 leaves
     → ((p : ℕ) → count p (pages_of leaves) ≤ 1) → Sinks k rows [] leaves (shrunk k rows [] leaves)
@@ -156,32 +156,32 @@ sinks_leaves k low rows leaves at w l links once =
     let rs = without k s.node.rows in
     let is = s.takes (leaf_without k) k (alike_same k rows) in
     let key = key_toward k rows in
-    let gone : (take_out (leaf_without k) k rows leaves).gone ≡ gone_of key (loss_of rs None) =
-    ap (λ (c : Taken Payload). c.gone) is ∙ taken_gone s.key s.left s.node s.right rs None ∙ ap (λ j. gone_of j (loss_of rs None)) (sym s.key_is) in
+    let gone_key : (take_row (leaf_without k) k rows leaves).gone_key ≡ gone_key_of key (loss_of rs None) =
+    ap (λ (c : Taken Payload). c.gone_key) is ∙ taken_gone s.key s.left s.node s.right rs None ∙ ap (λ j. gone_key_of j (loss_of rs None)) (sym s.key_is) in
     record {
       way = record { above = []; leaf = s.node };
-      is = ap at_leaf s.is;
+      is = ap ending_at s.is;
       leaf_loss = record {
         left = s.left;
         right = s.right;
-        before = s.nodes_are;
-        now = ap (λ (c : Taken Payload). linked 0 c.nodes) is ∙ taken_loss s.key s.left s.node s.right rs None (subst (IsLinked 0) s.nodes_are links);
+        was = s.nodes_are;
+        is = ap (λ (c : Taken Payload). linked 0 c.nodes) is ∙ taken_loss s.key s.left s.node s.right rs None (subst (IsLinked 0) s.nodes_are links);
       };
-      gone_is = gone;
-      above_losses = subst (SunkCase key rows [] [] [] []) (sym gone) (by_loss key (loss_of rs None));
+      gone_is = gone_key;
+      above_losses = subst (SunkCase key rows [] [] [] []) (sym gone_key) (by_loss key (loss_of rs None));
     }
   where
-    by_loss : (key : ℕ) (loss : Loss Payload) → SunkCase key rows [] [] [] [] (gone_of key loss)
+    by_loss : (key : ℕ) (loss : Loss Payload) → SunkCase key rows [] [] [] [] (gone_key_of key loss)
     by_loss key Untouched = tt
     by_loss key (Keeps rs e) = tt
     by_loss key Goes = (refl, tt, tt)
 
 -- one level more
 record Sinking (k : ℕ) (rows : List (Row ℕ)) (nodes : List (Node ℕ)) (more : List (List (Node ℕ))) (n : Node ℕ) (ns : List (Node ℕ)) (b : Shrunk) (c : Sink) (o : Option ℕ) : Type 0 where
-  leaf_is : (sunk_at (key_toward k rows) n c o).leaf ≡ c.leaf
-  leaves_are : (sunk rows nodes b o).leaves ≡ b.leaves
-  gone_is : (sunk rows nodes b o).gone ≡ (sunk_at (key_toward k rows) n c o).gone
-  above_losses : SunkCase (key_toward k rows) rows (n ∷ ns) (sunk_at (key_toward k rows) n c o).above (nodes ∷ more) (sunk rows nodes b o).above (sunk rows nodes b o).gone
+  leaf_is : (sink_through (key_toward k rows) n c o).leaf ≡ c.leaf
+  leaves_are : (without_separator rows nodes b o).leaves ≡ b.leaves
+  gone_is : (without_separator rows nodes b o).gone_key ≡ (sink_through (key_toward k rows) n c o).gone_key
+  above_losses : SunkCase (key_toward k rows) rows (n ∷ ns) (sink_through (key_toward k rows) n c o).above (nodes ∷ more) (without_separator rows nodes b o).above (without_separator rows nodes b o).gone_key
 
 sinking : (k low : ℕ) (rows : List (Row ℕ)) (nodes : List (Node ℕ)) (more : List (List (Node ℕ))) → StartsAt low rows → Within low None rows → Level None rows nodes
     → (s : Spot k low rows nodes) → Starts rows nodes → IsLinked 0 nodes
@@ -191,23 +191,23 @@ sinking k low rows nodes more at w l s st links ns b c None case lower alike = r
   leaf_is = refl;
   leaves_are = refl;
   gone_is = refl;
-  above_losses = (record { left = s.left; right = s.right; before = s.nodes_are; now = s.nodes_are }, case);
+  above_losses = (record { left = s.left; right = s.right; was = s.nodes_are; is = s.nodes_are }, case);
 }
 sinking k low rows nodes more at w l s st links ns b c (Some g) case lower alike =
     let alike_g = subst (λ j. AreAlike k j rows) (sym case.0) alike in
-    let rs = headed s.key (without g s.node.rows) in
+    let rs = with_first_key s.key (without g s.node.rows) in
     let is = s.takes (index_without g) g alike_g in
     let t = left_taken s.key s.left s.node s.right rs in
     let out = subst (IsOut g rows nodes) is (index_out_at g low rows nodes at w l st) in
     let key = key_toward k rows in
     let e = edge_of g s.node.rows in
-    let loss = λ (j : ℕ). loss_of (headed j (without g s.node.rows)) e in
+    let loss = λ (j : ℕ). loss_of (with_first_key j (without g s.node.rows)) e in
     record {
       leaf_is = refl;
       leaves_are = refl;
-      gone_is = ap (λ (c : Taken ℕ). c.gone) is ∙ taken_gone s.key s.left s.node s.right rs e ∙ ap (λ j. gone_of j (loss j)) (sym s.key_is);
-      above_losses = subst (λ (u : Taken ℕ). SunkCase key rows (s.node ∷ ns) (loss key ∷ c.above) (nodes ∷ more) (from_taken rows b u).above u.gone) (sym is)
-          (subst (λ j. SunkCase j rows (s.node ∷ ns) (loss j ∷ c.above) (nodes ∷ more) (from_taken rows b t).above t.gone) (sym s.key_is)
+      gone_is = ap (λ (c : Taken ℕ). c.gone_key) is ∙ taken_gone s.key s.left s.node s.right rs e ∙ ap (λ j. gone_key_of j (loss j)) (sym s.key_is);
+      above_losses = subst (λ (u : Taken ℕ). SunkCase key rows (s.node ∷ ns) (loss key ∷ c.above) (nodes ∷ more) (from_taken rows b u).above u.gone_key) (sym is)
+          (subst (λ j. SunkCase j rows (s.node ∷ ns) (loss j ∷ c.above) (nodes ∷ more) (from_taken rows b t).above t.gone_key) (sym s.key_is)
           (sunk_level k low rows nodes more s st links ns c.above b.leaves b g alike_g rs out case.1 case.2 lower.fits));
     }
 
@@ -227,17 +227,17 @@ sinks k low rows (nodes ∷ more) leaves le at w f once =
     let key = key_toward k rows in
     let lower = shrunk_is k low (rows_of nodes) more leaves at_more within_more f.3 in
     let alike = alike_up k below None rows nodes f.0 f.1 (toward_alike k low (rows_of nodes) at_more within_more le) in
-    let r = sinking k low rows nodes more at w f.0 s f.1 f.2 h.way.above b (c below) b.gone h.above_losses lower.lower alike in
-    let t = sunk rows nodes b b.gone in
-    let end = λ (j : ℕ) (o : Option ℕ). sunk_at key s.node (c j) o in
+    let r = sinking k low rows nodes more at w f.0 s f.1 f.2 h.way.above b (c below) b.gone_key h.above_losses lower.lower alike in
+    let t = without_separator rows nodes b b.gone_key in
+    let end = λ (j : ℕ) (o : Option ℕ). sink_through key s.node (c j) o in
     record {
       way = record { above = s.node ∷ h.way.above; leaf = h.way.leaf };
-      is = ap (toward (path_from k more leaves) k) s.is ∙ ap (λ q. under s.node (path_from k more leaves q)) (spot_child k low rows nodes s le f.1) ∙ ap (under s.node) h.is;
-      leaf_loss = subst (λ j. IsSunk h.way.leaf (end j (c j).gone).leaf None leaves t.leaves) (sym key_is)
+      is = ap (through_child (way_from k more leaves) k) s.is ∙ ap (λ q. through s.node (way_from k more leaves q)) (spot_child k low rows nodes s le f.1) ∙ ap (through s.node) h.is;
+      leaf_loss = subst (λ j. IsSunk h.way.leaf (end j (c j).gone_key).leaf None leaves t.leaves) (sym key_is)
           (subst (λ o. IsSunk h.way.leaf (end below o).leaf None leaves t.leaves) h.gone_is
           (subst (λ loss. IsSunk h.way.leaf loss None leaves t.leaves) (sym r.leaf_is)
           (subst (IsSunk h.way.leaf (c below).leaf None leaves) (sym r.leaves_are) h.leaf_loss)));
-      gone_is = r.gone_is ∙ ap (λ o. (end below o).gone) h.gone_is ∙ ap (λ j. (end j (c j).gone).gone) (sym key_is);
-      above_losses = subst (λ j. SunkCase key rows (s.node ∷ h.way.above) (end j (c j).gone).above (nodes ∷ more) t.above t.gone) (sym key_is)
-          (subst (λ o. SunkCase key rows (s.node ∷ h.way.above) (end below o).above (nodes ∷ more) t.above t.gone) h.gone_is r.above_losses);
+      gone_is = r.gone_is ∙ ap (λ o. (end below o).gone_key) h.gone_is ∙ ap (λ j. (end j (c j).gone_key).gone_key) (sym key_is);
+      above_losses = subst (λ j. SunkCase key rows (s.node ∷ h.way.above) (end j (c j).gone_key).above (nodes ∷ more) t.above t.gone_key) (sym key_is)
+          (subst (λ o. SunkCase key rows (s.node ∷ h.way.above) (end below o).above (nodes ∷ more) t.above t.gone_key) h.gone_is r.above_losses);
     }

@@ -2,22 +2,23 @@
 use Rattle.std.proofs.Common.{◌≡◌, ◌⊎◌, ℕ, suc, ◌<◌, ◌≤◌, true, false, List, [], ◌∷◌, ◌++◌, Option, Some, None, nat_lt, refl, sym, ap, ◌∙◌, subst, inl, inr, arith}
 use Rattle.std.proofs.lemmas.Bool.{cases_eq, cases_Bool, le-ltb, ltb-false, eq-eqb, ne_eqb}
 use Rattle.spec_levels.specs.Levels.{Row, Node, rows_of, first_page, IsBelow, pages_of, Payload}
-use Rattle.spec_ways.specs.Delete.{headed, Taken, left_with, past, take_out, leaf_without, index_without, heads}
-use Rattle.spec_ways.specs.Insert.{linked, is_here}
-use Rattle.spec_ways.specs.Rows.{without}
-use Rattle.spec_ways.specs.Ways.{toward_by, key_toward}
+use Rattle.law_ways.proofs.Bounds.{toward_by}
+use Rattle.spec_ways.specs.Delete.{Taken, kept_page, before_taken, take_row, leaf_without, index_without, with_first_keys}
+use Rattle.spec_ways.specs.Insert.{linked}
+use Rattle.spec_ways.specs.Rows.{with_first_key, is_below_first, without}
+use Rattle.spec_ways.specs.Ways.{key_toward}
 use Rattle.law_ways.proofs.Bounds.{Within, next_key, shifted, HasKey}
 use Rattle.law_ways.proofs.Fits.{Level, Starts, StartsAt, count}
 use Rattle.law_ways.proofs.PutLaws.{level_within, here_within}
 use Rattle.law_ways.proofs.RowLaws.{below_below, from_lower, to_higher, without_same, without_other, without_within, without_left, without_right}
 
-pub toward_here : (of : Row ℕ → ℕ) (k : ℕ) (r : Row ℕ) (rest : List (Row ℕ)) → is_here k rest ≡ true → toward_by of k (r ∷ rest) ≡ of r
+pub toward_here : (of : Row ℕ → ℕ) (k : ℕ) (r : Row ℕ) (rest : List (Row ℕ)) → is_below_first k rest ≡ true → toward_by of k (r ∷ rest) ≡ of r
 toward_here of k r rest e = rw e refl
 
-pub toward_later : (of : Row ℕ → ℕ) (k : ℕ) (r : Row ℕ) (rest : List (Row ℕ)) → is_here k rest ≡ false → toward_by of k (r ∷ rest) ≡ toward_by of k rest
+pub toward_later : (of : Row ℕ → ℕ) (k : ℕ) (r : Row ℕ) (rest : List (Row ℕ)) → is_below_first k rest ≡ false → toward_by of k (r ∷ rest) ≡ toward_by of k rest
 toward_later of k r rest e = rw e refl
 
-pub shifted_same : (k : ℕ) (r : Row ℕ) (rest : List (Row ℕ)) → k ≡ r.key → shifted k (r ∷ rest) ≡ headed k rest
+pub shifted_same : (k : ℕ) (r : Row ℕ) (rest : List (Row ℕ)) → k ≡ r.key → shifted k (r ∷ rest) ≡ with_first_key k rest
 shifted_same k r rest same = let e = eq-eqb k r.key same in rw e refl
 
 pub shifted_other : (k : ℕ) (r : Row ℕ) (rest : List (Row ℕ)) → (k ≡ r.key → ⊥) → shifted k (r ∷ rest) ≡ r ∷ shifted k rest
@@ -29,54 +30,54 @@ shifted_right low mid k (z ∷ zs) ys le w =
     shifted_other k z (zs ++ ys) (λ same. omega (arith, same, le, w.1)) ∙ ap (λ l. z ∷ l) (shifted_right (suc z.key) mid k zs ys le w.2)
 
 module _ {V : Type 0} where
-  headed_within : (low k : ℕ) (high : Option ℕ) (xs : List (Row V)) → k ≤ low → Within low high xs → Within k high (headed k xs)
+  headed_within : (low k : ℕ) (high : Option ℕ) (xs : List (Row V)) → k ≤ low → Within low high xs → Within k high (with_first_key k xs)
   headed_within low k high [] le w = w
   headed_within low k high (x ∷ xs) le w =
       (omega arith, below_below k x.key high (omega (arith, le, w.0)) w.1, from_lower (suc x.key) (suc k) high xs (omega (arith, le, w.0)) w.2)
 
-  pub headed_same : (k : ℕ) (xs : List (Row V)) → StartsAt k xs → headed k xs ≡ xs
+  pub headed_same : (k : ℕ) (xs : List (Row V)) → StartsAt k xs → with_first_key k xs ≡ xs
   headed_same k [] s = refl
   headed_same k (x ∷ xs) s = ap (λ (j : ℕ). record { key = j; value = x.value } ∷ xs) (sym s)
 
-  headed_append : (k low : ℕ) (xs ys : List (Row V)) → StartsAt low xs → headed k (xs ++ ys) ≡ headed k xs ++ ys
+  headed_append : (k low : ℕ) (xs ys : List (Row V)) → StartsAt low xs → with_first_key k (xs ++ ys) ≡ with_first_key k xs ++ ys
   headed_append k low [] ys s = absurd s
   headed_append k low (x ∷ xs) ys s = refl
 
-  headed_starts : (k low : ℕ) (xs : List (Row V)) → StartsAt low xs → StartsAt k (headed k xs)
+  headed_starts : (k low : ℕ) (xs : List (Row V)) → StartsAt low xs → StartsAt k (with_first_key k xs)
   headed_starts k low [] s = absurd s
   headed_starts k low (x ∷ xs) s = refl
 
   -- pages that begin with the keys of their rows
-  pub heads_same : (rows : List (Row ℕ)) (nodes : List (Node V)) → Starts rows nodes → heads rows nodes ≡ nodes
+  pub heads_same : (rows : List (Row ℕ)) (nodes : List (Node V)) → Starts rows nodes → with_first_keys rows nodes ≡ nodes
   heads_same [] nodes s = refl
   heads_same (r ∷ rest) [] s = refl
   heads_same (r ∷ rest) (n ∷ ns) s =
-      ap (λ (rs : List (Row V)). record { page = n.page; prev = n.prev; next = n.next; rows = rs } ∷ heads rest ns) (headed_same r.key n.rows s.0)
+      ap (λ (rs : List (Row V)). record { page = n.page; prev = n.prev; next = n.next; rows = rs } ∷ with_first_keys rest ns) (headed_same r.key n.rows s.0)
       ∙ ap (λ l. n ∷ l) (heads_same rest ns s.1)
 
-  pub heads_first : (rows : List (Row ℕ)) (nodes : List (Node V)) → first_page (heads rows nodes) ≡ first_page nodes
+  pub heads_first : (rows : List (Row ℕ)) (nodes : List (Node V)) → first_page (with_first_keys rows nodes) ≡ first_page nodes
   heads_first [] nodes = refl
   heads_first (r ∷ rest) [] = refl
   heads_first (r ∷ rest) (n ∷ ns) = refl
 
-  pub heads_linked : (b : ℕ) (rows : List (Row ℕ)) (nodes : List (Node V)) → heads rows (linked b nodes) ≡ linked b (heads rows nodes)
+  pub heads_linked : (b : ℕ) (rows : List (Row ℕ)) (nodes : List (Node V)) → with_first_keys rows (linked b nodes) ≡ linked b (with_first_keys rows nodes)
   heads_linked b [] nodes = refl
   heads_linked b (r ∷ rest) [] = refl
   heads_linked b (r ∷ rest) (n ∷ ns) =
-      ap (λ (q : ℕ). record { page = n.page; prev = b; next = q; rows = headed r.key n.rows } ∷ heads rest (linked n.page ns)) (sym (heads_first rest ns))
-      ∙ ap (λ l. record { page = n.page; prev = b; next = first_page (heads rest ns); rows = headed r.key n.rows } ∷ l) (heads_linked n.page rest ns)
+      ap (λ (q : ℕ). record { page = n.page; prev = b; next = q; rows = with_first_key r.key n.rows } ∷ with_first_keys rest (linked n.page ns)) (sym (heads_first rest ns))
+      ∙ ap (λ l. record { page = n.page; prev = b; next = first_page (with_first_keys rest ns); rows = with_first_key r.key n.rows } ∷ l) (heads_linked n.page rest ns)
 
-  pub heads_pages : (rows : List (Row ℕ)) (nodes : List (Node V)) → pages_of (heads rows nodes) ≡ pages_of nodes
+  pub heads_pages : (rows : List (Row ℕ)) (nodes : List (Node V)) → pages_of (with_first_keys rows nodes) ≡ pages_of nodes
   heads_pages [] nodes = refl
   heads_pages (r ∷ rest) [] = refl
   heads_pages (r ∷ rest) (n ∷ ns) = ap (λ l. n.page ∷ l) (heads_pages rest ns)
 
-  take_here : (change : ℕ → List (Row V) → List (Row V)) (k : ℕ) (r : Row ℕ) (rest : List (Row ℕ)) (n : Node V) (ns : List (Node V)) → is_here k rest ≡ true
-      → take_out change k (r ∷ rest) (n ∷ ns) ≡ left_with r.key n (change r.key n.rows) ns
+  take_here : (change : ℕ → List (Row V) → List (Row V)) (k : ℕ) (r : Row ℕ) (rest : List (Row ℕ)) (n : Node V) (ns : List (Node V)) → is_below_first k rest ≡ true
+      → take_row change k (r ∷ rest) (n ∷ ns) ≡ kept_page r.key n (change r.key n.rows) ns
   take_here change k r rest n ns e = rw e refl
 
-  pub take_later : (change : ℕ → List (Row V) → List (Row V)) (k : ℕ) (r : Row ℕ) (rest : List (Row ℕ)) (n : Node V) (ns : List (Node V)) → is_here k rest ≡ false
-      → take_out change k (r ∷ rest) (n ∷ ns) ≡ past n (take_out change k rest ns)
+  pub take_later : (change : ℕ → List (Row V) → List (Row V)) (k : ℕ) (r : Row ℕ) (rest : List (Row ℕ)) (n : Node V) (ns : List (Node V)) → is_below_first k rest ≡ false
+      → take_row change k (r ∷ rest) (n ∷ ns) ≡ before_taken n (take_row change k rest ns)
   take_later change k r rest n ns e = rw e refl
 
 -- the bound behind a page, where a row goes or is passed on, is no lower
@@ -96,7 +97,7 @@ wider_shifted k s rest j less = elim (cases_eq k s.key) [
   | inr other ↦ subst (λ l. IsBelow j (next_key l None)) (sym (shifted_other k s rest other)) less
 ]
   where
-    by_rest : (rest : List (Row ℕ)) → j < k → IsBelow j (next_key (headed k rest) None)
+    by_rest : (rest : List (Row ℕ)) → j < k → IsBelow j (next_key (with_first_key k rest) None)
     by_rest [] v = tt
     by_rest (t ∷ rest) v = v
 
@@ -122,7 +123,7 @@ module _ {V : Type 0} where
       (page, to_higher r.key (Some s.key) (next_key (shifted g (s ∷ rest)) None) n.rows (wider_shifted g s rest) within, l)
 
   -- the page behind one that goes takes the keys from its first on
-  next_level : (k : ℕ) (rest : List (Row ℕ)) (ns : List (Node V)) → Within (suc k) None rest → Level None rest ns → Level None (headed k rest) ns
+  next_level : (k : ℕ) (rest : List (Row ℕ)) (ns : List (Node V)) → Within (suc k) None rest → Level None rest ns → Level None (with_first_key k rest) ns
   next_level k [] [] w l = l
   next_level k [] (m ∷ ns) w l = l
   next_level k (s ∷ rest) [] w l = l
@@ -151,7 +152,7 @@ module _ {V : Type 0} where
 pub record IsTaken (k : ℕ) (rows : List (Row ℕ)) (nodes : List (Node Payload)) (c : Taken Payload) : Type 0 where
   pub contents : rows_of c.nodes ≡ without k (rows_of nodes)
   pub fewer : (p : ℕ) → count p (pages_of c.nodes) ≤ count p (pages_of nodes)
-  pub left : IsLeft rows c.nodes c.gone
+  pub left : IsLeft rows c.nodes c.gone_key
 
 gone_here : {V : Type 0} (r : Row ℕ) (rest : List (Row ℕ)) (ns : List (Node V)) → Within r.key None (r ∷ rest) → Level None rest ns → IsGone (r ∷ rest) r.key ns
 gone_here r rest ns w l = record {
@@ -161,7 +162,7 @@ gone_here r rest ns w l = record {
 }
 
 leaf_here : (k : ℕ) (r : Row ℕ) (rest : List (Row ℕ)) (n : Node Payload) (ns : List (Node Payload)) → Within r.key None (r ∷ rest) → Level None (r ∷ rest) (n ∷ ns)
-    → is_here k rest ≡ true → (rs : List (Row Payload)) → without k n.rows ≡ rs → IsTaken k (r ∷ rest) (n ∷ ns) (left_with r.key n rs ns)
+    → is_below_first k rest ≡ true → (rs : List (Row Payload)) → without k n.rows ≡ rs → IsTaken k (r ∷ rest) (n ∷ ns) (kept_page r.key n rs ns)
 leaf_here k r rest n ns w l e [] is = record {
   contents = ap (λ l. l ++ rows_of ns) (sym is) ∙ sym (without_left (suc k) None k n.rows (rows_of ns) (omega arith) (level_within (suc k) None rest ns (here_within k (suc r.key) None rest e w.2) l.2));
   fewer = λ p. omega arith;
@@ -174,26 +175,26 @@ leaf_here k r rest n ns w l e (y ∷ ys) is = record {
 }
 
 leaf_past : (k : ℕ) (r s : Row ℕ) (rest : List (Row ℕ)) (n m : Node Payload) (ns : List (Node Payload)) (c : Taken Payload) → Within r.key None (r ∷ s ∷ rest)
-    → Level None (r ∷ s ∷ rest) (n ∷ m ∷ ns) → s.key ≤ k → IsTaken k (s ∷ rest) (m ∷ ns) c → IsTaken k (r ∷ s ∷ rest) (n ∷ m ∷ ns) (past n c)
+    → Level None (r ∷ s ∷ rest) (n ∷ m ∷ ns) → s.key ≤ k → IsTaken k (s ∷ rest) (m ∷ ns) c → IsTaken k (r ∷ s ∷ rest) (n ∷ m ∷ ns) (before_taken n c)
 leaf_past k r s rest n m ns c w l le h = record {
   contents = ap (λ l. n.rows ++ l) h.contents ∙ sym (without_right r.key s.key k n.rows (rows_of (m ∷ ns)) le l.1);
   fewer = λ p. let e = h.fewer p in omega (arith, e);
-  left = left_past r s rest n c.nodes c.gone w l.0 l.1 h.left;
+  left = left_past r s rest n c.nodes c.gone_key w l.0 l.1 h.left;
 }
 
 leaf_taken : (k : ℕ) (r : Row ℕ) (rest : List (Row ℕ)) (n : Node Payload) (ns : List (Node Payload)) → Within r.key None (r ∷ rest) → Level None (r ∷ rest) (n ∷ ns)
-    → IsTaken k (r ∷ rest) (n ∷ ns) (take_out (leaf_without k) k (r ∷ rest) (n ∷ ns))
+    → IsTaken k (r ∷ rest) (n ∷ ns) (take_row (leaf_without k) k (r ∷ rest) (n ∷ ns))
 leaf_taken k r [] n [] w l = leaf_here k r [] n [] w l refl (without k n.rows) refl
 leaf_taken k r [] n (m ∷ ns) w l = absurd l.2
 leaf_taken k r (s ∷ rest) n [] w l = absurd l.2
 leaf_taken k r (s ∷ rest) n (m ∷ ns) w l = elim (cases_Bool (nat_lt k s.key)) [
   | inl e ↦ subst (IsTaken k (r ∷ s ∷ rest) (n ∷ m ∷ ns)) (sym (take_here (leaf_without k) k r (s ∷ rest) n (m ∷ ns) e)) (leaf_here k r (s ∷ rest) n (m ∷ ns) w l e (without k n.rows) refl)
   | inr e ↦ subst (IsTaken k (r ∷ s ∷ rest) (n ∷ m ∷ ns)) (sym (take_later (leaf_without k) k r (s ∷ rest) n (m ∷ ns) e))
-      (leaf_past k r s rest n m ns (take_out (leaf_without k) k (s ∷ rest) (m ∷ ns)) w l (ltb-false k s.key e) (leaf_taken k s rest m ns (omega arith, w.2.1, w.2.2) l.2))
+      (leaf_past k r s rest n m ns (take_row (leaf_without k) k (s ∷ rest) (m ∷ ns)) w l (ltb-false k s.key e) (leaf_taken k s rest m ns (omega arith, w.2.1, w.2.2) l.2))
 ]
 
 pub leaf_taken_at : (k low : ℕ) (rows : List (Row ℕ)) (nodes : List (Node Payload)) → StartsAt low rows → Within low None rows → Level None rows nodes
-    → IsTaken k rows nodes (take_out (leaf_without k) k rows nodes)
+    → IsTaken k rows nodes (take_row (leaf_without k) k rows nodes)
 leaf_taken_at k low [] nodes at w l = absurd at
 leaf_taken_at k low (r ∷ rest) [] at w l = absurd l
 leaf_taken_at k low (r ∷ rest) (n ∷ ns) at w l = leaf_taken k r rest n ns (omega arith, w.1, w.2) l
@@ -214,9 +215,9 @@ pub record IsMissing (k : ℕ) (rows : List (Row ℕ)) (g : ℕ) (nodes nodes' :
   pub rows_are : rows_of nodes' ≡ without k (rows_of nodes)
   pub level : Level None (without k rows) nodes'
   pub starts : Starts (without k rows) nodes'
-  pub next : Level None (shifted k rows) (heads (shifted k rows) nodes')
-  pub next_starts : Starts (shifted k rows) (heads (shifted k rows) nodes')
-  pub next_rows : rows_of (heads (shifted k rows) nodes') ≡ shifted k (rows_of nodes)
+  pub next : Level None (shifted k rows) (with_first_keys (shifted k rows) nodes')
+  pub next_starts : Starts (shifted k rows) (with_first_keys (shifted k rows) nodes')
+  pub next_rows : rows_of (with_first_keys (shifted k rows) nodes') ≡ shifted k (rows_of nodes)
 
 abbrev pub IsCutOut : ℕ → List (Row ℕ) → List (Node ℕ) → List (Node ℕ) → Option ℕ → Type 0
 IsCutOut k rows nodes nodes' None = IsKept k rows nodes nodes'
@@ -224,7 +225,7 @@ IsCutOut k rows nodes nodes' (Some g) = IsMissing k rows g nodes nodes'
 
 pub record IsOut (k : ℕ) (rows : List (Row ℕ)) (nodes : List (Node ℕ)) (c : Taken ℕ) : Type 0 where
   pub fewer : (p : ℕ) → count p (pages_of c.nodes) ≤ count p (pages_of nodes)
-  pub left : IsCutOut k rows nodes c.nodes c.gone
+  pub left : IsCutOut k rows nodes c.nodes c.gone_key
 
 -- a page with one row, which is taken
 one_row : (k key : ℕ) (xs : List (Row ℕ)) → StartsAt key xs → without k xs ≡ [] → (z : Row ℕ) × (xs ≡ z ∷ []) × (k ≡ z.key)
@@ -238,13 +239,13 @@ one_row k key (x ∷ xs) s none = elim (cases_eq k x.key) [
     some y ys e = cc
 
 more_rows : (k key : ℕ) (xs : List (Row ℕ)) (y : Row ℕ) (ys R : List (Row ℕ)) → StartsAt key xs → without k xs ≡ y ∷ ys
-    → (k ≡ key) × (headed key (y ∷ ys) ++ R ≡ shifted k (xs ++ R)) ⊎ (k ≡ key → ⊥) × (headed key (y ∷ ys) ++ R ≡ (y ∷ ys) ++ R)
+    → (k ≡ key) × (with_first_key key (y ∷ ys) ++ R ≡ shifted k (xs ++ R)) ⊎ (k ≡ key → ⊥) × (with_first_key key (y ∷ ys) ++ R ≡ (y ∷ ys) ++ R)
 more_rows k key [] y ys R s is = absurd s
 more_rows k key (x ∷ xs) y ys R s is = elim (cases_eq k x.key) [
   | inl same ↦ inl (
     same ∙ s,
-    ap (λ (j : ℕ). headed j (y ∷ ys) ++ R) (sym s ∙ sym same)
-        ∙ ap (λ l. headed k (l ++ R)) (sym is ∙ without_same k x xs same)
+    ap (λ (j : ℕ). with_first_key j (y ∷ ys) ++ R) (sym s ∙ sym same)
+        ∙ ap (λ l. with_first_key k (l ++ R)) (sym is ∙ without_same k x xs same)
         ∙ sym (shifted_same k x (xs ++ R) same),
   )
   | inr other ↦ inr (λ e. other (e ∙ sym s), ap (λ l. l ++ R) (headed_same key (y ∷ ys) (subst (StartsAt key) (sym (without_other k x xs other) ∙ is) s)))
@@ -252,7 +253,7 @@ more_rows k key (x ∷ xs) y ys R s is = elim (cases_eq k x.key) [
 
 -- the pages behind the one that goes, the edge of the first brought down
 next_heads : (k : ℕ) (rest : List (Row ℕ)) (ns : List (Node ℕ)) → Within (suc k) None rest → Level None rest ns → Starts rest ns
-    → Level None (headed k rest) (heads (headed k rest) ns) × Starts (headed k rest) (heads (headed k rest) ns) × (rows_of (heads (headed k rest) ns) ≡ headed k (rows_of ns))
+    → Level None (with_first_key k rest) (with_first_keys (with_first_key k rest) ns) × Starts (with_first_key k rest) (with_first_keys (with_first_key k rest) ns) × (rows_of (with_first_keys (with_first_key k rest) ns) ≡ with_first_key k (rows_of ns))
 next_heads k [] [] w l s = (tt, tt, refl)
 next_heads k [] (m ∷ ns) w l s = absurd l
 next_heads k (q ∷ rest) [] w l s = absurd l
@@ -260,11 +261,11 @@ next_heads k (q ∷ rest) (m ∷ ns) w l s =
     let same = heads_same rest ns s.1 in (
       (l.0, headed_within q.key k (next_key rest None) m.rows (omega (arith, w.0)) l.1, subst (Level None rest) (sym same) l.2),
       (headed_starts k q.key m.rows s.0, subst (Starts rest) (sym same) s.1),
-      ap (λ l. headed k m.rows ++ rows_of l) same ∙ sym (headed_append k q.key m.rows (rows_of ns) s.0),
+      ap (λ l. with_first_key k m.rows ++ rows_of l) same ∙ sym (headed_append k q.key m.rows (rows_of ns) s.0),
     )
 
 index_here : (k : ℕ) (r : Row ℕ) (rest : List (Row ℕ)) (n : Node ℕ) (ns : List (Node ℕ)) → Within r.key None (r ∷ rest) → Level None (r ∷ rest) (n ∷ ns) → Starts (r ∷ rest) (n ∷ ns)
-    → is_here k rest ≡ true → (rs : List (Row ℕ)) → without k n.rows ≡ rs → IsOut k (r ∷ rest) (n ∷ ns) (left_with r.key n (headed r.key rs) ns)
+    → is_below_first k rest ≡ true → (rs : List (Row ℕ)) → without k n.rows ≡ rs → IsOut k (r ∷ rest) (n ∷ ns) (kept_page r.key n (with_first_key r.key rs) ns)
 index_here k r rest n ns w l s e [] is =
     let one = one_row k r.key n.rows s.0 is in
     let at_key : k ≡ r.key = one.2 ∙ subst (StartsAt r.key) one.1 s.0 in
@@ -279,9 +280,9 @@ index_here k r rest n ns w l s e [] is =
         rows_are = ap (λ l. l ++ rows_of ns) (sym is) ∙ sym (without_left (suc k) None k n.rows (rows_of ns) (omega arith) (level_within (suc k) None rest ns (here_within k (suc r.key) None rest e w.2) l.2));
         level = subst (λ l. Level None l ns) (sym without_is) l.2;
         starts = subst (λ l. Starts l ns) (sym without_is) s.1;
-        next = subst (λ l. Level None l (heads l ns)) (sym shifted_is) behind.0;
-        next_starts = subst (λ l. Starts l (heads l ns)) (sym shifted_is) behind.1;
-        next_rows = ap (λ l. rows_of (heads l ns)) shifted_is ∙ behind.2 ∙ sym (ap (λ l. shifted k (l ++ rows_of ns)) one.1 ∙ shifted_same k one.0 (rows_of ns) one.2);
+        next = subst (λ l. Level None l (with_first_keys l ns)) (sym shifted_is) behind.0;
+        next_starts = subst (λ l. Starts l (with_first_keys l ns)) (sym shifted_is) behind.1;
+        next_rows = ap (λ l. rows_of (with_first_keys l ns)) shifted_is ∙ behind.2 ∙ sym (ap (λ l. shifted k (l ++ rows_of ns)) one.1 ∙ shifted_same k one.0 (rows_of ns) one.2);
       };
     }
 index_here k r rest n ns w l s e (y ∷ ys) is =
@@ -318,41 +319,41 @@ out_past k r q rest n m ns nodes (Some g) w l s le h =
     let without_is = without_other k r (q ∷ rest) other in
     let shifted_is = shifted_other k r (q ∷ rest) other in
     let new = shifted k (q ∷ rest) in
-    let head_is : heads (r ∷ new) (n ∷ nodes) ≡ n ∷ heads new nodes =
-    ap (λ (rs : List (Row ℕ)). record { page = n.page; prev = n.prev; next = n.next; rows = rs } ∷ heads new nodes) (headed_same r.key n.rows s.0) in
+    let head_is : with_first_keys (r ∷ new) (n ∷ nodes) ≡ n ∷ with_first_keys new nodes =
+    ap (λ (rs : List (Row ℕ)). record { page = n.page; prev = n.prev; next = n.next; rows = rs } ∷ with_first_keys new nodes) (headed_same r.key n.rows s.0) in
     record {
       same = h.same;
       has = inr h.has;
       rows_are = ap (λ l. n.rows ++ l) h.rows_are ∙ sym (without_right r.key q.key k n.rows (rows_of (m ∷ ns)) le l.1);
       level = level_past k r q rest n nodes w h.has l.0 l.1 h.level;
       starts = subst (λ l. Starts l (n ∷ nodes)) (sym without_is) (s.0, h.starts);
-      next = subst (λ l. Level None l (heads l (n ∷ nodes))) (sym shifted_is) (subst (Level None (r ∷ new)) (sym head_is)
-          (subst (λ l. Level None l (n ∷ heads new nodes)) shifted_is (shifted_past k r q rest n (heads new nodes) w h.has l.0 l.1 h.next)));
-      next_starts = subst (λ l. Starts l (heads l (n ∷ nodes))) (sym shifted_is) (subst (Starts (r ∷ new)) (sym head_is) (s.0, h.next_starts));
-      next_rows = ap (λ l. rows_of (heads l (n ∷ nodes))) shifted_is ∙ ap (λ l. rows_of l) head_is ∙ ap (λ l. n.rows ++ l) h.next_rows
+      next = subst (λ l. Level None l (with_first_keys l (n ∷ nodes))) (sym shifted_is) (subst (Level None (r ∷ new)) (sym head_is)
+          (subst (λ l. Level None l (n ∷ with_first_keys new nodes)) shifted_is (shifted_past k r q rest n (with_first_keys new nodes) w h.has l.0 l.1 h.next)));
+      next_starts = subst (λ l. Starts l (with_first_keys l (n ∷ nodes))) (sym shifted_is) (subst (Starts (r ∷ new)) (sym head_is) (s.0, h.next_starts));
+      next_rows = ap (λ l. rows_of (with_first_keys l (n ∷ nodes))) shifted_is ∙ ap (λ l. rows_of l) head_is ∙ ap (λ l. n.rows ++ l) h.next_rows
           ∙ sym (shifted_right r.key q.key k n.rows (rows_of (m ∷ ns)) le l.1);
     }
 
 index_past : (k : ℕ) (r q : Row ℕ) (rest : List (Row ℕ)) (n m : Node ℕ) (ns : List (Node ℕ)) (c : Taken ℕ) → Within r.key None (r ∷ q ∷ rest)
-    → Level None (r ∷ q ∷ rest) (n ∷ m ∷ ns) → Starts (r ∷ q ∷ rest) (n ∷ m ∷ ns) → q.key ≤ k → IsOut k (q ∷ rest) (m ∷ ns) c → IsOut k (r ∷ q ∷ rest) (n ∷ m ∷ ns) (past n c)
+    → Level None (r ∷ q ∷ rest) (n ∷ m ∷ ns) → Starts (r ∷ q ∷ rest) (n ∷ m ∷ ns) → q.key ≤ k → IsOut k (q ∷ rest) (m ∷ ns) c → IsOut k (r ∷ q ∷ rest) (n ∷ m ∷ ns) (before_taken n c)
 index_past k r q rest n m ns c w l s le h = record {
   fewer = λ p. let e = h.fewer p in omega (arith, e);
-  left = out_past k r q rest n m ns c.nodes c.gone w l s le h.left;
+  left = out_past k r q rest n m ns c.nodes c.gone_key w l s le h.left;
 }
 
 index_out : (k : ℕ) (r : Row ℕ) (rest : List (Row ℕ)) (n : Node ℕ) (ns : List (Node ℕ)) → Within r.key None (r ∷ rest) → Level None (r ∷ rest) (n ∷ ns) → Starts (r ∷ rest) (n ∷ ns)
-    → IsOut k (r ∷ rest) (n ∷ ns) (take_out (index_without k) k (r ∷ rest) (n ∷ ns))
+    → IsOut k (r ∷ rest) (n ∷ ns) (take_row (index_without k) k (r ∷ rest) (n ∷ ns))
 index_out k r [] n [] w l s = index_here k r [] n [] w l s refl (without k n.rows) refl
 index_out k r [] n (m ∷ ns) w l s = absurd l.2
 index_out k r (q ∷ rest) n [] w l s = absurd l.2
 index_out k r (q ∷ rest) n (m ∷ ns) w l s = elim (cases_Bool (nat_lt k q.key)) [
   | inl e ↦ subst (IsOut k (r ∷ q ∷ rest) (n ∷ m ∷ ns)) (sym (take_here (index_without k) k r (q ∷ rest) n (m ∷ ns) e)) (index_here k r (q ∷ rest) n (m ∷ ns) w l s e (without k n.rows) refl)
   | inr e ↦ subst (IsOut k (r ∷ q ∷ rest) (n ∷ m ∷ ns)) (sym (take_later (index_without k) k r (q ∷ rest) n (m ∷ ns) e))
-      (index_past k r q rest n m ns (take_out (index_without k) k (q ∷ rest) (m ∷ ns)) w l s (ltb-false k q.key e) (index_out k q rest m ns (omega arith, w.2.1, w.2.2) l.2 s.1))
+      (index_past k r q rest n m ns (take_row (index_without k) k (q ∷ rest) (m ∷ ns)) w l s (ltb-false k q.key e) (index_out k q rest m ns (omega arith, w.2.1, w.2.2) l.2 s.1))
 ]
 
 pub index_out_at : (k low : ℕ) (rows : List (Row ℕ)) (nodes : List (Node ℕ)) → StartsAt low rows → Within low None rows → Level None rows nodes → Starts rows nodes
-    → IsOut k rows nodes (take_out (index_without k) k rows nodes)
+    → IsOut k rows nodes (take_row (index_without k) k rows nodes)
 index_out_at k low [] nodes at w l s = absurd at
 index_out_at k low (r ∷ rest) [] at w l s = absurd l
 index_out_at k low (r ∷ rest) (n ∷ ns) at w l s = index_out k r rest n ns (omega arith, w.1, w.2) l s

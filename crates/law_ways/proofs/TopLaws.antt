@@ -1,7 +1,7 @@
 -- The top level under other numbers, and the root above it.
 use Rattle.std.proofs.Common.{◌≡◌, ℕ, suc, ◌+◌, ◌<◌, ◌≤◌, List, [], ◌∷◌, ◌++◌, map, length, drop, Option, Some, None, refl, sym, ap, ◌∙◌, subst, arith}
 use Rattle.spec_levels.specs.Levels.{Row, Node, Tree, rows_of, pages_of, root_row, Payload}
-use Rattle.spec_ways.specs.Insert.{linked, Cuts, Grown, next_page, left_over, grown, named, topped, raised, named_root, inserted, IsCut}
+use Rattle.spec_ways.specs.Insert.{linked, Cuts, Grown, first_fresh, left_over, grown, renumbered, top_renumbered, raised, root_rows, inserted, IsCut}
 use Rattle.spec_ways.specs.Rows.{with_row}
 use Rattle.law_ways.proofs.Bounds.{Within, next_key}
 use Rattle.law_ways.proofs.Fits.{Level, Starts, Fits, with_up, count, all_pages}
@@ -23,7 +23,7 @@ valued_first (p ∷ ps) [] high = refl
 valued_first (p ∷ ps) (r ∷ rest) high = refl
 
 module _ {V : Type 0} where
-  named_level : (ps : List ℕ) (high : Option ℕ) (rows : List (Row ℕ)) (nodes : List (Node V)) → Level high rows nodes → Level high (valued ps rows) (named ps nodes)
+  named_level : (ps : List ℕ) (high : Option ℕ) (rows : List (Row ℕ)) (nodes : List (Node V)) → Level high rows nodes → Level high (valued ps rows) (renumbered ps nodes)
   named_level [] high rows nodes l = l
   named_level (p ∷ ps) high [] [] l = l
   named_level (p ∷ ps) high [] (n ∷ ns) l = absurd l
@@ -31,18 +31,18 @@ module _ {V : Type 0} where
   named_level (p ∷ ps) high (r ∷ rest) (n ∷ ns) l =
       (refl, subst (λ k. Within r.key k n.rows) (valued_first ps rest high) l.1, named_level ps high rest ns l.2)
 
-  named_starts : (ps : List ℕ) (rows : List (Row ℕ)) (nodes : List (Node V)) → Starts rows nodes → Starts (valued ps rows) (named ps nodes)
+  named_starts : (ps : List ℕ) (rows : List (Row ℕ)) (nodes : List (Node V)) → Starts rows nodes → Starts (valued ps rows) (renumbered ps nodes)
   named_starts [] rows nodes s = s
   named_starts (p ∷ ps) [] nodes s = tt
   named_starts (p ∷ ps) (r ∷ rest) [] s = s
   named_starts (p ∷ ps) (r ∷ rest) (n ∷ ns) s = (s.0, named_starts ps rest ns s.1)
 
-  named_rows : (ps : List ℕ) (nodes : List (Node V)) → rows_of (named ps nodes) ≡ rows_of nodes
+  named_rows : (ps : List ℕ) (nodes : List (Node V)) → rows_of (renumbered ps nodes) ≡ rows_of nodes
   named_rows [] nodes = refl
   named_rows (p ∷ ps) [] = refl
   named_rows (p ∷ ps) (n ∷ ns) = ap (λ l. n.rows ++ l) (named_rows ps ns)
 
-  named_pages : (ps : List ℕ) (nodes : List (Node V)) → length ps ≡ length nodes → pages_of (named ps nodes) ≡ ps
+  named_pages : (ps : List ℕ) (nodes : List (Node V)) → length ps ≡ length nodes → pages_of (renumbered ps nodes) ≡ ps
   named_pages [] [] same = refl
   named_pages [] (n ∷ ns) same = absurd (omega (arith, same))
   named_pages (p ∷ ps) [] same = absurd (omega (arith, same))
@@ -68,27 +68,27 @@ pub record IsTopped (ps : List ℕ) (high : Option ℕ) (rows : List (Row ℕ)) 
   pub height : length t.above ≡ length above
 
 pub topped_is : (ps : List ℕ) (high : Option ℕ) (rows : List (Row ℕ)) (above : List (List (Node ℕ))) (leaves : List (Node Payload)) → length ps ≡ length rows
-    → Fits high rows above leaves → IsTopped ps high rows above leaves (topped ps above leaves)
+    → Fits high rows above leaves → IsTopped ps high rows above leaves (top_renumbered ps above leaves)
 topped_is ps high rows [] leaves same fits = record {
-  fits = (linked_level 0 high (valued ps rows) (named ps leaves) (named_level ps high rows leaves fits.0), linked_is 0 (named ps leaves));
-  contents = linked_rows 0 (named ps leaves) ∙ named_rows ps leaves;
+  fits = (linked_level 0 high (valued ps rows) (renumbered ps leaves) (named_level ps high rows leaves fits.0), linked_is 0 (renumbered ps leaves));
+  contents = linked_rows 0 (renumbered ps leaves) ∙ named_rows ps leaves;
   pages_are = λ p.
-      let e = ap (count p) (linked_pages 0 (named ps leaves) ∙ named_pages ps leaves (same ∙ level_length high rows leaves fits.0)) in
+      let e = ap (count p) (linked_pages 0 (renumbered ps leaves) ∙ named_pages ps leaves (same ∙ level_length high rows leaves fits.0)) in
       let f = ap (count p) (level_pages high rows leaves fits.0) in omega (arith, e, f);
   height = refl;
 }
 topped_is ps high rows (nodes ∷ more) leaves same fits =
-    let new = linked 0 (named ps nodes) in
+    let new = linked 0 (renumbered ps nodes) in
     record {
       fits = (
-        linked_level 0 high (valued ps rows) (named ps nodes) (named_level ps high rows nodes fits.0),
-        linked_starts 0 (valued ps rows) (named ps nodes) (named_starts ps rows nodes fits.1),
-        linked_is 0 (named ps nodes),
-        subst (λ r. Fits high r more leaves) (sym (linked_rows 0 (named ps nodes) ∙ named_rows ps nodes)) fits.3,
+        linked_level 0 high (valued ps rows) (renumbered ps nodes) (named_level ps high rows nodes fits.0),
+        linked_starts 0 (valued ps rows) (renumbered ps nodes) (named_starts ps rows nodes fits.1),
+        linked_is 0 (renumbered ps nodes),
+        subst (λ r. Fits high r more leaves) (sym (linked_rows 0 (renumbered ps nodes) ∙ named_rows ps nodes)) fits.3,
       );
       contents = refl;
       pages_are = λ p.
-          let e = ap (count p) (linked_pages 0 (named ps nodes) ∙ named_pages ps nodes (same ∙ level_length high rows nodes fits.0)) in
+          let e = ap (count p) (linked_pages 0 (renumbered ps nodes) ∙ named_pages ps nodes (same ∙ level_length high rows nodes fits.0)) in
           let f = ap (count p) (level_pages high rows nodes fits.0) in
           let g = count_append p (pages_of nodes) (all_pages more leaves) in
           let h = count_append p (pages_of new) (all_pages more leaves) in omega (arith, e, f, g, h);
@@ -97,23 +97,23 @@ topped_is ps high rows (nodes ∷ more) leaves same fits =
 
 -- what putting a row into a tree does, and the new pages that are left
 pub record IsInserted (root : ℕ) (fresh left : List ℕ) (x : Row Payload) (tree t : Tree) : Type 0 where
-  pub fits : Fits None (named_root root) t.above t.leaves
+  pub fits : Fits None (root_rows root) t.above t.leaves
   pub contents : rows_of t.leaves ≡ with_row x (rows_of tree.leaves)
   pub kept : (p : ℕ) → count p (all_pages tree.above tree.leaves) ≤ count p (all_pages t.above t.leaves)
   pub added : (p : ℕ) → count p (all_pages t.above t.leaves) ≤ count p (all_pages tree.above tree.leaves) + count p fresh
   pub exact : (p : ℕ) → count p (all_pages t.above t.leaves) + count p left ≡ count p (all_pages tree.above tree.leaves) + count p fresh
   pub height : length t.above ≤ suc (length tree.above)
 
-first_counts : (p : ℕ) (fresh : List ℕ) → 0 < length fresh → count p (next_page fresh ∷ []) ≤ count p fresh
+first_counts : (p : ℕ) (fresh : List ℕ) → 0 < length fresh → count p (first_fresh fresh ∷ []) ≤ count p fresh
 first_counts p [] some = absurd (omega (arith, some))
 first_counts p (f ∷ fresh) some = omega arith
 
-first_exact : (p : ℕ) (fresh : List ℕ) → 0 < length fresh → count p (next_page fresh ∷ []) + count p (drop 1 fresh) ≡ count p fresh
+first_exact : (p : ℕ) (fresh : List ℕ) → 0 < length fresh → count p (first_fresh fresh ∷ []) + count p (drop 1 fresh) ≡ count p fresh
 first_exact p [] some = absurd (omega (arith, some))
 first_exact p (f ∷ fresh) some = omega arith
 
 raised_is : (root : ℕ) (fresh : List ℕ) (x : Row Payload) (tree : Tree) (b : Grown) (o : Option (Row ℕ)) → suc (length tree.above) < length fresh
-    → IsGrown 0 None (named_root root) tree.above tree.leaves fresh x b o → IsInserted root fresh (left_over o b.fresh) x tree (raised root b o)
+    → IsGrown 0 None (root_rows root) tree.above tree.leaves fresh x b o → IsInserted root fresh (left_over o b.fresh) x tree (raised root b o)
 raised_is root fresh x tree b None many h = record {
   fits = h.fits;
   contents = h.contents;
@@ -123,13 +123,13 @@ raised_is root fresh x tree b None many h = record {
   height = let e = h.height in omega (arith, e);
 }
 raised_is root fresh x tree b (Some u) many h =
-    let right = next_page b.fresh in
+    let right = first_fresh b.fresh in
     let some : 0 < length b.fresh = omega (arith, many, h.enough) in
-    let names : with_up (Some u) (named_root root) ≡ root_row root ∷ u ∷ [] = with_more u (root_row root) [] h.up.0 in
+    let names : with_up (Some u) (root_rows root) ≡ root_row root ∷ u ∷ [] = with_more u (root_row root) [] h.separator.0 in
     let fits = subst (λ r. Fits None r b.above b.leaves) names h.fits in
     let t = topped_is (u.value ∷ right ∷ []) None (root_row root ∷ u ∷ []) b.above b.leaves refl fits in
     record {
-      fits = ((refl, (omega arith, tt, (h.up.0, tt, tt)), tt), (refl, tt), (refl, refl, tt), t.fits);
+      fits = ((refl, (omega arith, tt, (h.separator.0, tt, tt)), tt), (refl, tt), (refl, refl, tt), t.fits);
       contents = t.contents ∙ h.contents;
       kept = λ p. let e = h.pages_are p in let f = h.less p in let g = t.pages_are p in omega (arith, e, f, g);
       added = λ p. let e = h.pages_are p in let f = h.less p in let g = t.pages_are p in let i = first_counts p b.fresh some in omega (arith, e, f, g, i);
@@ -138,8 +138,8 @@ raised_is root fresh x tree b (Some u) many h =
     }
 
 pub inserted_is : (cuts : Cuts) → IsCut cuts.leaf → IsCut cuts.index → (fresh : List ℕ) (root : ℕ) (x : Row Payload) (tree : Tree) → suc (length tree.above) < length fresh
-    → Fits None (named_root root) tree.above tree.leaves → let b = grown cuts fresh x (named_root root) tree.above tree.leaves in IsInserted root fresh (left_over b.up b.fresh) x tree (inserted cuts fresh root x tree)
+    → Fits None (root_rows root) tree.above tree.leaves → let b = grown cuts fresh x (root_rows root) tree.above tree.leaves in IsInserted root fresh (left_over b.separator b.fresh) x tree (inserted cuts fresh root x tree)
 inserted_is cuts leaf index fresh root x tree many fits =
-    let b = grown cuts fresh x (named_root root) tree.above tree.leaves in
-    raised_is root fresh x tree b b.up many
-    (grown_is cuts leaf index x 0 None tt (omega arith) fresh (named_root root) tree.above tree.leaves refl (omega arith, tt, tt) fits (omega (arith, many)))
+    let b = grown cuts fresh x (root_rows root) tree.above tree.leaves in
+    raised_is root fresh x tree b b.separator many
+    (grown_is cuts leaf index x 0 None tt (omega arith) fresh (root_rows root) tree.above tree.leaves refl (omega arith, tt, tt) fits (omega (arith, many)))

@@ -1,1 +1,3 @@
-pub mod Laws
+pub mod DeleteLaws
+pub mod InsertLaws
+pub mod WayLaws

@@ -1,10 +1,11 @@
--- What becomes of the pages on the way to a leaf when a row is put there: told by these pages alone.
+-- What becomes of the pages of a way where a row is put into its leaf, told by these pages alone.
 use Rattle.std.specs.Prelude.{◌≡◌, ℕ, List, [], ◌∷◌, ◌++◌, take, drop, Option, Some, None}
-use Rattle.spec_levels.specs.Levels.{Row, Node, Payload}
-use Rattle.spec_ways.specs.Insert.{Cut, Cuts, key_of_first, next_page, left_over}
-use Rattle.spec_ways.specs.Rows.{with_row}
+use Rattle.spec_levels.specs.Levels.{Payload, Row, Node, Index, Leaf}
+use Rattle.spec_ways.specs.Rows.{with_row, lowest_key}
+use Rattle.spec_ways.specs.Ways.{Way}
+use Rattle.spec_ways.specs.Insert.{Cut, Cuts, first_fresh, left_over}
 
--- a page stays, takes these rows, or keeps these and gives the others to a new right page
+-- a page stays, has these rows, or has the first of these and gives the others to a new page right of it
 pub data Step (V : Type 0) : Type 0 where
   Stays : Step V
   Grows : List (Row V) → Step V
@@ -12,62 +13,66 @@ pub data Step (V : Type 0) : Type 0 where
 
 abbrev pub step_of : {V : Type 0} → Option ℕ → ℕ → List (Row V) → Step V
 step_of None right rows = Grows rows
-step_of (Some m) right rows = Splits (take m rows) right (drop m rows)
+step_of (Some kept) right rows = Splits (take kept rows) right (drop kept rows)
 
--- the row that goes up
-abbrev pub up_of : {V : Type 0} → Step V → Option (Row ℕ)
-up_of Stays = None
-up_of (Grows rows) = None
-up_of (Splits rows right more) = Some (record { key = key_of_first more; value = right })
+-- the row for the level above
+abbrev pub separator_of : {V : Type 0} → Step V → Option (Row ℕ)
+separator_of Stays = None
+separator_of (Grows rows) = None
+separator_of (Splits rows right more) = Some (record { key = lowest_key more; value = right })
 
--- the steps of a way's pages, the root's first; the row that goes above the root; the new pages that are left
+-- the steps of a way's pages, the highest first, the separator of the first, and the new pages that no split took
 pub record Climb : Type 0 where
   pub above : List (Step ℕ)
   pub leaf : Step Payload
-  pub up : Option (Row ℕ)
+  pub separator : Option (Row ℕ)
   pub fresh : List ℕ
 
-abbrev pub climbed : Cut ℕ → Node ℕ → Climb → Option (Row ℕ) → Climb
-climbed cut n b None = record { above = Stays ∷ b.above; leaf = b.leaf; up = None; fresh = b.fresh }
-climbed cut n b (Some y) =
-    let rows = with_row y n.rows in
-    let step = step_of (cut rows) (next_page b.fresh) rows in
-    record { above = step ∷ b.above; leaf = b.leaf; up = up_of step; fresh = left_over (up_of step) b.fresh }
+abbrev pub climb_through : Cut ℕ → Index → Climb → Option (Row ℕ) → Climb
+climb_through cut node below None = record { above = Stays ∷ below.above; leaf = below.leaf; separator = None; fresh = below.fresh }
+climb_through cut node below (Some separator) =
+    let rows = with_row separator node.rows in
+    let step = step_of (cut rows) (first_fresh below.fresh) rows in
+    record { above = step ∷ below.above; leaf = below.leaf; separator = separator_of step; fresh = left_over (separator_of step) below.fresh }
 
-abbrev pub climb : Cuts → List ℕ → Row Payload → List (Node ℕ) → Node Payload → Climb
-climb cuts fresh x [] leaf =
-    let rows = with_row x leaf.rows in
-    let step = step_of (cuts.leaf rows) (next_page fresh) rows in
-    record { above = []; leaf = step; up = up_of step; fresh = left_over (up_of step) fresh }
-climb cuts fresh x (n ∷ above) leaf = let b = climb cuts fresh x above leaf in climbed cuts.index n b b.up
+-- from the leaf upwards
+abbrev pub climb : Cuts → List ℕ → Row Payload → List Index → Leaf → Climb
+climb cuts fresh row [] leaf =
+    let rows = with_row row leaf.rows in
+    let step = step_of (cuts.leaf rows) (first_fresh fresh) rows in
+    record { above = []; leaf = step; separator = separator_of step; fresh = left_over (separator_of step) fresh }
+climb cuts fresh row (node ∷ above) leaf = let below = climb cuts fresh row above leaf in climb_through cuts.index node below below.separator
 
--- these pages, the first behind another
-abbrev pub prev_is : {V : Type 0} → ℕ → List (Node V) → List (Node V)
-prev_is q [] = []
-prev_is q (n ∷ ns) = record { page = n.page; prev = q; next = n.next; rows = n.rows } ∷ ns
+abbrev pub climb_of : Cuts → List ℕ → Row Payload → Way → Climb
+climb_of cuts fresh row way = climb cuts fresh row way.above way.leaf
 
--- the page after the step, and the page next to it where that is a new one
-abbrev pub made : {V : Type 0} → Step V → Node V → List (Node V)
-made Stays n = n ∷ []
-made (Grows rows) n = record { page = n.page; prev = n.prev; next = n.next; rows = rows } ∷ []
-made (Splits rows right more) n =
-    record { page = n.page; prev = n.prev; next = right; rows = rows } ∷ record { page = right; prev = n.page; next = n.next; rows = more } ∷ []
+-- these nodes, the first with this page as prev
+abbrev pub with_first_prev : {V : Type 0} → ℕ → List (Node V) → List (Node V)
+with_first_prev prev [] = []
+with_first_prev prev (node ∷ nodes) = record { page = node.page; prev = prev; next = node.next; rows = node.rows } ∷ nodes
 
--- the pages behind it: only where it split, the first, its old next, names the new page as prev
-abbrev pub after : {V : Type 0} → Step V → List (Node V) → List (Node V)
-after Stays right = right
-after (Grows rows) right = right
-after (Splits rows new more) right = prev_is new right
+-- the page after its step, with the new page behind it
+abbrev pub after_step : {V : Type 0} → Step V → Node V → List (Node V)
+after_step Stays node = node ∷ []
+after_step (Grows rows) node = record { page = node.page; prev = node.prev; next = node.next; rows = rows } ∷ []
+after_step (Splits rows right more) node =
+    record { page = node.page; prev = node.prev; next = right; rows = rows } ∷ record { page = right; prev = node.page; next = node.next; rows = more } ∷ []
+
+-- the nodes behind them: the page's old next has the new page as prev
+abbrev pub behind_step : {V : Type 0} → Step V → List (Node V) → List (Node V)
+behind_step Stays nodes = nodes
+behind_step (Grows rows) nodes = nodes
+behind_step (Splits rows right more) nodes = with_first_prev right nodes
 
 -- a level in which this page makes the step, and nothing else changes
-pub record IsStepped {V : Type 0} (n : Node V) (step : Step V) (nodes nodes' : List (Node V)) : Type 0 where
+pub record IsStepped {V : Type 0} (node : Node V) (step : Step V) (before now : List (Node V)) : Type 0 where
   pub left : List (Node V)
   pub right : List (Node V)
-  pub before : nodes ≡ left ++ n ∷ right
-  pub now : nodes' ≡ left ++ (made step n ++ after step right)
+  pub was : before ≡ left ++ node ∷ right
+  pub is : now ≡ left ++ (after_step step node ++ behind_step step right)
 
--- level by level
-abbrev pub AreStepped : List (Node ℕ) → List (Step ℕ) → List (List (Node ℕ)) → List (List (Node ℕ)) → Type 0
+-- one page of each level
+abbrev pub AreStepped : List Index → List (Step ℕ) → List (List Index) → List (List Index) → Type 0
 AreStepped [] [] [] [] = Unit {0}
-AreStepped (n ∷ ns) (step ∷ steps) (nodes ∷ more) (nodes' ∷ more') = IsStepped n step nodes nodes' × AreStepped ns steps more more'
-AreStepped ns steps more more' = ⊥
+AreStepped (node ∷ way) (step ∷ steps) (before ∷ more) (now ∷ rest) = IsStepped node step before now × AreStepped way steps more rest
+AreStepped way steps more rest = ⊥

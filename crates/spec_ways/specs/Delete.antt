@@ -1,83 +1,82 @@
--- A row taken from a tree.
+-- A row taken from a tree: a page that is left without rows goes, and so does the row of the level above that names it;
+-- where that row was the first of its page, the row behind it takes its key.
 use Rattle.std.specs.Prelude.{ℕ, List, [], ◌∷◌, length, Option, Some, None, ◌==◌, if◌then◌else◌}
-use Rattle.spec_levels.specs.Levels.{Row, Node, Tree, rows_of, Payload}
-use Rattle.spec_ways.specs.Insert.{linked, is_here, topped, named_root}
-use Rattle.spec_ways.specs.Rows.{without}
+use Rattle.spec_levels.specs.Levels.{Payload, Row, Node, Index, Leaf, Tree, rows_of}
+use Rattle.spec_ways.specs.Rows.{without, with_first_key, is_below_first}
+use Rattle.spec_ways.specs.Insert.{linked, top_renumbered, root_rows}
 
--- these rows, the first with this key
-abbrev pub headed : {V : Type 0} → ℕ → List (Row V) → List (Row V)
-headed k [] = []
-headed k (y ∷ ys) = record { key = k; value = y.value } ∷ ys
-
--- the pages of a level, and the key of the row that leaves the level above where a page went
+-- the nodes of a level, and where one of them went the key of the row that named it
 pub record Taken (V : Type 0) : Type 0 where
   pub nodes : List (Node V)
-  pub gone : Option ℕ
+  pub gone_key : Option ℕ
 
--- the page with these rows; a page without rows goes
-abbrev pub left_with : {V : Type 0} → ℕ → Node V → List (Row V) → List (Node V) → Taken V
-left_with key n [] after = record { nodes = after; gone = Some key }
-left_with key n (y ∷ ys) after = record { nodes = record { page = n.page; prev = n.prev; next = n.next; rows = y ∷ ys } ∷ after; gone = None }
+-- a page with these rows, before nodes; without rows it goes
+abbrev pub kept_page : {V : Type 0} → ℕ → Node V → List (Row V) → List (Node V) → Taken V
+kept_page key node [] nodes = record { nodes = nodes; gone_key = Some key }
+kept_page key node (row ∷ rows) nodes = record { nodes = record { page = node.page; prev = node.prev; next = node.next; rows = row ∷ rows } ∷ nodes; gone_key = None }
 
-abbrev pub past : {V : Type 0} → Node V → Taken V → Taken V
-past n c = record { nodes = n ∷ c.nodes; gone = c.gone }
+abbrev pub before_taken : {V : Type 0} → Node V → Taken V → Taken V
+before_taken node taken = record { nodes = node ∷ taken.nodes; gone_key = taken.gone_key }
 
--- the page of the level where the key belongs, its rows changed in the light of the key of the row that names it
-abbrev pub take_out : {V : Type 0} → (ℕ → List (Row V) → List (Row V)) → ℕ → List (Row ℕ) → List (Node V) → Taken V
-take_out change k [] nodes = record { nodes = nodes; gone = None }
-take_out change k (r ∷ rest) [] = record { nodes = []; gone = None }
-take_out change k (r ∷ rest) (n ∷ ns) = if is_here k rest then left_with r.key n (change r.key n.rows) ns else past n (take_out change k rest ns)
+-- the page of a level where the key belongs with rows changed; the change is told the key of the row that names the page
+abbrev pub take_row : {V : Type 0} → (ℕ → List (Row V) → List (Row V)) → ℕ → List (Row ℕ) → List (Node V) → Taken V
+take_row change key [] nodes = record { nodes = nodes; gone_key = None }
+take_row change key (above ∷ rest) [] = record { nodes = []; gone_key = None }
+take_row change key (above ∷ rest) (node ∷ nodes) =
+    if is_below_first key rest then kept_page above.key node (change above.key node.rows) nodes else before_taken node (take_row change key rest nodes)
 
--- the rows of a leaf but the one with the key; of an index page too, where the first row left keeps the page's first key
+-- a leaf loses the row with the key
 abbrev pub leaf_without : ℕ → ℕ → List (Row Payload) → List (Row Payload)
-leaf_without k key rows = without k rows
+leaf_without key first rows = without key rows
 
+-- so does an index page, whose first row then has the first key of the page
 abbrev pub index_without : ℕ → ℕ → List (Row ℕ) → List (Row ℕ)
-index_without k key rows = headed key (without k rows)
+index_without key first rows = with_first_key first (without key rows)
 
--- each page begins with the key of the row that names it
-abbrev pub heads : {V : Type 0} → List (Row ℕ) → List (Node V) → List (Node V)
-heads [] nodes = nodes
-heads (r ∷ rest) [] = []
-heads (r ∷ rest) (n ∷ ns) = record { page = n.page; prev = n.prev; next = n.next; rows = headed r.key n.rows } ∷ heads rest ns
+-- each node begins with the key of the row that names it
+abbrev pub with_first_keys : {V : Type 0} → List (Row ℕ) → List (Node V) → List (Node V)
+with_first_keys [] nodes = nodes
+with_first_keys (row ∷ rows) [] = []
+with_first_keys (row ∷ rows) (node ∷ nodes) = record { page = node.page; prev = node.prev; next = node.next; rows = with_first_key row.key node.rows } ∷ with_first_keys rows nodes
 
--- and so on down to the last level of index pages
-abbrev pub edged : List (Row ℕ) → List (List (Node ℕ)) → List (List (Node ℕ))
-edged rows [] = []
-edged rows (nodes ∷ more) = let ns = heads rows nodes in ns ∷ edged (rows_of ns) more
+-- and so on down to the lowest level of index pages
+abbrev pub with_left_edges : List (Row ℕ) → List (List Index) → List (List Index)
+with_left_edges rows [] = []
+with_left_edges rows (nodes ∷ more) = let now = with_first_keys rows nodes in now ∷ with_left_edges (rows_of now) more
 
--- levels from which a row was taken, and the key of the row that leaves the level above
+-- levels from which a row was taken, and the key of the row that named a page of the first of them, where that page went
 pub record Shrunk : Type 0 where
-  pub above : List (List (Node ℕ))
-  pub leaves : List (Node Payload)
-  pub gone : Option ℕ
+  pub above : List (List Index)
+  pub leaves : List Leaf
+  pub gone_key : Option ℕ
 
--- where the page keeps rows, the edge below its first row takes that row's key
-abbrev pub settled : Option ℕ → List (Row ℕ) → List (List (Node ℕ)) → List (List (Node ℕ))
-settled None rows below = edged rows below
-settled (Some k) rows below = below
+-- the levels below a level that lost a row: where no page of it went, first keys are brought down the left edge
+abbrev pub below_loss : Option ℕ → List (Row ℕ) → List (List Index) → List (List Index)
+below_loss None rows below = with_left_edges rows below
+below_loss (Some key) rows below = below
 
-abbrev pub sunk : List (Row ℕ) → List (Node ℕ) → Shrunk → Option ℕ → Shrunk
-sunk rows nodes b None = record { above = nodes ∷ b.above; leaves = b.leaves; gone = None }
-sunk rows nodes b (Some k) =
-    let c = take_out (index_without k) k rows nodes in
-    record { above = linked 0 c.nodes ∷ settled c.gone (rows_of c.nodes) b.above; leaves = b.leaves; gone = c.gone }
+-- a level loses the row that named the page that went below it
+abbrev pub without_separator : List (Row ℕ) → List Index → Shrunk → Option ℕ → Shrunk
+without_separator rows nodes below None = record { above = nodes ∷ below.above; leaves = below.leaves; gone_key = None }
+without_separator rows nodes below (Some key) =
+    let taken = take_row (index_without key) key rows nodes in
+    record { above = linked 0 taken.nodes ∷ below_loss taken.gone_key (rows_of taken.nodes) below.above; leaves = below.leaves; gone_key = taken.gone_key }
 
--- the row taken from its leaf, and from there upwards the rows of the pages that go
-abbrev pub shrunk : ℕ → List (Row ℕ) → List (List (Node ℕ)) → List (Node Payload) → Shrunk
-shrunk k rows [] leaves = let c = take_out (leaf_without k) k rows leaves in record { above = []; leaves = linked 0 c.nodes; gone = c.gone }
-shrunk k rows (nodes ∷ more) leaves = let b = shrunk k (rows_of nodes) more leaves in sunk rows nodes b b.gone
+-- the row taken from its leaf, and from there upwards the rows that named pages that went
+abbrev pub shrunk : ℕ → List (Row ℕ) → List (List Index) → List Leaf → Shrunk
+shrunk key rows [] leaves = let taken = take_row (leaf_without key) key rows leaves in record { above = []; leaves = linked 0 taken.nodes; gone_key = taken.gone_key }
+shrunk key rows (nodes ∷ more) leaves = let below = shrunk key (rows_of nodes) more leaves in without_separator rows nodes below below.gone_key
 
--- a level with one row goes, and the levels below it stay
-abbrev pub collapsed : List (List (Node ℕ)) → List (Node Payload) → Tree
+-- a level with one row goes, as often as the level below has one row too
+abbrev pub collapsed : List (List Index) → List Leaf → Tree
 collapsed [] leaves = record { above = []; leaves = leaves }
 collapsed (nodes ∷ more) leaves = if length (rows_of nodes) == 1 then collapsed more leaves else record { above = nodes ∷ more; leaves = leaves }
 
--- a root without rows is an empty leaf; one with one row takes what its child has, and so on
-abbrev pub ended : ℕ → Shrunk → Option ℕ → Tree
-ended root b (Some k) = record { above = []; leaves = record { page = root; prev = 0; next = 0; rows = [] } ∷ [] }
-ended root b None = let t = collapsed b.above b.leaves in topped (root ∷ []) t.above t.leaves
+-- a root without rows is a leaf without rows; a root with one row takes what its child has, in the root's page
+abbrev pub lowered : ℕ → Shrunk → Option ℕ → Tree
+lowered root levels (Some key) = record { above = []; leaves = record { page = root; prev = 0; next = 0; rows = [] } ∷ [] }
+lowered root levels None = let rest = collapsed levels.above levels.leaves in top_renumbered (root ∷ []) rest.above rest.leaves
 
--- the tree without the row
+-- the tree without the row that has this key
 abbrev pub deleted : ℕ → ℕ → Tree → Tree
-deleted root k tree = let b = shrunk k (named_root root) tree.above tree.leaves in ended root b b.gone
+deleted root key tree = let levels = shrunk key (root_rows root) tree.above tree.leaves in lowered root levels levels.gone_key

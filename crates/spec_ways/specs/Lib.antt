@@ -1,7 +1,9 @@
-pub mod Delete
-pub mod Insert
-pub mod Ways
-pub mod Rows
-pub mod Shown
-pub mod Sinks
 pub mod Climbs
+pub mod Delete
+pub mod DeleteWrites
+pub mod Insert
+pub mod InsertWrites
+pub mod Pages
+pub mod Rows
+pub mod Sinks
+pub mod Ways

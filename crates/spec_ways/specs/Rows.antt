@@ -1,18 +1,37 @@
--- Rows in the order of their keys.
-use Rattle.std.specs.Prelude.{ℕ, List, [], ◌∷◌, Option, Some, None, nat_lt, ◌==◌, if◌then◌else◌}
-use Rattle.spec_levels.specs.Levels.{Row}
+-- Rows in the order of their keys: one put among them, one taken, and what the row of a key holds.
+use Rattle.std.specs.Prelude.{ℕ, Bool, true, List, [], ◌∷◌, Option, Some, None, nat_lt, ◌==◌, if◌then◌else◌}
+use Rattle.spec_levels.specs.Levels.{Payload, Row, Tree, rows_of}
 
 -- the rows with this one at its place; it stands for one with its key
 abbrev pub with_row : {V : Type 0} → Row V → List (Row V) → List (Row V)
-with_row x [] = x ∷ []
-with_row x (y ∷ ys) = if nat_lt x.key y.key then x ∷ y ∷ ys else (if x.key == y.key then x ∷ ys else y ∷ with_row x ys)
+with_row row [] = row ∷ []
+with_row row (other ∷ rest) = if nat_lt row.key other.key then row ∷ other ∷ rest else (if row.key == other.key then row ∷ rest else other ∷ with_row row rest)
 
--- the rows but the one with this key
+-- the rows without the one with this key
 abbrev pub without : {V : Type 0} → ℕ → List (Row V) → List (Row V)
-without k [] = []
-without k (y ∷ ys) = if k == y.key then ys else y ∷ without k ys
+without key [] = []
+without key (row ∷ rest) = if key == row.key then rest else row ∷ without key rest
 
--- what the row with this key holds
-abbrev pub held : {V : Type 0} → ℕ → List (Row V) → Option V
-held k [] = None
-held k (y ∷ ys) = if k == y.key then Some y.value else held k ys
+-- what the row with this key holds; none where no row has it
+abbrev pub value_at : {V : Type 0} → ℕ → List (Row V) → Option V
+value_at key [] = None
+value_at key (row ∷ rest) = if key == row.key then Some row.value else value_at key rest
+
+-- the key of the first row; 0 where there is no row
+abbrev pub lowest_key : {V : Type 0} → List (Row V) → ℕ
+lowest_key [] = 0
+lowest_key (row ∷ rest) = row.key
+
+-- these rows, the first with this key
+abbrev pub with_first_key : {V : Type 0} → ℕ → List (Row V) → List (Row V)
+with_first_key key [] = []
+with_first_key key (row ∷ rest) = record { key = key; value = row.value } ∷ rest
+
+-- the key is below that of the first of these rows, if there is one
+abbrev pub is_below_first : ℕ → List (Row ℕ) → Bool
+is_below_first key [] = true
+is_below_first key (row ∷ rest) = nat_lt key row.key
+
+-- the data rows of a tree, from left to right
+abbrev pub contents : Tree → List (Row Payload)
+contents tree = rows_of tree.leaves

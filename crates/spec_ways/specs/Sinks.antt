@@ -1,14 +1,12 @@
--- What becomes of the pages on the way to a leaf when a row is taken there: told by these pages alone.
+-- What becomes of the pages of a way where a row is taken from its leaf, told by these pages alone.
 use Rattle.std.specs.Prelude.{◌≡◌, ℕ, List, [], ◌∷◌, ◌++◌, Option, Some, None, ◌==◌, if◌then◌else◌}
-use Rattle.spec_levels.specs.Levels.{Row, Node, first_page, Payload}
-use Rattle.spec_ways.specs.Climbs.{prev_is}
-use Rattle.spec_ways.specs.Delete.{headed}
-use Rattle.spec_ways.specs.Insert.{key_of_first}
-use Rattle.spec_ways.specs.Rows.{without}
-use Rattle.spec_ways.specs.Ways.{key_toward}
+use Rattle.spec_levels.specs.Levels.{Payload, Row, Node, Index, Leaf, first_page}
+use Rattle.spec_ways.specs.Rows.{without, lowest_key, with_first_key}
+use Rattle.spec_ways.specs.Ways.{Way, key_toward}
+use Rattle.spec_ways.specs.Climbs.{with_first_prev}
 
--- a page is untouched, keeps these rows, or has none left and goes; the key that the edge below takes, where the row
--- that left was the first
+-- a page is untouched, keeps these rows, or has none left and goes; with the rows that are kept stands the key that goes
+-- down the left edge below, where the row that was lost was the first
 pub data Loss (V : Type 0) : Type 0 where
   Untouched : Loss V
   Keeps : List (Row V) → Option ℕ → Loss V
@@ -16,82 +14,91 @@ pub data Loss (V : Type 0) : Type 0 where
 
 abbrev pub loss_of : {V : Type 0} → List (Row V) → Option ℕ → Loss V
 loss_of [] edge = Goes
-loss_of (y ∷ ys) edge = Keeps (y ∷ ys) edge
+loss_of (row ∷ rows) edge = Keeps (row ∷ rows) edge
 
-abbrev pub gone_of : {V : Type 0} → ℕ → Loss V → Option ℕ
-gone_of key Untouched = None
-gone_of key (Keeps rows edge) = None
-gone_of key Goes = Some key
+-- the key of the row that named a page that goes
+abbrev pub gone_key_of : {V : Type 0} → ℕ → Loss V → Option ℕ
+gone_key_of key Untouched = None
+gone_key_of key (Keeps rows edge) = None
+gone_key_of key Goes = Some key
 
+-- the key of the row that is lost, where that is the first
 abbrev pub edge_of : ℕ → List (Row ℕ) → Option ℕ
-edge_of g rows = if g == key_of_first rows then Some g else None
+edge_of key rows = if key == lowest_key rows then Some key else None
 
--- the losses of a way's pages, the root's first, and the key of the row that leaves above the root
+-- the losses of a way's pages, the highest first, and the key of the row that named the first where that goes
 pub record Sink : Type 0 where
   pub above : List (Loss ℕ)
   pub leaf : Loss Payload
-  pub gone : Option ℕ
+  pub gone_key : Option ℕ
 
-abbrev pub sunk_at : ℕ → Node ℕ → Sink → Option ℕ → Sink
-sunk_at key n b None = record { above = Untouched ∷ b.above; leaf = b.leaf; gone = None }
-sunk_at key n b (Some g) =
-    let loss = loss_of (headed key (without g n.rows)) (edge_of g n.rows) in record { above = loss ∷ b.above; leaf = b.leaf; gone = gone_of key loss }
+abbrev pub sink_through : ℕ → Index → Sink → Option ℕ → Sink
+sink_through first node below None = record { above = Untouched ∷ below.above; leaf = below.leaf; gone_key = None }
+sink_through first node below (Some key) =
+    let loss = loss_of (with_first_key first (without key node.rows)) (edge_of key node.rows) in
+    record { above = loss ∷ below.above; leaf = below.leaf; gone_key = gone_key_of first loss }
 
--- the key of the row above comes first
-abbrev pub sink : ℕ → ℕ → List (Node ℕ) → Node Payload → Sink
-sink key k [] leaf = let loss = loss_of (without k leaf.rows) None in record { above = []; leaf = loss; gone = gone_of key loss }
-sink key k (n ∷ above) leaf = let b = sink (key_toward k n.rows) k above leaf in sunk_at key n b b.gone
+-- from the leaf upwards, given the key of the row that names the first page of the way
+abbrev pub sink : ℕ → ℕ → List Index → Leaf → Sink
+sink first key [] leaf = let loss = loss_of (without key leaf.rows) None in record { above = []; leaf = loss; gone_key = gone_key_of first loss }
+sink first key (node ∷ above) leaf = let below = sink (key_toward key node.rows) key above leaf in sink_through first node below below.gone_key
 
--- these pages, another behind the last
-abbrev pub next_is : {V : Type 0} → ℕ → List (Node V) → List (Node V)
-next_is q [] = []
-next_is q (n ∷ []) = record { page = n.page; prev = n.prev; next = q; rows = n.rows } ∷ []
-next_is q (n ∷ m ∷ ns) = n ∷ next_is q (m ∷ ns)
+-- of a whole way: the catalog's row names the root
+abbrev pub sink_of : ℕ → Way → Sink
+sink_of key way = sink 0 key way.above way.leaf
 
--- the first of these pages begins with the edge's key
-abbrev pub edge_is : {V : Type 0} → Option ℕ → List (Node V) → List (Node V)
-edge_is None nodes = nodes
-edge_is (Some g) [] = []
-edge_is (Some g) (n ∷ ns) = record { page = n.page; prev = n.prev; next = n.next; rows = headed g n.rows } ∷ ns
+-- these nodes, the last with this page as next
+abbrev pub with_last_next : {V : Type 0} → ℕ → List (Node V) → List (Node V)
+with_last_next next [] = []
+with_last_next next (node ∷ []) = record { page = node.page; prev = node.prev; next = next; rows = node.rows } ∷ []
+with_last_next next (node ∷ other ∷ nodes) = node ∷ with_last_next next (other ∷ nodes)
 
--- the level after the loss
-abbrev pub lost : {V : Type 0} → Loss V → Option ℕ → List (Node V) → Node V → List (Node V) → List (Node V)
-lost Untouched edge left n right = left ++ n ∷ right
-lost (Keeps rows below) edge left n right = left ++ record { page = n.page; prev = n.prev; next = n.next; rows = rows } ∷ right
-lost Goes edge left n right = next_is (first_page right) left ++ prev_is n.prev (edge_is edge right)
+-- these nodes, the first on the left edge: it begins with the edge's key
+abbrev pub with_edge : {V : Type 0} → Option ℕ → List (Node V) → List (Node V)
+with_edge None nodes = nodes
+with_edge (Some key) [] = []
+with_edge (Some key) (node ∷ nodes) = record { page = node.page; prev = node.prev; next = node.next; rows = with_first_key key node.rows } ∷ nodes
 
--- a level in which this page has the loss, its old prev and next name each other where it goes, its old next begins
--- with the edge's key, and nothing else changes
-pub record IsSunk {V : Type 0} (n : Node V) (loss : Loss V) (edge : Option ℕ) (nodes nodes' : List (Node V)) : Type 0 where
+-- a level after the loss of the page between left and right: where it goes, its prev and its next name each other, and
+-- its next takes its place on the left edge
+abbrev pub after_loss : {V : Type 0} → Loss V → Option ℕ → List (Node V) → Node V → List (Node V) → List (Node V)
+after_loss Untouched edge left node right = left ++ node ∷ right
+after_loss (Keeps rows below) edge left node right = left ++ record { page = node.page; prev = node.prev; next = node.next; rows = rows } ∷ right
+after_loss Goes edge left node right = with_last_next (first_page right) left ++ with_first_prev node.prev (with_edge edge right)
+
+-- a level in which this page has the loss, and nothing else changes
+pub record IsSunk {V : Type 0} (node : Node V) (loss : Loss V) (edge : Option ℕ) (before now : List (Node V)) : Type 0 where
   pub left : List (Node V)
   pub right : List (Node V)
-  pub before : nodes ≡ left ++ n ∷ right
-  pub now : nodes' ≡ lost loss edge left n right
+  pub was : before ≡ left ++ node ∷ right
+  pub is : now ≡ after_loss loss edge left node right
 
--- the edge of the level below
+-- the key of the left edge one level lower
 abbrev pub edge_below : {V : Type 0} → Option ℕ → Loss V → Option ℕ
 edge_below edge Untouched = None
 edge_below edge (Keeps rows below) = below
 edge_below edge Goes = edge
 
-abbrev pub AreSunk : Option ℕ → List (Node ℕ) → List (Loss ℕ) → List (List (Node ℕ)) → List (List (Node ℕ)) → Type 0
+-- one page of each level
+abbrev pub AreSunk : Option ℕ → List Index → List (Loss ℕ) → List (List Index) → List (List Index) → Type 0
 AreSunk edge [] [] [] [] = Unit {0}
-AreSunk edge (n ∷ ns) (loss ∷ losses) (nodes ∷ more) (nodes' ∷ more') = IsSunk n loss edge nodes nodes' × AreSunk (edge_below edge loss) ns losses more more'
-AreSunk edge ns losses more more' = ⊥
+AreSunk edge (node ∷ way) (loss ∷ losses) (before ∷ more) (now ∷ rest) = IsSunk node loss edge before now × AreSunk (edge_below edge loss) way losses more rest
+AreSunk edge way losses more rest = ⊥
 
--- the pages that go, from the leaf upwards
-abbrev pub freed : {V : Type 0} → Loss V → Node V → List ℕ
-freed Untouched n = []
-freed (Keeps rows below) n = []
-freed Goes n = n.page ∷ []
+-- the page where it goes
+abbrev pub freed_page : {V : Type 0} → Loss V → Node V → List ℕ
+freed_page Untouched node = []
+freed_page (Keeps rows below) node = []
+freed_page Goes node = node.page ∷ []
 
-abbrev pub frees : List (Node ℕ) → List (Loss ℕ) → Node Payload → Loss Payload → List ℕ
-frees [] losses leaf loss = freed loss leaf
-frees (n ∷ ns) [] leaf loss = []
-frees (n ∷ ns) (l ∷ losses) leaf loss = frees ns losses leaf loss ++ freed l n
+-- the pages of a way that go, from the leaf upwards
+abbrev pub freed_pages : List Index → List (Loss ℕ) → Leaf → Loss Payload → List ℕ
+freed_pages [] losses leaf loss = freed_page loss leaf
+freed_pages (node ∷ way) [] leaf loss = []
+freed_pages (node ∷ way) (lost ∷ losses) leaf loss = freed_pages way losses leaf loss ++ freed_page lost node
 
--- the root stays
-abbrev pub frees_below : List (Node ℕ) → List (Loss ℕ) → Node Payload → Loss Payload → List ℕ
-frees_below [] losses leaf loss = []
-frees_below (n ∷ ns) [] leaf loss = []
-frees_below (n ∷ ns) (l ∷ losses) leaf loss = frees ns losses leaf loss
+-- those of a whole way: the root stays
+abbrev pub freed_below_root : List Index → List (Loss ℕ) → Leaf → Loss Payload → List ℕ
+freed_below_root [] losses leaf loss = []
+freed_below_root (node ∷ way) [] leaf loss = []
+freed_below_root (node ∷ way) (lost ∷ losses) leaf loss = freed_pages way losses leaf loss

@@ -1,46 +1,54 @@
--- The way from the root to the leaf where a key belongs, page by page.
-use Rattle.std.specs.Prelude.{ℕ, List, [], ◌∷◌, Option, Some, None, ◌==◌, if◌then◌else◌}
-use Rattle.spec_levels.specs.Levels.{Row, Node, Tree, Payload}
-use Rattle.spec_ways.specs.Insert.{is_here}
+-- The way towards a key: the pages from the root down to the leaf where the key belongs.
+use Rattle.std.specs.Prelude.{ℕ, List, [], ◌∷◌, ◌++◌, map, Option, Some, None, ◌==◌, if◌then◌else◌}
+use Rattle.spec_levels.specs.Levels.{Row, Node, Index, Leaf, Tree, root_row}
+use Rattle.spec_ways.specs.Rows.{is_below_first}
 
--- of the last row whose key is not above this one, or else of the first row
-abbrev pub toward_by : (Row ℕ → ℕ) → ℕ → List (Row ℕ) → ℕ
-toward_by of k [] = 0
-toward_by of k (r ∷ rest) = if is_here k rest then of r else toward_by of k rest
+-- the row of an index page under which a key belongs: the one before the first row behind it whose key is above this key
+abbrev pub row_toward : ℕ → List (Row ℕ) → Row ℕ
+row_toward key [] = root_row 0
+row_toward key (row ∷ rest) = if is_below_first key rest then row else row_toward key rest
 
 -- the page that it names
 abbrev pub child_toward : ℕ → List (Row ℕ) → ℕ
-child_toward k rows = toward_by (λ r. r.value) k rows
+child_toward key rows = (row_toward key rows).value
 
 -- its key
 abbrev pub key_toward : ℕ → List (Row ℕ) → ℕ
-key_toward k rows = toward_by (λ r. r.key) k rows
+key_toward key rows = (row_toward key rows).key
 
--- the page of the level with this number
-abbrev pub page_in : {V : Type 0} → ℕ → List (Node V) → Option (Node V)
-page_in p [] = None
-page_in p (n ∷ ns) = if n.page == p then Some n else page_in p ns
+-- the node of a level that stands in this page
+abbrev pub node_at : {V : Type 0} → ℕ → List (Node V) → Option (Node V)
+node_at page [] = None
+node_at page (node ∷ nodes) = if node.page == page then Some node else node_at page nodes
 
--- the pages from this one down to the leaf, the leaf last and apart
-pub record Path : Type 0 where
-  pub above : List (Node ℕ)
-  pub leaf : Node Payload
+-- pages from one down to a leaf: the index pages, the highest first, and the leaf
+pub record Way : Type 0 where
+  pub above : List Index
+  pub leaf : Leaf
 
-abbrev pub under : Node ℕ → Option Path → Option Path
-under n None = None
-under n (Some path) = Some (record { above = n ∷ path.above; leaf = path.leaf })
+-- the way that ends at a leaf at once
+abbrev pub ending_at : Option Leaf → Option Way
+ending_at None = None
+ending_at (Some leaf) = Some (record { above = []; leaf = leaf })
 
-abbrev pub at_leaf : Option (Node Payload) → Option Path
-at_leaf None = None
-at_leaf (Some n) = Some (record { above = []; leaf = n })
+-- the way through an index page, given that from the child on
+abbrev pub through : Index → Option Way → Option Way
+through node None = None
+through node (Some way) = Some (record { above = node ∷ way.above; leaf = way.leaf })
 
-abbrev pub toward : (ℕ → Option Path) → ℕ → Option (Node ℕ) → Option Path
-toward go k None = None
-toward go k (Some n) = under n (go (child_toward k n.rows))
+abbrev pub through_child : (ℕ → Option Way) → ℕ → Option Index → Option Way
+through_child from key None = None
+through_child from key (Some node) = through node (from (child_toward key node.rows))
 
-abbrev pub path_from : ℕ → List (List (Node ℕ)) → List (Node Payload) → ℕ → Option Path
-path_from k [] leaves p = at_leaf (page_in p leaves)
-path_from k (nodes ∷ more) leaves p = toward (path_from k more leaves) k (page_in p nodes)
+-- the way towards a key from a page of the first of these levels
+abbrev pub way_from : ℕ → List (List Index) → List Leaf → ℕ → Option Way
+way_from key [] leaves page = ending_at (node_at page leaves)
+way_from key (nodes ∷ more) leaves page = through_child (way_from key more leaves) key (node_at page nodes)
 
-abbrev pub path : ℕ → Tree → ℕ → Option Path
-path root tree k = path_from k tree.above tree.leaves root
+-- the way from the root of a tree
+abbrev pub way_to : ℕ → Tree → ℕ → Option Way
+way_to root tree key = way_from key tree.above tree.leaves root
+
+-- the pages of a way, the highest first
+abbrev pub way_pages : Way → List ℕ
+way_pages way = map (λ (node : Index). node.page) way.above ++ way.leaf.page ∷ []

@@ -1,0 +1,45 @@
+-- What a delete makes of a tree, which pages it changes and which it frees, and what it writes.
+use Rattle.std.specs.Prelude.{◌≡◌, ◌↔◌, ℕ, ◌++◌, Contains, Some, None}
+use Rattle.spec_levels.specs.Levels.{Tree, tree_pages, AreDistinct, IsTree}
+use Rattle.spec_ways.specs.Rows.{without, contents}
+use Rattle.spec_ways.specs.Ways.{Way, way_to}
+use Rattle.spec_ways.specs.Delete.{Shrunk, lowered, deleted}
+use Rattle.spec_ways.specs.Sinks.{sink_of, IsSunk, AreSunk}
+use Rattle.spec_ways.specs.Pages.{Pages, Shows}
+use Rattle.spec_ways.specs.DeleteWrites.{delete_written, delete_frees}
+
+-- the tree without the row is a tree, with the other rows; it has no page that the tree before hasn't
+pub record IsDeleted (root key : ℕ) (tree now : Tree) : Type 0 where
+  pub is_tree : IsTree root now
+  pub contents : contents now ≡ without key (contents tree)
+  pub fewer : (page : ℕ) → Contains (tree_pages now) page → Contains (tree_pages tree) page
+
+abbrev pub DeleteKeeps : Type 0
+DeleteKeeps = (root key : ℕ) (tree : Tree) → IsTree root tree → IsDeleted root key tree (deleted root key tree)
+
+-- of each level the page of the way has its loss and nothing else changes but its neighbours where it goes; then a root
+-- that is left without rows or with one is lowered
+pub record IsSunkTree (root key : ℕ) (tree now : Tree) : Type 0 where
+  pub way : Way
+  pub is : way_to root tree key ≡ Some way
+  pub levels : Shrunk
+  pub above_losses : AreSunk None way.above (sink_of key way).above tree.above levels.above
+  pub leaf_loss : IsSunk way.leaf (sink_of key way).leaf None tree.leaves levels.leaves
+  pub ends : now ≡ lowered root levels (sink_of key way).gone_key
+
+abbrev pub DeleteSinks : Type 0
+DeleteSinks = (root key : ℕ) (tree : Tree) → IsTree root tree → IsSunkTree root key tree (deleted root key tree)
+
+-- what the way of a delete writes shows the tree without the row, and no page changes that wasn't the tree's; the pages
+-- that are freed are those of the tree before that it has no more, each once
+pub record DeleteWrites (root key : ℕ) (tree now : Tree) (image : Pages) : Type 0 where
+  pub way : Way
+  pub is : way_to root tree key ≡ Some way
+  pub shows : let sink = sink_of key way in Shows (delete_written root way sink sink.gone_key image) now.above now.leaves
+  pub same : (page : ℕ) → (Contains (tree_pages tree) page → ⊥) → let sink = sink_of key way in delete_written root way sink sink.gone_key image page ≡ image page
+  pub pages_are : (page : ℕ) → Contains (tree_pages tree) page ↔ Contains (tree_pages now ++ delete_frees root way (sink_of key way) image) page
+  pub apart : AreDistinct (tree_pages now ++ delete_frees root way (sink_of key way) image)
+
+-- where the pages of an image show the tree
+abbrev pub DeleteIsWritten : Type 0
+DeleteIsWritten = (root key : ℕ) (tree : Tree) (image : Pages) → IsTree root tree → Shows image tree.above tree.leaves → DeleteWrites root key tree (deleted root key tree) image

@@ -1,0 +1,52 @@
+-- What an insert makes of a tree, which pages it changes and which new ones it takes, and what it writes.
+use Rattle.std.specs.Prelude.{◌≡◌, ◌↔◌, ℕ, ◌+◌, ◌≤◌, List, ◌++◌, length, Contains, Some}
+use Rattle.spec_levels.specs.Levels.{Payload, Row, Tree, tree_pages, AreDistinct, IsTree}
+use Rattle.spec_ways.specs.Rows.{with_row, contents}
+use Rattle.spec_ways.specs.Ways.{Way, way_to}
+use Rattle.spec_ways.specs.Insert.{Cuts, IsCut, Grown, left_over, raised, inserted, AreFresh}
+use Rattle.spec_ways.specs.Climbs.{climb_of, IsStepped, AreStepped}
+use Rattle.spec_ways.specs.Pages.{Pages, Shows}
+use Rattle.spec_ways.specs.InsertWrites.{insert_written}
+
+-- the tree with the row is a tree, unless it has too many levels; the row stands at its place among the rows of the tree
+-- before; it has that tree's pages, and else new ones
+pub record IsInserted (root : ℕ) (fresh : List ℕ) (row : Row Payload) (tree now : Tree) : Type 0 where
+  pub is_tree : length now.above ≤ 15 → IsTree root now
+  pub height : length now.above ≤ length tree.above + 1
+  pub contents : contents now ≡ with_row row (contents tree)
+  pub kept : (page : ℕ) → Contains (tree_pages tree) page → Contains (tree_pages now) page
+  pub added : (page : ℕ) → Contains (tree_pages now) page → Contains (fresh ++ tree_pages tree) page
+
+abbrev pub InsertKeeps : Type 0
+InsertKeeps = (cuts : Cuts) (fresh : List ℕ) (root : ℕ) (row : Row Payload) (tree : Tree) → IsCut cuts.leaf → IsCut cuts.index → IsTree root tree → AreFresh fresh tree
+    → IsInserted root fresh row tree (inserted cuts fresh root row tree)
+
+-- of each level the page of the way makes its step and nothing else changes; then a root that was split is raised. The
+-- pages of the tree with the row, and the new ones that are left, are the new ones and the pages of the tree before
+pub record IsClimbed (cuts : Cuts) (fresh : List ℕ) (root : ℕ) (row : Row Payload) (tree now : Tree) : Type 0 where
+  pub way : Way
+  pub is : way_to root tree row.key ≡ Some way
+  pub levels : Grown
+  pub above_steps : AreStepped way.above (climb_of cuts fresh row way).above tree.above levels.above
+  pub leaf_steps : IsStepped way.leaf (climb_of cuts fresh row way).leaf tree.leaves levels.leaves
+  pub fresh_is : levels.fresh ≡ (climb_of cuts fresh row way).fresh
+  pub raises : now ≡ raised root levels (climb_of cuts fresh row way).separator
+  pub pages_are : (page : ℕ) → let climb = climb_of cuts fresh row way in
+      Contains (tree_pages now ++ left_over climb.separator climb.fresh) page ↔ Contains (fresh ++ tree_pages tree) page
+  pub apart : let climb = climb_of cuts fresh row way in AreDistinct (tree_pages now ++ left_over climb.separator climb.fresh)
+
+abbrev pub InsertClimbs : Type 0
+InsertClimbs = (cuts : Cuts) (fresh : List ℕ) (root : ℕ) (row : Row Payload) (tree : Tree) → IsCut cuts.leaf → IsCut cuts.index → IsTree root tree → AreFresh fresh tree
+    → IsClimbed cuts fresh root row tree (inserted cuts fresh root row tree)
+
+-- what the way of an insert writes shows the tree with the row, and no page changes that isn't one of that tree
+pub record InsertWrites (cuts : Cuts) (fresh : List ℕ) (root : ℕ) (row : Row Payload) (tree now : Tree) (image : Pages) : Type 0 where
+  pub way : Way
+  pub is : way_to root tree row.key ≡ Some way
+  pub shows : let climb = climb_of cuts fresh row way in Shows (insert_written root way climb climb.separator image) now.above now.leaves
+  pub same : (page : ℕ) → (Contains (tree_pages now) page → ⊥) → let climb = climb_of cuts fresh row way in insert_written root way climb climb.separator image page ≡ image page
+
+-- where the pages of an image show the tree
+abbrev pub InsertIsWritten : Type 0
+InsertIsWritten = (cuts : Cuts) (fresh : List ℕ) (root : ℕ) (row : Row Payload) (tree : Tree) (image : Pages) → IsCut cuts.leaf → IsCut cuts.index → IsTree root tree → AreFresh fresh tree
+    → Shows image tree.above tree.leaves → InsertWrites cuts fresh root row tree (inserted cuts fresh root row tree) image

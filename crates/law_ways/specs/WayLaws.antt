@@ -1,0 +1,29 @@
+-- Where the way towards a key leads, and that it is read from the pages that show the tree.
+use Rattle.std.specs.Prelude.{◌≡◌, ℕ, length, Some, None}
+use Rattle.spec_levels.specs.Levels.{Tree, keys_of, Rises, IsTree}
+use Rattle.spec_ways.specs.Rows.{contents, value_at}
+use Rattle.spec_ways.specs.Ways.{Way, way_to, way_pages}
+use Rattle.spec_ways.specs.Pages.{Pages, Shows, read_way, asked_pages}
+
+-- the keys of a tree's rows rise from left to right
+abbrev pub ContentsRise : Type 0
+ContentsRise = (root : ℕ) (tree : Tree) → IsTree root tree → Rises 0 None (keys_of (contents tree))
+
+-- the way towards a key has a page of each level, and its leaf holds what the tree holds at the key
+pub record Leads (root key : ℕ) (tree : Tree) : Type 0 where
+  pub way : Way
+  pub is : way_to root tree key ≡ Some way
+  pub long : length way.above ≡ length tree.above
+  pub holds : value_at key way.leaf.rows ≡ value_at key (contents tree)
+
+abbrev pub WaysLead : Type 0
+WaysLead = (root key : ℕ) (tree : Tree) → IsTree root tree → Leads root key tree
+
+-- the way read from an image, and the pages that are asked for it in order
+pub record IsRead (root key : ℕ) (image : Pages) (way : Way) : Type 0 where
+  pub read : read_way 15 key image root ≡ Some way
+  pub asked : asked_pages 15 key image root ≡ way_pages way
+
+-- where the pages of an image show a tree, the way that is read is the tree's, and its pages are asked from the root down
+abbrev pub WaysAreRead : Type 0
+WaysAreRead = (root key : ℕ) (tree : Tree) (image : Pages) (way : Way) → IsTree root tree → Shows image tree.above tree.leaves → way_to root tree key ≡ Some way → IsRead root key image way

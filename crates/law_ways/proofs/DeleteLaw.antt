@@ -1,6 +1,7 @@
 -- A tree without one of its rows is a tree.
 use Rattle.std.proofs.Common.{◌≡◌, ℕ, ◌≤◌, Option, Some, None, List, ◌++◌, Contains, refl, sym, ap, ◌∙◌, subst, arith}
-use Rattle.spec_levels.specs.Levels.{Row, Node, tree_pages}
+use Rattle.spec_levels.specs.Levels.{Row, Node, rows_of, tree_pages}
+use Rattle.spec_ways.specs.Rows.{without, value_at}
 use Rattle.spec_ways.specs.Delete.{shrunk, lowered, deleted}
 use Rattle.spec_ways.specs.DeleteWrites.{delete_written, collapsed_children, delete_frees}
 use Rattle.spec_ways.specs.Insert.{root_rows}
@@ -10,9 +11,11 @@ use Rattle.law_ways.proofs.Bridge.{fits_from, levels_from, counted, contains_fro
 use Rattle.law_ways.proofs.EndShows.{delete_shows, sink_top}
 use Rattle.law_ways.proofs.Fits.{count, all_pages}
 use Rattle.law_ways.proofs.GrowLaws.{count_append}
-use Rattle.law_ways.proofs.InsertLaw.{tree_counts, none_zero, no_count}
+use Rattle.law_ways.proofs.Counts.{tree_counts, none_zero, no_count}
+use Rattle.law_ways.proofs.RowValues.{without_value, without_others, without_none}
+use Rattle.law_ways.proofs.WayLaw.{contents_within}
 use Rattle.law_ways.proofs.SinkLaws.{SunkCase, sinks}
-use Rattle.law_ways.specs.DeleteLaws.{DeleteKeeps, DeleteSinks, DeleteIsWritten}
+use Rattle.law_ways.specs.DeleteLaws.{DeleteKeeps, DeleteTakes, DeleteSinks, DeleteIsWritten}
 use Rattle.law_ways.proofs.ShrinkLaws as shrink
 
 pub delete_keeps : DeleteKeeps
@@ -33,6 +36,16 @@ delete_keeps root k tree is =
       };
       contents = h.contents;
       fewer = there;
+    }
+
+pub delete_takes : DeleteTakes
+delete_takes root k tree is =
+    let t = deleted root k tree in
+    let left : rows_of t.leaves ≡ without k (rows_of tree.leaves) = (delete_keeps root k tree is).contents in
+    record {
+      none = ap (value_at k) left ∙ without_value 0 None k (rows_of tree.leaves) (contents_within root tree is);
+      others = λ other apart. ap (value_at other) left ∙ without_others other k (rows_of tree.leaves) apart;
+      same = λ none. left ∙ without_none k (rows_of tree.leaves) none;
     }
 
 plain : (key : ℕ) (rows : List (Row ℕ)) (ns : List (Node ℕ)) (losses : List (Loss ℕ)) (above above' : List (List (Node ℕ))) (o : Option ℕ) → SunkCase key rows ns losses above above' o

@@ -1,56 +1,22 @@
 -- A tree with one row more is a tree.
 use Rattle.std.proofs.Common.{◌≡◌, ◌↔◌, ℕ, zero, suc, ◌≤◌, List, [], ◌∷◌, ◌++◌, Option, None, Contains, refl, sym, ap, ◌∙◌, subst, arith}
-use Rattle.spec_levels.specs.Levels.{Row, Node, Tree, rows_of, tree_pages, AreDistinct, IsTree, Payload}
+use Rattle.spec_levels.specs.Levels.{Row, Tree, keys_of, rows_of, tree_pages, AreDistinct, IsTree, Payload}
+use Rattle.spec_ways.specs.Rows.{with_row, value_at}
 use Rattle.spec_ways.specs.Climbs.{climb}
 use Rattle.spec_ways.specs.Insert.{Cuts, root_rows, left_over, grown, raised, inserted, IsCut, AreFresh}
 use Rattle.spec_ways.specs.InsertWrites.{insert_written}
 use Rattle.spec_ways.specs.Pages.{Shows}
 use Rattle.law_ways.proofs.Bounds.{Within}
 use Rattle.law_ways.proofs.Bridge.{fits_from, levels_from, counted, contains_from, once, distinct_from, pages_are_all, rises_from}
-use Rattle.law_ways.proofs.Fits.{Fits, count, all_pages}
+use Rattle.law_ways.proofs.Counts.{tree_counts, none_zero, no_count}
+use Rattle.law_ways.proofs.Fits.{count, all_pages}
+use Rattle.law_ways.proofs.RowValues.{with_value, with_others, with_keys}
+use Rattle.law_ways.proofs.WayLaw.{contents_within}
 use Rattle.law_ways.proofs.GrowLaws.{count_append}
-use Rattle.law_ways.proofs.PathLaws.{leads}
-use Rattle.law_ways.proofs.PutLaws.{level_within}
 use Rattle.law_ways.proofs.RaiseShows.{climb_top, insert_shows}
 use Rattle.law_ways.proofs.StepLaws.{climbs}
-use Rattle.law_ways.proofs.WayReads.{way_is_read}
-use Rattle.law_ways.proofs.WayAsks.{pages_asked}
-use Rattle.law_ways.specs.WayLaws.{ContentsRise, WaysLead, WaysAreRead}
-use Rattle.law_ways.specs.InsertLaws.{InsertKeeps, InsertClimbs, InsertIsWritten}
+use Rattle.law_ways.specs.InsertLaws.{InsertKeeps, UpdateReplaces, InsertClimbs, InsertIsWritten}
 use Rattle.law_ways.proofs.TopLaws as top
-
--- the rows of the leaves rise
-fits_within : (low : ℕ) (high : Option ℕ) (rows : List (Row ℕ)) (above : List (List (Node ℕ))) (leaves : List (Node Payload)) → Within low high rows → Fits high rows above leaves
-    → Within low high (rows_of leaves)
-fits_within low high rows [] leaves w f = level_within low high rows leaves w f.0
-fits_within low high rows (nodes ∷ more) leaves w f = fits_within low high (rows_of nodes) more leaves (level_within low high rows nodes w f.0) f.3
-
-pub contents_rise : ContentsRise
-contents_rise root tree is =
-    rises_from 0 None (rows_of tree.leaves)
-    (fits_within 0 None (root_rows root) tree.above tree.leaves (omega arith, tt, tt) (fits_from (root_rows root) tree.above tree.leaves is.levels))
-
-pub tree_counts : (tree : Tree) (p : ℕ) → count p (all_pages tree.above tree.leaves) ≡ count p (tree_pages tree)
-tree_counts tree p = ap (count p) (pages_are_all tree.above tree.leaves)
-
-pub none_zero : (xs : List ℕ) → (Contains xs 0 → ⊥) → count 0 xs ≡ 0
-none_zero xs none = by_count (count 0 xs) refl
-  where
-    by_count : (n : ℕ) → count 0 xs ≡ n → n ≡ 0
-    by_count zero e = refl
-    by_count (suc n) e = absurd (none (contains_from 0 xs (omega (arith, e))))
-
-pub ways_lead : WaysLead
-ways_lead root k tree is =
-    let h = leads k 0 (root_rows root) tree.above tree.leaves (omega arith) refl (omega arith, tt, tt) (fits_from (root_rows root) tree.above tree.leaves is.levels)
-    (λ p. let a = tree_counts tree p in let b = once p (tree_pages tree) is.distinct in omega (arith, a, b)) in
-    record { way = h.way; is = h.is; long = h.long; holds = h.holds }
-
-pub ways_are_read : WaysAreRead
-ways_are_read root k tree image way is s e = record {
-  read = way_is_read 15 k image tree.above tree.leaves is.height s root way e;
-  asked = pages_asked 15 k image tree.above tree.leaves is.height s root way e;
-}
 
 -- the pages of the tree with the row, counted
 new_counts : (cuts : Cuts) (fresh : List ℕ) (root : ℕ) (x : Row Payload) (tree : Tree) → IsCut cuts.leaf → IsCut cuts.index → IsTree root tree → AreFresh fresh tree
@@ -85,6 +51,16 @@ insert_keeps cuts fresh root x tree leaf index is new =
           let e = count_append p fresh (tree_pages tree) in omega (arith, a, b, c, e, some));
     }
 
+pub update_replaces : UpdateReplaces
+update_replaces cuts fresh root x tree old leaf index is new e =
+    let t = inserted cuts fresh root x tree in
+    let same : rows_of t.leaves ≡ with_row x (rows_of tree.leaves) = (insert_keeps cuts fresh root x tree leaf index is new).contents in
+    record {
+      keys = ap (λ l. keys_of l) same ∙ with_keys 0 None x (rows_of tree.leaves) old (contents_within root tree is) e;
+      value = ap (value_at x.key) same ∙ with_value x (rows_of tree.leaves);
+      others = λ key other. ap (value_at key) same ∙ with_others key x (rows_of tree.leaves) other;
+    }
+
 pub insert_climbs : InsertClimbs
 insert_climbs cuts fresh root x tree leaf index is new =
     let b = grown cuts fresh x (root_rows root) tree.above tree.leaves in
@@ -114,13 +90,6 @@ insert_climbs cuts fresh root x tree leaf index is new =
       apart = subst (λ (left : List ℕ). AreDistinct (tree_pages t ++ left)) left_is
           (distinct_from (tree_pages t ++ left_over b.separator b.fresh) (λ p. let e = exact p in let f = once p (fresh ++ tree_pages tree) new.distinct in omega (arith, e, f)));
     }
-
-pub no_count : (xs : List ℕ) (p : ℕ) → (Contains xs p → ⊥) → count p xs ≡ 0
-no_count xs p none = by_count (count p xs) refl
-  where
-    by_count : (n : ℕ) → count p xs ≡ n → n ≡ 0
-    by_count zero e = refl
-    by_count (suc n) e = absurd (none (contains_from p xs (omega (arith, e))))
 
 pub insert_is_written : InsertIsWritten
 insert_is_written cuts fresh root x tree image leaf index is new s =

@@ -1,6 +1,8 @@
 pub mod WayAsks
+pub mod WayLaw
 pub mod Bounds
 pub mod Bridge
+pub mod Counts
 pub mod DeleteLaw
 pub mod EndShows
 pub mod Examples
@@ -13,6 +15,8 @@ pub mod PutLaws
 pub mod RaiseShows
 pub mod Room
 pub mod RowLaws
+pub mod RowValues
+pub mod RowsLead
 pub mod ShowLaws
 pub mod ShrinkLaws
 pub mod SinkLaws

@@ -1,7 +1,7 @@
 -- What a delete makes of a tree, which pages it changes and which it frees, and what it writes.
 use Rattle.std.specs.Prelude.{◌≡◌, ◌↔◌, ℕ, ◌++◌, Contains, Some, None}
 use Rattle.spec_levels.specs.Levels.{Tree, tree_pages, AreDistinct, IsTree}
-use Rattle.spec_ways.specs.Rows.{without, contents}
+use Rattle.spec_ways.specs.Rows.{without, value_at, contents}
 use Rattle.spec_ways.specs.Ways.{Way, way_to}
 use Rattle.spec_ways.specs.Delete.{Shrunk, lowered, deleted}
 use Rattle.spec_ways.specs.Sinks.{sink_of, IsSunk, AreSunk}
@@ -16,6 +16,15 @@ pub record IsDeleted (root key : ℕ) (tree now : Tree) : Type 0 where
 
 abbrev pub DeleteKeeps : Type 0
 DeleteKeeps = (root key : ℕ) (tree : Tree) → IsTree root tree → IsDeleted root key tree (deleted root key tree)
+
+-- the key is held no more, and what other keys hold stays; so do all rows where the key wasn't held
+pub record IsTakenOut (key : ℕ) (tree now : Tree) : Type 0 where
+  pub none : value_at key (contents now) ≡ None
+  pub others : (other : ℕ) → (other ≡ key → ⊥) → value_at other (contents now) ≡ value_at other (contents tree)
+  pub same : value_at key (contents tree) ≡ None → contents now ≡ contents tree
+
+abbrev pub DeleteTakes : Type 0
+DeleteTakes = (root key : ℕ) (tree : Tree) → IsTree root tree → IsTakenOut key tree (deleted root key tree)
 
 -- of each level the page of the way has its loss and nothing else changes but its neighbours where it goes; then a root
 -- that is left without rows or with one is lowered

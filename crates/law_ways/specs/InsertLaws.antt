@@ -1,7 +1,7 @@
 -- What an insert makes of a tree, which pages it changes and which new ones it takes, and what it writes.
 use Rattle.std.specs.Prelude.{◌≡◌, ◌↔◌, ℕ, ◌+◌, ◌≤◌, List, ◌++◌, length, Contains, Some}
-use Rattle.spec_levels.specs.Levels.{Payload, Row, Tree, tree_pages, AreDistinct, IsTree}
-use Rattle.spec_ways.specs.Rows.{with_row, contents}
+use Rattle.spec_levels.specs.Levels.{Payload, Row, Tree, keys_of, tree_pages, AreDistinct, IsTree}
+use Rattle.spec_ways.specs.Rows.{with_row, value_at, contents}
 use Rattle.spec_ways.specs.Ways.{Way, way_to}
 use Rattle.spec_ways.specs.Insert.{Cuts, IsCut, Grown, left_over, raised, inserted, AreFresh}
 use Rattle.spec_ways.specs.Climbs.{climb_of, IsStepped, AreStepped}
@@ -20,6 +20,16 @@ pub record IsInserted (root : ℕ) (fresh : List ℕ) (row : Row Payload) (tree 
 abbrev pub InsertKeeps : Type 0
 InsertKeeps = (cuts : Cuts) (fresh : List ℕ) (root : ℕ) (row : Row Payload) (tree : Tree) → IsCut cuts.leaf → IsCut cuts.index → IsTree root tree → AreFresh fresh tree
     → IsInserted root fresh row tree (inserted cuts fresh root row tree)
+
+-- an update is an insert of a row whose key is there: the row is replaced, and no other row changes
+pub record IsUpdated (row : Row Payload) (tree now : Tree) : Type 0 where
+  pub keys : keys_of (contents now) ≡ keys_of (contents tree)
+  pub value : value_at row.key (contents now) ≡ Some row.value
+  pub others : (key : ℕ) → (key ≡ row.key → ⊥) → value_at key (contents now) ≡ value_at key (contents tree)
+
+abbrev pub UpdateReplaces : Type 0
+UpdateReplaces = (cuts : Cuts) (fresh : List ℕ) (root : ℕ) (row : Row Payload) (tree : Tree) (old : Payload) → IsCut cuts.leaf → IsCut cuts.index → IsTree root tree → AreFresh fresh tree
+    → value_at row.key (contents tree) ≡ Some old → IsUpdated row tree (inserted cuts fresh root row tree)
 
 -- of each level the page of the way makes its step and nothing else changes; then a root that was split is raised. The
 -- pages of the tree with the row, and the new ones that are left, are the new ones and the pages of the tree before

@@ -1,13 +1,25 @@
 -- Where the way towards a key leads, and that it is read from the pages that show the tree.
-use Rattle.std.specs.Prelude.{◌≡◌, ℕ, length, Some, None}
-use Rattle.spec_levels.specs.Levels.{Tree, keys_of, Rises, IsTree}
+use Rattle.std.specs.Prelude.{◌≡◌, ◌⊎◌, ◌≤◌, ℕ, suc, List, [], ◌∷◌, ◌++◌, length, Some, None}
+use Rattle.spec_levels.specs.Levels.{Row, Tree, keys_of, Rises, IsTree}
 use Rattle.spec_ways.specs.Rows.{contents, value_at}
-use Rattle.spec_ways.specs.Ways.{Way, way_to, way_pages}
+use Rattle.spec_ways.specs.Ways.{row_toward, Way, way_to, way_pages}
 use Rattle.spec_ways.specs.Pages.{Pages, Shows, read_way, asked_pages}
 
 -- the keys of a tree's rows rise from left to right
 abbrev pub ContentsRise : Type 0
 ContentsRise = (root : ℕ) (tree : Tree) → IsTree root tree → Rises 0 None (keys_of (contents tree))
+
+-- the last of these rows whose key isn't above this one, or else the first of them
+pub record IsLastNotAbove (key : ℕ) (rows : List (Row ℕ)) (row : Row ℕ) : Type 0 where
+  pub front : List (Row ℕ)
+  pub back : List (Row ℕ)
+  pub rows_are : rows ≡ front ++ row ∷ back
+  pub above : Rises (suc key) None (keys_of back)
+  pub not_above : (row.key ≤ key) ⊎ (front ≡ [])
+
+-- where keys rise, that is the row under which the key belongs
+abbrev pub RowsLead : Type 0
+RowsLead = (key : ℕ) (row : Row ℕ) (rest : List (Row ℕ)) → Rises 0 None (keys_of (row ∷ rest)) → IsLastNotAbove key (row ∷ rest) (row_toward key (row ∷ rest))
 
 -- the way towards a key has a page of each level, and its leaf holds what the tree holds at the key
 pub record Leads (root key : ℕ) (tree : Tree) : Type 0 where

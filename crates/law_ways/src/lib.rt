@@ -2,14 +2,15 @@
 //! or taken there.
 #![tactic(auto)]
 
-ghost use Rattle.law_ways.specs.WayLaws.{ContentsRise, WaysLead, WaysAreRead};
-ghost use Rattle.law_ways.specs.InsertLaws.{InsertKeeps, InsertClimbs, InsertIsWritten};
-ghost use Rattle.law_ways.specs.DeleteLaws.{DeleteKeeps, DeleteSinks, DeleteIsWritten};
+ghost use Rattle.law_ways.specs.WayLaws.{ContentsRise, RowsLead, WaysLead, WaysAreRead};
+ghost use Rattle.law_ways.specs.InsertLaws.{InsertKeeps, UpdateReplaces, InsertClimbs, InsertIsWritten};
+ghost use Rattle.law_ways.specs.DeleteLaws.{DeleteKeeps, DeleteTakes, DeleteSinks, DeleteIsWritten};
 
 /// The rows of a tree rise by their keys; the way towards a key leads to its row, and is read from the pages
 /// that show the tree.
 pub fn way_laws()
     ensures rise { ContentsRise }
+    ensures rows { RowsLead }
     ensures lead { WaysLead }
     ensures read { WaysAreRead }
 {}
@@ -18,6 +19,7 @@ pub fn way_laws()
 /// pages change, and how.
 pub fn insert_laws()
     ensures keeps { InsertKeeps }
+    ensures updates { UpdateReplaces }
     ensures climbs { InsertClimbs }
     ensures written { InsertIsWritten }
 {}
@@ -26,6 +28,7 @@ pub fn insert_laws()
 /// change, and how, and which are freed.
 pub fn delete_laws()
     ensures keeps { DeleteKeeps }
+    ensures takes { DeleteTakes }
     ensures sinks { DeleteSinks }
     ensures written { DeleteIsWritten }
 {}

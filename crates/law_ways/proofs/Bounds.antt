@@ -27,3 +27,8 @@ HasKey k (r ∷ rest) = (k ≡ r.key) ⊎ HasKey k rest
 -- the value or the key of the row under which a key belongs
 abbrev pub toward_by : (Row ℕ → ℕ) → ℕ → List (Row ℕ) → ℕ
 toward_by of key rows = of (row_toward key rows)
+
+-- the rows behind the one with this key
+abbrev pub rows_behind : ℕ → List (Row ℕ) → List (Row ℕ)
+rows_behind k [] = []
+rows_behind k (r ∷ rest) = if k == r.key then rest else rows_behind k rest

@@ -1,4 +1,4 @@
--- What holds of a level under the rows that name its pages_of, and of levels under one another.
+-- What holds of a level under the rows that name its pages, and of levels under one another.
 use Rattle.std.proofs.Common.{◌≡◌, ℕ, ◌+◌, ◌<◌, List, [], ◌∷◌, ◌++◌, length, Option, Some, None, ◌==◌}
 use Rattle.std.specs.Prelude.{⊤, if◌then◌else◌}
 use Rattle.spec_levels.specs.Levels.{Row, Node, rows_of, IsLinked, IsBelow, pages_of, Payload}
@@ -31,7 +31,7 @@ abbrev pub with_up : Option (Row ℕ) → List (Row ℕ) → List (Row ℕ)
 with_up None rows = rows
 with_up (Some u) rows = with_row u rows
 
--- the row that goes separator stands between these keys
+-- the row that goes up stands between these keys
 abbrev pub IsUp : ℕ → Option ℕ → Option (Row ℕ) → Type 0
 IsUp low high None = ⊤
 IsUp low high (Some u) = (low < u.key) × IsBelow u.key high

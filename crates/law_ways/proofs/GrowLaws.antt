@@ -1,4 +1,4 @@
--- A row put_row into a leaf, and what goes separator from there.
+-- A row put into a leaf, and what goes up from there.
 use Rattle.std.proofs.Common.{◌≡◌, ℕ, suc, ◌+◌, ◌<◌, ◌≤◌, List, [], ◌∷◌, ◌++◌, length, Option, Some, None, nat_lt, refl, sym, ap, ◌∙◌, subst, arith}
 use Rattle.spec_levels.specs.Levels.{Row, Node, rows_of, first_page, IsLinked, IsBelow, pages_of, Payload}
 use Rattle.spec_ways.specs.Insert.{linked, Cut, Cuts, put_row, Grown, first_fresh, left_over, with_separator, grown, IsCut}

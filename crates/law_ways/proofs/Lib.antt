@@ -9,6 +9,7 @@ pub mod Examples
 pub mod Fits
 pub mod GrowLaws
 pub mod InsertLaw
+pub mod LeftEdge
 pub mod LossShows
 pub mod PathLaws
 pub mod PutLaws

@@ -2,13 +2,13 @@
 use Rattle.std.proofs.Common.{◌≡◌, ℕ, suc, ◌<◌, ◌≤◌, Bool, true, false, List, [], ◌∷◌, ◌++◌, length, Some, None, nat_lt, refl, sym, ap, ◌∙◌, subst, inl, inr, arith}
 use Rattle.std.proofs.lemmas.Bool.{cases_Bool, cases_eq, eq-eqb, ne_eqb, ltb-false, lt-ltb, le-ltb}
 use Rattle.spec_levels.specs.Levels.{Row, Node, rows_of, pages_of, Payload}
-use Rattle.law_ways.proofs.Bounds.{toward_by}
+use Rattle.law_ways.proofs.Bounds.{toward_by, rows_behind}
 use Rattle.spec_ways.specs.Delete.{Taken, take_row, kept_page, before_taken, with_first_keys}
 use Rattle.spec_ways.specs.Insert.{Cut, Put, cut_page, before_put, put_row}
 use Rattle.spec_ways.specs.Rows.{with_first_key, is_below_first, value_at, with_row}
 use Rattle.spec_ways.specs.Sinks.{with_edge}
 use Rattle.spec_ways.specs.Ways.{child_toward, key_toward, node_at, Way, through, ending_at, through_child, way_from}
-use Rattle.law_ways.proofs.Bounds.{Within, shifted}
+use Rattle.law_ways.proofs.Bounds.{Within, shifted, rows_behind}
 use Rattle.law_ways.proofs.Fits.{Level, Starts, StartsAt, Fits, count, all_pages}
 use Rattle.law_ways.proofs.GrowLaws.{rows_start, starts_append, count_append}
 use Rattle.law_ways.proofs.PutLaws.{level_within, here_within, put_later, AreAlike}
@@ -22,6 +22,16 @@ onto left c = record { nodes = left ++ c.nodes; separator = c.separator }
 abbrev pub behind_left : {V : Type 0} → List (Node V) → Taken V → Taken V
 behind_left left c = record { nodes = left ++ c.nodes; gone_key = c.gone_key }
 
+pub behind_same : (k : ℕ) (r : Row ℕ) (rest : List (Row ℕ)) → k ≡ r.key → rows_behind k (r ∷ rest) ≡ rest
+behind_same k r rest same = let e = eq-eqb k r.key same in rw e refl
+
+behind_other : (k : ℕ) (r : Row ℕ) (rest : List (Row ℕ)) → (k ≡ r.key → ⊥) → rows_behind k (r ∷ rest) ≡ rows_behind k rest
+behind_other k r rest other = let e = ne_eqb k r.key other in rw e refl
+
+pub behind_right : (low mid k : ℕ) (xs ys : List (Row ℕ)) → mid ≤ k → Within low (Some mid) xs → rows_behind k (xs ++ ys) ≡ rows_behind k ys
+behind_right low mid k [] ys le w = refl
+behind_right low mid k (x ∷ xs) ys le w = behind_other k x (xs ++ ys) (λ same. omega (arith, same, le, w.1)) ∙ behind_right (suc x.key) mid k xs ys le w.2
+
 here_alike : (k j : ℕ) (rest : List (Row ℕ)) → AreAlike k j rest → is_below_first k rest ≡ true → is_below_first j rest ≡ true
 here_alike k j [] alike e = refl
 here_alike k j (s ∷ rest) alike e = sym alike.0 ∙ e
@@ -31,7 +41,7 @@ above_here k [] w = refl
 above_here k (s ∷ rest) w = lt-ltb k s.key w.0
 
 module _ (of : Row ℕ → ℕ) where
-  -- rows before_put, whose keys are above
+  -- rows behind, whose keys are above
   pub toward_left : (k : ℕ) (xs ys : List (Row ℕ)) → Within (suc k) None ys → (low : ℕ) → StartsAt low xs → toward_by of k (xs ++ ys) ≡ toward_by of k xs
   toward_left k [] ys w low s = absurd s
   toward_left k (x ∷ []) ys w low s = toward_here of k x ys (above_here k ys w)
@@ -69,7 +79,7 @@ module _ {V : Type 0} where
   heads_headed g (q ∷ rest) [] l s = absurd l
   heads_headed g (q ∷ rest) (m ∷ ns) l s = ap (λ l. record { page = m.page; prev = m.prev; next = m.next; rows = with_first_key g m.rows } ∷ l) (heads_same rest ns s.1)
 
-  -- the page of a level where the key belongs, among those before it and before_put it
+  -- the page of a level where the key belongs, among those before it and behind it
   pub record Spot (k low : ℕ) (rows : List (Row ℕ)) (nodes : List (Node V)) : Type 0 where
     pub left : List (Node V)
     pub node : Node V
@@ -86,6 +96,8 @@ module _ {V : Type 0} where
     pub starts : Starts rows nodes → StartsAt key node.rows
     pub puts : (cut : Cut V) (new : ℕ) (x : Row V) → AreAlike k x.key rows →
         put_row cut new x rows nodes ≡ onto left (cut_page (cut (with_row x node.rows)) new node (with_row x node.rows) right)
+    pub behind : Level None (rows_behind key rows) right
+    pub behind_starts : Starts rows nodes → Starts (rows_behind key rows) right
     pub edges : (g : ℕ) → g ≡ key → Starts rows nodes → with_first_keys (shifted g rows) (left ++ right) ≡ left ++ with_edge (Some g) right
     pub takes : (change : ℕ → List (Row V) → List (Row V)) (j : ℕ) → AreAlike k j rows → take_row change j rows nodes ≡ behind_left left (kept_page key node (change key node.rows) right)
 
@@ -106,6 +118,8 @@ module _ {V : Type 0} where
     back = level_within (suc k) None rest ns (here_within k (suc r.key) None rest e w.2) l.2;
     starts = λ s. s.0;
     puts = λ cut new x alike. let f = here_alike k x.key rest alike.1 e in rw f refl;
+    behind = subst (λ l. Level None l ns) (sym (behind_same r.key r rest refl)) l.2;
+    behind_starts = λ s. subst (λ l. Starts l ns) (sym (behind_same r.key r rest refl)) s.1;
     edges = λ g at s. ap (λ l. with_first_keys l ns) (shifted_same g r rest at) ∙ heads_headed g rest ns l.2 s.1;
     takes = λ change j alike. let f = here_alike k j rest alike.1 e in rw f refl;
   }
@@ -132,6 +146,8 @@ module _ {V : Type 0} where
         back = h.back;
         starts = λ st. h.starts st.1;
         puts = λ cut new x alike. put_later cut new x r (s ∷ rest) n (m ∷ ns) (sym alike.1.0 ∙ e) ∙ ap (λ c. before_put n c) (h.puts cut new x alike.1);
+        behind = subst (λ l. Level None l h.right) (sym (behind_other h.key r (s ∷ rest) (λ same. let f = h.least in omega (arith, same, f, w.2.0)))) h.behind;
+        behind_starts = λ st. subst (λ l. Starts l h.right) (sym (behind_other h.key r (s ∷ rest) (λ same. let f = h.least in omega (arith, same, f, w.2.0)))) (h.behind_starts st.1);
         edges = λ g at st.
             let f = h.least in
             ap (λ l. with_first_keys l (n ∷ h.left ++ h.right)) (shifted_other g r (s ∷ rest) (λ same. omega (arith, same, at, f, w.2.0)))
@@ -156,7 +172,7 @@ module _ {V : Type 0} where
   spot_at k low (r ∷ rest) [] at w l once = absurd l
   spot_at k low (r ∷ rest) (n ∷ ns) at w l once = subst (λ j. Spot k j (r ∷ rest) (n ∷ ns)) at (spot k r rest n ns (omega arith, w.1, w.2) l once)
 
-  spot_rows : (k low : ℕ) (rows : List (Row ℕ)) (nodes : List (Node V)) (s : Spot k low rows nodes) → rows_of nodes ≡ rows_of s.left ++ (s.node.rows ++ rows_of s.right)
+  pub spot_rows : (k low : ℕ) (rows : List (Row ℕ)) (nodes : List (Node V)) (s : Spot k low rows nodes) → rows_of nodes ≡ rows_of s.left ++ (s.node.rows ++ rows_of s.right)
   spot_rows k low rows nodes s = ap (λ l. rows_of l) s.nodes_are ∙ flat_map-append (λ (n : Node V). n.rows) s.left (s.node ∷ s.right)
 
   pub spot_holds : (k low : ℕ) (rows : List (Row ℕ)) (nodes : List (Node V)) (s : Spot k low rows nodes) → low ≤ k → value_at k s.node.rows ≡ value_at k (rows_of nodes)

@@ -1,4 +1,4 @@
--- A row put_row into a level.
+-- A row put into a level.
 use Rattle.std.proofs.Common.{◌≡◌, ℕ, zero, suc, ◌+◌, ◌<◌, ◌≤◌, true, false, List, [], ◌∷◌, ◌++◌, length, take, drop, Option, Some, None, unwrap_or, nat_lt, refl, sym, ap, ◌∙◌, subst, inl, inr, arith, append-nil, append_assoc}
 use Rattle.std.specs.Prelude.{⊤}
 use Rattle.std.proofs.lemmas.Bool.{cases_order, cases_Bool, lt-ltb, le-ltb, ltb-true, ltb-false}
@@ -10,7 +10,7 @@ use Rattle.law_ways.proofs.Bounds.{Within, next_key}
 use Rattle.law_ways.proofs.Fits.{Level, Starts, StartsAt, with_up, IsUp, count, page_up}
 use Rattle.law_ways.proofs.RowLaws.{below_below, with_same, with_more, from_lower, join_within, with_within, with_front, with_left, with_right}
 
--- the rows of a level rise as the rows that name its pages_of
+-- the rows of a level rise as the rows that name its pages
 pub level_within : {V : Type 0} (low : ℕ) (high : Option ℕ) (rows : List (Row ℕ)) (nodes : List (Node V)) → Within low high rows → Level high rows nodes → Within low high (rows_of nodes)
 level_within low high [] [] w l = w
 level_within low high [] (n ∷ ns) w l = absurd l
@@ -73,7 +73,7 @@ pub alike_at : (a b : ℕ) (r : Row ℕ) → r.key ≤ a → r.key ≤ b → nat
 alike_at a b r le le' = le-ltb a r.key le ∙ sym (le-ltb b r.key le')
 
 module _ {V : Type 0} where
-  -- rows cut_page in two
+  -- rows parted in two
   record Parts (low : ℕ) (high : Option ℕ) (m : ℕ) (xs : List (Row V)) : Type 0 where
     left : Within low (Some (lowest_key (drop m xs))) (take m xs)
     right : Within (lowest_key (drop m xs)) high (drop m xs)

@@ -1,4 +1,4 @@
--- What the steps of a way write shows the tree behind_step them.
+-- What the steps of a way write shows the tree after them.
 use Rattle.std.proofs.Common.{◌≡◌, ℕ, suc, ◌+◌, ◌<◌, ◌≤◌, List, [], ◌∷◌, ◌++◌, length, None, refl, sym, ap, ◌∙◌, subst, arith}
 use Rattle.std.specs.Prelude.{if◌then◌else◌}
 use Rattle.std.proofs.lemmas.Bool.{eq-eqb, ne_eqb}
@@ -49,7 +49,7 @@ module _ {V : Type 0} (shape : Node V → Page) where
   after_pages (Splits rows q more) [] = refl
   after_pages (Splits rows q more) (m ∷ ms) = refl
 
-  -- the pages of a level behind_step a step
+  -- the pages of a level after a step
   record StepShows (image image' : Pages) (left : List (Node V)) (n : Node V) (right : List (Node V)) (step : Step V) : Type 0 where
     shows : ShowsLevel shape image' (left ++ (after_step step n ++ behind_step step right))
     same : (p : ℕ) → count p (pages_of left) + (count p (pages_of (after_step step n)) + count p (pages_of right)) ≡ 0 → image' p ≡ image p
@@ -133,7 +133,7 @@ made_keeps p Stays n = omega arith
 made_keeps p (Grows rows) n = omega arith
 made_keeps p (Splits rows q more) n = omega arith
 
--- a level behind_step its step
+-- a level after its step
 record LevelShows {V : Type 0} (shape : Node V → Page) (image image' : Pages) (nodes nodes' : List (Node V)) : Type 0 where
   shows : ShowsLevel shape image' nodes'
   same : (p : ℕ) → count p (pages_of nodes') ≡ 0 → image' p ≡ image p
@@ -169,7 +169,7 @@ level_shows shape shaped image n step nodes nodes' st links s once nonzero =
       same = λ p none. h.same p (let a = counts p in omega (arith, a, none));
     }
 
--- levels behind_step the steps of a way
+-- levels after the steps of a way
 pub record StepsShow (image image' : Pages) (above' : List (List (Node ℕ))) (leaves' : List (Node Payload)) : Type 0 where
   pub shows : Shows image' above' leaves'
   pub same : (p : ℕ) → count p (all_pages above' leaves') ≡ 0 → image' p ≡ image p

@@ -139,7 +139,7 @@ shrunk_is k low rows (nodes ∷ more) leaves at w f =
     sunk_is k low rows nodes more leaves at w f.0 f.1 f.2 b b.gone_key
     (shrunk_is k low (rows_of nodes) more leaves (rows_start low None rows nodes at f.0 f.1) (level_within low None rows nodes w f.0) f.3)
 
--- levels under one row, when those with one row are gone_key
+-- levels under one row, when those with one row are gone
 pub record IsCollapsed (low page : ℕ) (above : List (List (Node ℕ))) (leaves : List (Node Payload)) (t : Tree) : Type 0 where
   pub page' : ℕ
   fits : Fits None (record { key = low; value = page' } ∷ []) t.above t.leaves

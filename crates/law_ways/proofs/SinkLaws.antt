@@ -60,7 +60,7 @@ module _ {V : Type 0} where
       ap (λ (p : ℕ). record { page = n.page; prev = b; next = p; rows = with_first_key g n.rows } ∷ linked n.page ns) (sym l.1)
       ∙ ap (λ l. record { page = n.page; prev = b; next = n.next; rows = with_first_key g n.rows } ∷ l) (linked_same n.page ns l.2)
 
-  -- what linking the pages again changes where one is gone_key
+  -- what linking the pages again changes where one is gone
   linked_gone : (b : ℕ) (left : List (Node V)) (n : Node V) (right : List (Node V)) (e : Option ℕ) → IsLinked b (left ++ n ∷ right)
       → linked b (left ++ with_edge e right) ≡ with_last_next (first_page right) left ++ with_first_prev n.prev (with_edge e right)
   linked_gone b [] n right e l = relinked b n.page e right l.2 ∙ ap (λ p. with_first_prev p (with_edge e right)) (sym l.0)

@@ -1,4 +1,4 @@
--- A row put_row into a tree changes the pages on the way to its leaf as these pages tell, and the next of each page that
+-- A row put into a tree changes the pages on the way to its leaf as these pages tell, and the next of each page that
 -- is split.
 use Rattle.std.proofs.Common.{◌≡◌, ℕ, ◌<◌, ◌≤◌, List, [], ◌∷◌, ◌++◌, length, Option, Some, None, refl, sym, ap, ◌∙◌, subst, arith}
 use Rattle.spec_levels.specs.Levels.{Row, Node, rows_of, pages_of, first_page, IsLinked, Payload}
@@ -55,7 +55,7 @@ module _ {V : Type 0} where
   parted_step None new n rows right = refl
   parted_step (Some m) new n rows right = refl
 
-  -- a row put_row into a level
+  -- a row put into a level
   record PutSteps (k low : ℕ) (rows : List (Row ℕ)) (nodes : List (Node V)) (n : Node V) (step : Step V) (c : Put V) : Type 0 where
     stepped : IsStepped n step nodes (linked 0 c.nodes)
     separator : c.separator ≡ separator_of step
@@ -81,7 +81,7 @@ pub alike_same : (k : ℕ) (rows : List (Row ℕ)) → AreAlike k k rows
 alike_same k [] = tt
 alike_same k (r ∷ rest) = (refl, alike_same k rest)
 
--- a row put_row into levels
+-- a row put into levels
 pub record Climbs (k : ℕ) (rows : List (Row ℕ)) (above : List (List (Node ℕ))) (leaves : List (Node Payload)) (cuts : Cuts) (fresh : List ℕ) (x : Row Payload) (b : Grown) : Type 0 where
   pub way : Way
   pub is : way_from k above leaves (child_toward k rows) ≡ Some way

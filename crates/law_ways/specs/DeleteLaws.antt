@@ -1,12 +1,12 @@
 -- What a delete makes of a tree, which pages it changes and which it frees, and what it writes.
-use Rattle.std.specs.Prelude.{◌≡◌, ◌↔◌, ℕ, ◌++◌, Contains, Some, None}
-use Rattle.spec_levels.specs.Levels.{Tree, tree_pages, AreDistinct, IsTree}
+use Rattle.std.specs.Prelude.{◌≡◌, ◌↔◌, ℕ, List, [], ◌∷◌, ◌++◌, Contains, Option, Some, None}
+use Rattle.spec_levels.specs.Levels.{Index, Tree, tree_pages, AreDistinct, IsTree}
 use Rattle.spec_ways.specs.Rows.{without, value_at, contents}
 use Rattle.spec_ways.specs.Ways.{Way, way_to}
 use Rattle.spec_ways.specs.Delete.{Shrunk, lowered, deleted}
-use Rattle.spec_ways.specs.Sinks.{sink_of, IsSunk, AreSunk}
+use Rattle.spec_ways.specs.Sinks.{Loss, sink_of, edge_below, IsSunk, AreSunk}
 use Rattle.spec_ways.specs.Pages.{Pages, Shows}
-use Rattle.spec_ways.specs.DeleteWrites.{delete_written, delete_frees}
+use Rattle.spec_ways.specs.DeleteWrites.{left_edge, delete_written, delete_frees}
 
 -- the tree without the row is a tree, with the other rows; it has no page that the tree before hasn't
 pub record IsDeleted (root key : ℕ) (tree now : Tree) : Type 0 where
@@ -52,3 +52,16 @@ pub record DeleteWrites (root key : ℕ) (tree now : Tree) (image : Pages) : Typ
 -- where the pages of an image show the tree
 abbrev pub DeleteIsWritten : Type 0
 DeleteIsWritten = (root key : ℕ) (tree : Tree) (image : Pages) → IsTree root tree → Shows image tree.above tree.leaves → DeleteWrites root key tree (deleted root key tree) image
+
+-- the next of each index page that goes below a page that keeps rows and lost the first
+abbrev pub edge_nexts : Option ℕ → List Index → List (Loss ℕ) → List ℕ
+edge_nexts edge [] losses = []
+edge_nexts edge (node ∷ way) [] = []
+edge_nexts None (node ∷ way) (lost ∷ losses) = edge_nexts (edge_below None lost) way losses
+edge_nexts (Some key) (node ∷ way) (lost ∷ losses) = node.next ∷ edge_nexts (edge_below (Some key) lost) way losses
+
+-- the page that a new first row names is the next of the page that goes: so a delete finds the left edge by the first
+-- rows of any image, and where the image shows a tree, these are the nexts
+abbrev pub LeftEdgeIsNext : Type 0
+LeftEdgeIsNext = (root key : ℕ) (tree : Tree) (image : Pages) (way : Way) → IsTree root tree → Shows image tree.above tree.leaves → way_to root tree key ≡ Some way
+    → left_edge image way.above (sink_of key way).above ≡ edge_nexts None way.above (sink_of key way).above

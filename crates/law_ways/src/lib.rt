@@ -4,7 +4,7 @@
 
 ghost use Rattle.law_ways.specs.WayLaws.{ContentsRise, RowsLead, WaysLead, WaysAreRead};
 ghost use Rattle.law_ways.specs.InsertLaws.{InsertKeeps, UpdateReplaces, InsertClimbs, InsertIsWritten};
-ghost use Rattle.law_ways.specs.DeleteLaws.{DeleteKeeps, DeleteTakes, DeleteSinks, DeleteIsWritten};
+ghost use Rattle.law_ways.specs.DeleteLaws.{DeleteKeeps, DeleteTakes, DeleteSinks, DeleteIsWritten, LeftEdgeIsNext};
 
 /// The rows of a tree rise by their keys; the way towards a key leads to its row, and is read from the pages
 /// that show the tree.
@@ -31,4 +31,5 @@ pub fn delete_laws()
     ensures takes { DeleteTakes }
     ensures sinks { DeleteSinks }
     ensures written { DeleteIsWritten }
+    ensures edge { LeftEdgeIsNext }
 {}

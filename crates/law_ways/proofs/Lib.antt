@@ -10,6 +10,7 @@ pub mod Fits
 pub mod GrowLaws
 pub mod InsertLaw
 pub mod LeftEdge
+pub mod LocalLaws
 pub mod LossShows
 pub mod PathLaws
 pub mod PutLaws

@@ -2,11 +2,11 @@
 use Rattle.std.specs.Prelude.{◌≡◌, ◌↔◌, ℕ, List, [], ◌∷◌, ◌++◌, Contains, Option, Some, None}
 use Rattle.spec_levels.specs.Levels.{Index, Tree, tree_pages, AreDistinct, IsTree}
 use Rattle.spec_ways.specs.Rows.{without, value_at, contents}
-use Rattle.spec_ways.specs.Ways.{Way, way_to}
+use Rattle.spec_ways.specs.Ways.{Way, way_to, way_pages}
 use Rattle.spec_ways.specs.Delete.{Shrunk, lowered, deleted}
-use Rattle.spec_ways.specs.Sinks.{Loss, sink_of, edge_below, IsSunk, AreSunk}
-use Rattle.spec_ways.specs.Pages.{Pages, Shows}
-use Rattle.spec_ways.specs.DeleteWrites.{left_edge, delete_written, delete_frees}
+use Rattle.spec_ways.specs.Sinks.{Loss, Sink, sink_of, edge_below, IsSunk, AreSunk}
+use Rattle.spec_ways.specs.Pages.{Pages, Shows, AgreeOn}
+use Rattle.spec_ways.specs.DeleteWrites.{left_edge, delete_written, delete_reads, delete_frees}
 
 -- the tree without the row is a tree, with the other rows; it has no page that the tree before hasn't
 pub record IsDeleted (root key : ℕ) (tree now : Tree) : Type 0 where
@@ -65,3 +65,12 @@ edge_nexts (Some key) (node ∷ way) (lost ∷ losses) = node.next ∷ edge_next
 abbrev pub LeftEdgeIsNext : Type 0
 LeftEdgeIsNext = (root key : ℕ) (tree : Tree) (image : Pages) (way : Way) → IsTree root tree → Shows image tree.above tree.leaves → way_to root tree key ≡ Some way
     → left_edge image way.above (sink_of key way).above ≡ edge_nexts None way.above (sink_of key way).above
+
+-- what a delete leaves in a page depends on that page and on those that it reads, and which pages it frees on these alone
+pub record DeletesAlike (root : ℕ) (way : Way) (sink : Sink) (image other : Pages) : Type 0 where
+  pub written : (page : ℕ) → image page ≡ other page → delete_written root way sink sink.gone_key image page ≡ delete_written root way sink sink.gone_key other page
+  pub frees : delete_frees root way sink image ≡ delete_frees root way sink other
+
+abbrev pub DeleteIsLocal : Type 0
+DeleteIsLocal = (root : ℕ) (way : Way) (sink : Sink) (image other : Pages) → Contains (way_pages way) root → AgreeOn (delete_reads root way sink image) image other
+    → DeletesAlike root way sink image other

@@ -4,9 +4,9 @@ use Rattle.spec_levels.specs.Levels.{Payload, Row, Tree, keys_of, tree_pages, Ar
 use Rattle.spec_ways.specs.Rows.{with_row, value_at, contents}
 use Rattle.spec_ways.specs.Ways.{Way, way_to}
 use Rattle.spec_ways.specs.Insert.{Cuts, IsCut, Grown, left_over, raised, inserted, AreFresh}
-use Rattle.spec_ways.specs.Climbs.{climb_of, IsStepped, AreStepped}
-use Rattle.spec_ways.specs.Pages.{Pages, Shows}
-use Rattle.spec_ways.specs.InsertWrites.{insert_written}
+use Rattle.spec_ways.specs.Climbs.{Climb, climb_of, IsStepped, AreStepped}
+use Rattle.spec_ways.specs.Pages.{Pages, Shows, AgreeOn}
+use Rattle.spec_ways.specs.InsertWrites.{insert_written, insert_reads}
 
 -- the tree with the row is a tree, unless it has too many levels; the row stands at its place among the rows of the tree
 -- before; it has that tree's pages, and else new ones
@@ -60,3 +60,8 @@ pub record InsertWrites (cuts : Cuts) (fresh : List ℕ) (root : ℕ) (row : Row
 abbrev pub InsertIsWritten : Type 0
 InsertIsWritten = (cuts : Cuts) (fresh : List ℕ) (root : ℕ) (row : Row Payload) (tree : Tree) (image : Pages) → IsCut cuts.leaf → IsCut cuts.index → IsTree root tree → AreFresh fresh tree
     → Shows image tree.above tree.leaves → InsertWrites cuts fresh root row tree (inserted cuts fresh root row tree) image
+
+-- what an insert leaves in a page depends on that page and on those that it reads
+abbrev pub InsertIsLocal : Type 0
+InsertIsLocal = (root : ℕ) (way : Way) (climb : Climb) (image other : Pages) → AgreeOn (insert_reads way climb) image other
+    → (page : ℕ) → image page ≡ other page → insert_written root way climb climb.separator image page ≡ insert_written root way climb climb.separator other page

@@ -3,8 +3,8 @@
 #![tactic(auto)]
 
 ghost use Rattle.law_ways.specs.WayLaws.{ContentsRise, RowsLead, WaysLead, WaysAreRead};
-ghost use Rattle.law_ways.specs.InsertLaws.{InsertKeeps, UpdateReplaces, InsertClimbs, InsertIsWritten};
-ghost use Rattle.law_ways.specs.DeleteLaws.{DeleteKeeps, DeleteTakes, DeleteSinks, DeleteIsWritten, LeftEdgeIsNext};
+ghost use Rattle.law_ways.specs.InsertLaws.{InsertKeeps, UpdateReplaces, InsertClimbs, InsertIsWritten, InsertIsLocal};
+ghost use Rattle.law_ways.specs.DeleteLaws.{DeleteKeeps, DeleteTakes, DeleteSinks, DeleteIsWritten, LeftEdgeIsNext, DeleteIsLocal};
 
 /// The rows of a tree rise by their keys; the way towards a key leads to its row, and is read from the pages
 /// that show the tree.
@@ -22,6 +22,7 @@ pub fn insert_laws()
     ensures updates { UpdateReplaces }
     ensures climbs { InsertClimbs }
     ensures written { InsertIsWritten }
+    ensures local { InsertIsLocal }
 {}
 
 /// A tree from which a row was taken is a tree, with the other rows. The pages on the way tell which pages
@@ -32,4 +33,5 @@ pub fn delete_laws()
     ensures sinks { DeleteSinks }
     ensures written { DeleteIsWritten }
     ensures edge { LeftEdgeIsNext }
+    ensures local { DeleteIsLocal }
 {}

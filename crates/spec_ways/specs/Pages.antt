@@ -1,5 +1,5 @@
 -- An image as pages of rows, when it shows the levels of a tree, and the way towards a key read from its pages.
-use Rattle.std.specs.Prelude.{◌≡◌, ℕ, zero, suc, List, [], ◌∷◌, length, Option, Some, None, ◌==◌, if◌then◌else◌}
+use Rattle.std.specs.Prelude.{◌≡◌, ℕ, zero, suc, List, [], ◌∷◌, length, Contains, Option, Some, None, ◌==◌, if◌then◌else◌}
 use Rattle.spec_levels.specs.Levels.{Node, Index, Leaf}
 use Rattle.spec_ways.specs.Ways.{Way, child_toward, through}
 
@@ -21,6 +21,10 @@ ShowsLevel kind image (node ∷ nodes) = (image node.page ≡ kind node) × Show
 abbrev pub Shows : Pages → List (List Index) → List Leaf → Type 0
 Shows image [] leaves = ShowsLevel LeafPage image leaves
 Shows image (nodes ∷ more) leaves = ShowsLevel (IndexPage (suc (length more))) image nodes × Shows image more leaves
+
+-- two images that agree on these pages
+abbrev pub AgreeOn : List ℕ → Pages → Pages → Type 0
+AgreeOn pages image other = (page : ℕ) → Contains pages page → image page ≡ other page
 
 -- the image with this in one page
 abbrev pub with_page : ℕ → Page → Pages → Pages

@@ -1,5 +1,6 @@
 use Rattle.law_ways.proofs.InsertLaw.{insert_keeps, update_replaces, insert_climbs, insert_is_written}
+use Rattle.law_ways.proofs.LocalLaws.{insert_is_local}
 use Rattle.law_ways.proofs.insert_laws.Goals as goal
 
 pub returns : goal.returns
-returns c = record { keeps = insert_keeps; updates = update_replaces; climbs = insert_climbs; written = insert_is_written }
+returns c = record { keeps = insert_keeps; updates = update_replaces; climbs = insert_climbs; written = insert_is_written; local = insert_is_local }

@@ -5,7 +5,6 @@ pub mod Bridge
 pub mod Counts
 pub mod DeleteLaw
 pub mod EndShows
-pub mod Examples
 pub mod Fits
 pub mod GrowLaws
 pub mod InsertLaw

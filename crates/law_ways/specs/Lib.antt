@@ -1,3 +1,4 @@
 pub mod DeleteLaws
+pub mod Examples
 pub mod InsertLaws
 pub mod WayLaws

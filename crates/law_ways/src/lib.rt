@@ -5,6 +5,7 @@
 ghost use Rattle.law_ways.specs.WayLaws.{ContentsRise, RowsLead, WaysLead, WaysAreRead};
 ghost use Rattle.law_ways.specs.InsertLaws.{InsertKeeps, UpdateReplaces, InsertClimbs, InsertIsWritten, InsertIsLocal};
 ghost use Rattle.law_ways.specs.DeleteLaws.{DeleteKeeps, DeleteTakes, DeleteSinks, DeleteIsWritten, LeftEdgeIsNext, DeleteIsLocal};
+ghost use Rattle.law_ways.specs.Examples.{RootLeafSplits, TwoLevelsSplit, RowIsReplaced, LeafIsUnlinked, FirstRowGoes, LeftEdgeMoves, RootCollapses, LastRowGoes, IsShown, IsWay, PagesAreRead, PagesAreFreed};
 
 /// The rows of a tree rise by their keys; the way towards a key leads to its row, and is read from the pages
 /// that show the tree.
@@ -34,4 +35,20 @@ pub fn delete_laws()
     ensures written { DeleteIsWritten }
     ensures edge { LeftEdgeIsNext }
     ensures local { DeleteIsLocal }
+{}
+
+/// Inserts and deletes worked by hand.
+pub fn examples()
+    ensures root_leaf_splits { RootLeafSplits }
+    ensures two_levels_split { TwoLevelsSplit }
+    ensures row_is_replaced { RowIsReplaced }
+    ensures leaf_is_unlinked { LeafIsUnlinked }
+    ensures first_row_goes { FirstRowGoes }
+    ensures left_edge_moves { LeftEdgeMoves }
+    ensures root_collapses { RootCollapses }
+    ensures last_row_goes { LastRowGoes }
+    ensures is_shown { IsShown }
+    ensures is_way { IsWay }
+    ensures pages_are_read { PagesAreRead }
+    ensures pages_are_freed { PagesAreFreed }
 {}

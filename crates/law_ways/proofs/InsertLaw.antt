@@ -82,6 +82,7 @@ insert_climbs cuts fresh root x tree leaf index is new =
       leaf_steps = h.leaf_steps;
       fresh_is = h.fresh_is;
       raises = ap (raised root b) h.separator;
+      height = λ none. in_all.low (h.separator ∙ none);
       pages_are = λ p. subst (λ (left : List ℕ). Contains (tree_pages t ++ left) p ↔ Contains (fresh ++ tree_pages tree) p) left_is
           (let e = exact p in (
             λ has. contains_from p (fresh ++ tree_pages tree) (let some = counted p (tree_pages t ++ left_over b.separator b.fresh) has in omega (arith, e, some)),

@@ -14,7 +14,7 @@ pub mod LossShows
 pub mod PathLaws
 pub mod PutLaws
 pub mod RaiseShows
-pub mod Room
+pub mod RoomKept
 pub mod RowLaws
 pub mod RowValues
 pub mod RowsLead

@@ -96,13 +96,14 @@ topped_is ps high rows (nodes ∷ more) leaves same fits =
     }
 
 -- what putting a row into a tree does, and the new pages that are left
-pub record IsInserted (root : ℕ) (fresh left : List ℕ) (x : Row Payload) (tree t : Tree) : Type 0 where
+pub record IsInserted (root : ℕ) (fresh left : List ℕ) (o : Option (Row ℕ)) (x : Row Payload) (tree t : Tree) : Type 0 where
   pub fits : Fits None (root_rows root) t.above t.leaves
   pub contents : rows_of t.leaves ≡ with_row x (rows_of tree.leaves)
   pub kept : (p : ℕ) → count p (all_pages tree.above tree.leaves) ≤ count p (all_pages t.above t.leaves)
   pub added : (p : ℕ) → count p (all_pages t.above t.leaves) ≤ count p (all_pages tree.above tree.leaves) + count p fresh
   pub exact : (p : ℕ) → count p (all_pages t.above t.leaves) + count p left ≡ count p (all_pages tree.above tree.leaves) + count p fresh
   pub height : length t.above ≤ suc (length tree.above)
+  pub low : o ≡ None → length t.above ≡ length tree.above
 
 first_counts : (p : ℕ) (fresh : List ℕ) → 0 < length fresh → count p (first_fresh fresh ∷ []) ≤ count p fresh
 first_counts p [] some = absurd (omega (arith, some))
@@ -113,7 +114,7 @@ first_exact p [] some = absurd (omega (arith, some))
 first_exact p (f ∷ fresh) some = omega arith
 
 raised_is : (root : ℕ) (fresh : List ℕ) (x : Row Payload) (tree : Tree) (b : Grown) (o : Option (Row ℕ)) → suc (length tree.above) < length fresh
-    → IsGrown 0 None (root_rows root) tree.above tree.leaves fresh x b o → IsInserted root fresh (left_over o b.fresh) x tree (raised root b o)
+    → IsGrown 0 None (root_rows root) tree.above tree.leaves fresh x b o → IsInserted root fresh (left_over o b.fresh) o x tree (raised root b o)
 raised_is root fresh x tree b None many h = record {
   fits = h.fits;
   contents = h.contents;
@@ -121,6 +122,7 @@ raised_is root fresh x tree b None many h = record {
   added = λ p. let e = h.pages_are p in omega (arith, e);
   exact = h.pages_are;
   height = let e = h.height in omega (arith, e);
+  low = λ e. h.height;
 }
 raised_is root fresh x tree b (Some u) many h =
     let right = first_fresh b.fresh in
@@ -135,10 +137,11 @@ raised_is root fresh x tree b (Some u) many h =
       added = λ p. let e = h.pages_are p in let f = h.less p in let g = t.pages_are p in let i = first_counts p b.fresh some in omega (arith, e, f, g, i);
       exact = λ p. let e = h.pages_are p in let g = t.pages_are p in let i = first_exact p b.fresh some in omega (arith, e, g, i);
       height = let e = h.height in let g = t.height in omega (arith, e, g);
+      low = λ e. absurd (cc);
     }
 
 pub inserted_is : (cuts : Cuts) → IsCut cuts.leaf → IsCut cuts.index → (fresh : List ℕ) (root : ℕ) (x : Row Payload) (tree : Tree) → suc (length tree.above) < length fresh
-    → Fits None (root_rows root) tree.above tree.leaves → let b = grown cuts fresh x (root_rows root) tree.above tree.leaves in IsInserted root fresh (left_over b.separator b.fresh) x tree (inserted cuts fresh root x tree)
+    → Fits None (root_rows root) tree.above tree.leaves → let b = grown cuts fresh x (root_rows root) tree.above tree.leaves in IsInserted root fresh (left_over b.separator b.fresh) b.separator x tree (inserted cuts fresh root x tree)
 inserted_is cuts leaf index fresh root x tree many fits =
     let b = grown cuts fresh x (root_rows root) tree.above tree.leaves in
     raised_is root fresh x tree b b.separator many

@@ -1,5 +1,5 @@
 -- What an insert makes of a tree, which pages it changes and which new ones it takes, and what it writes.
-use Rattle.std.specs.Prelude.{◌≡◌, ◌↔◌, ℕ, ◌+◌, ◌≤◌, List, ◌++◌, length, Contains, Some}
+use Rattle.std.specs.Prelude.{◌≡◌, ◌↔◌, ℕ, ◌+◌, ◌≤◌, List, ◌++◌, length, Contains, Some, None}
 use Rattle.spec_levels.specs.Levels.{Payload, Row, Tree, keys_of, tree_pages, AreDistinct, IsTree}
 use Rattle.spec_ways.specs.Rows.{with_row, value_at, contents}
 use Rattle.spec_ways.specs.Ways.{Way, way_to}
@@ -31,8 +31,8 @@ abbrev pub UpdateReplaces : Type 0
 UpdateReplaces = (cuts : Cuts) (fresh : List ℕ) (root : ℕ) (row : Row Payload) (tree : Tree) (old : Payload) → IsCut cuts.leaf → IsCut cuts.index → IsTree root tree → AreFresh fresh tree
     → value_at row.key (contents tree) ≡ Some old → IsUpdated row tree (inserted cuts fresh root row tree)
 
--- of each level the page of the way makes its step and nothing else changes; then a root that was split is raised. The
--- pages of the tree with the row, and the new ones that are left, are the new ones and the pages of the tree before
+-- of each level the page of the way makes its step and nothing else changes; then a root that was split is raised, and
+-- only then the tree has a level more. The pages of the tree with the row, and the new ones that are left, are the new ones and the pages of the tree before
 pub record IsClimbed (cuts : Cuts) (fresh : List ℕ) (root : ℕ) (row : Row Payload) (tree now : Tree) : Type 0 where
   pub way : Way
   pub is : way_to root tree row.key ≡ Some way
@@ -41,6 +41,7 @@ pub record IsClimbed (cuts : Cuts) (fresh : List ℕ) (root : ℕ) (row : Row Pa
   pub leaf_steps : IsStepped way.leaf (climb_of cuts fresh row way).leaf tree.leaves levels.leaves
   pub fresh_is : levels.fresh ≡ (climb_of cuts fresh row way).fresh
   pub raises : now ≡ raised root levels (climb_of cuts fresh row way).separator
+  pub height : (climb_of cuts fresh row way).separator ≡ None → length now.above ≡ length tree.above
   pub pages_are : (page : ℕ) → let climb = climb_of cuts fresh row way in
       Contains (tree_pages now ++ left_over climb.separator climb.fresh) page ↔ Contains (fresh ++ tree_pages tree) page
   pub apart : let climb = climb_of cuts fresh row way in AreDistinct (tree_pages now ++ left_over climb.separator climb.fresh)

@@ -5,6 +5,7 @@
 ghost use Rattle.law_ways.specs.WayLaws.{ContentsRise, RowsLead, WaysLead, WaysAreRead};
 ghost use Rattle.law_ways.specs.InsertLaws.{InsertKeeps, UpdateReplaces, InsertClimbs, InsertIsWritten, InsertIsLocal};
 ghost use Rattle.law_ways.specs.DeleteLaws.{DeleteKeeps, DeleteTakes, DeleteSinks, DeleteIsWritten, LeftEdgeIsNext, DeleteIsLocal};
+ghost use Rattle.law_ways.specs.RoomLaws.{InsertHasRoom, DeleteHasRoom};
 ghost use Rattle.law_ways.specs.Examples.{RootLeafSplits, TwoLevelsSplit, RowIsReplaced, LeafIsUnlinked, FirstRowGoes, LeftEdgeMoves, RootCollapses, LastRowGoes, IsShown, IsWay, PagesAreRead, PagesAreFreed};
 
 /// The rows of a tree rise by their keys; the way towards a key leads to its row, and is read from the pages
@@ -24,6 +25,7 @@ pub fn insert_laws()
     ensures climbs { InsertClimbs }
     ensures written { InsertIsWritten }
     ensures local { InsertIsLocal }
+    ensures room { InsertHasRoom }
 {}
 
 /// A tree from which a row was taken is a tree, with the other rows. The pages on the way tell which pages
@@ -35,6 +37,7 @@ pub fn delete_laws()
     ensures written { DeleteIsWritten }
     ensures edge { LeftEdgeIsNext }
     ensures local { DeleteIsLocal }
+    ensures room { DeleteHasRoom }
 {}
 
 /// Inserts and deletes worked by hand.

@@ -1,5 +1,5 @@
 -- Rows whose keys stand between bounds.
-use Rattle.std.proofs.Common.{◌≡◌, ◌⊎◌, ℕ, suc, ◌≤◌, List, [], ◌∷◌, Option, Some, None, ◌==◌}
+use Rattle.std.proofs.Common.{◌≡◌, ◌⊎◌, ℕ, suc, ◌≤◌, List, [], ◌∷◌, Option, Some, ◌==◌}
 use Rattle.std.specs.Prelude.{⊤, if◌then◌else◌}
 use Rattle.spec_levels.specs.Levels.{Row, IsBelow}
 use Rattle.spec_ways.specs.Rows.{with_first_key}

@@ -1,8 +1,7 @@
 -- What holds of a level under the rows that name its pages, and of levels under one another.
-use Rattle.std.proofs.Common.{◌≡◌, ℕ, ◌+◌, ◌<◌, List, [], ◌∷◌, ◌++◌, length, Option, Some, None, ◌==◌}
+use Rattle.std.proofs.Common.{◌≡◌, ℕ, ◌+◌, ◌<◌, List, [], ◌∷◌, ◌++◌, Option, Some, None, ◌==◌}
 use Rattle.std.specs.Prelude.{⊤, if◌then◌else◌}
 use Rattle.spec_levels.specs.Levels.{Row, Node, rows_of, IsLinked, IsBelow, pages_of, Payload}
-use Rattle.spec_ways.specs.Insert.{Cut}
 use Rattle.spec_ways.specs.Rows.{with_row}
 use Rattle.law_ways.proofs.Bounds.{Within, next_key}
 

@@ -1,13 +1,12 @@
 -- A tree with one row more is a tree.
-use Rattle.std.proofs.Common.{◌≡◌, ◌↔◌, ℕ, zero, suc, ◌≤◌, List, [], ◌∷◌, ◌++◌, Option, None, Contains, refl, sym, ap, ◌∙◌, subst, arith}
+use Rattle.std.proofs.Common.{◌≡◌, ◌↔◌, ℕ, ◌≤◌, List, ◌++◌, None, Contains, refl, sym, ap, ◌∙◌, subst, arith}
 use Rattle.spec_levels.specs.Levels.{Row, Tree, keys_of, rows_of, tree_pages, AreDistinct, IsTree, Payload}
 use Rattle.spec_ways.specs.Rows.{with_row, value_at}
 use Rattle.spec_ways.specs.Climbs.{climb}
 use Rattle.spec_ways.specs.Insert.{Cuts, root_rows, left_over, grown, raised, inserted, IsCut, AreFresh}
 use Rattle.spec_ways.specs.InsertWrites.{insert_written}
 use Rattle.spec_ways.specs.Pages.{Shows}
-use Rattle.law_ways.proofs.Bounds.{Within}
-use Rattle.law_ways.proofs.Bridge.{fits_from, levels_from, counted, contains_from, once, distinct_from, pages_are_all, rises_from}
+use Rattle.law_ways.proofs.Bridge.{fits_from, levels_from, counted, contains_from, once, distinct_from}
 use Rattle.law_ways.proofs.Counts.{tree_counts, none_zero, no_count}
 use Rattle.law_ways.proofs.Fits.{count, all_pages}
 use Rattle.law_ways.proofs.RowValues.{with_value, with_others, with_keys}
@@ -70,7 +69,8 @@ insert_climbs cuts fresh root x tree leaf index is new =
     (fits_from (root_rows root) tree.above tree.leaves is.levels) (omega (arith, new.enough))
     (λ p. let a = tree_counts tree p in let b = once p (tree_pages tree) is.distinct in omega (arith, a, b)) in
     let c = climb cuts fresh x h.way.above h.way.leaf in
-    let left_is : left_over b.separator b.fresh ≡ left_over c.separator c.fresh = ap (λ o. left_over o b.fresh) h.separator ∙ ap (left_over c.separator) h.fresh_is in
+    let rest = left_over c.separator c.fresh in
+    let left_is : left_over b.separator b.fresh ≡ rest = ap (λ o. left_over o b.fresh) h.separator ∙ ap (left_over c.separator) h.fresh_is in
     let exact : (p : ℕ) → count p (tree_pages t ++ left_over b.separator b.fresh) ≡ count p (fresh ++ tree_pages tree) = λ p.
     let i = in_all.exact p in let j = tree_counts t p in let k = tree_counts tree p in let l = count_append p (tree_pages t) (left_over b.separator b.fresh) in
     let m = count_append p fresh (tree_pages tree) in omega (arith, i, j, k, l, m) in
@@ -83,12 +83,12 @@ insert_climbs cuts fresh root x tree leaf index is new =
       fresh_is = h.fresh_is;
       raises = ap (raised root b) h.separator;
       height = λ none. in_all.low (h.separator ∙ none);
-      pages_are = λ p. subst (λ (left : List ℕ). Contains (tree_pages t ++ left) p ↔ Contains (fresh ++ tree_pages tree) p) left_is
+      pages_are = λ p. subst (λ (left : List ℕ). Contains (tree_pages t ++ left) p ↔ Contains (fresh ++ tree_pages tree) p) {y = rest} left_is
           (let e = exact p in (
             λ has. contains_from p (fresh ++ tree_pages tree) (let some = counted p (tree_pages t ++ left_over b.separator b.fresh) has in omega (arith, e, some)),
             λ has. contains_from p (tree_pages t ++ left_over b.separator b.fresh) (let some = counted p (fresh ++ tree_pages tree) has in omega (arith, e, some)),
           ));
-      apart = subst (λ (left : List ℕ). AreDistinct (tree_pages t ++ left)) left_is
+      apart = subst (λ (left : List ℕ). AreDistinct (tree_pages t ++ left)) {y = rest} left_is
           (distinct_from (tree_pages t ++ left_over b.separator b.fresh) (λ p. let e = exact p in let f = once p (fresh ++ tree_pages tree) new.distinct in omega (arith, e, f)));
     }
 

@@ -1,14 +1,14 @@
 -- Where pages go below a page that keeps rows, the page that its new first row names is the next of the one that goes.
-use Rattle.std.proofs.Common.{◌≡◌, ℕ, suc, ◌≤◌, ◌==◌, Bool, true, false, List, [], ◌∷◌, ◌++◌, length, Option, Some, None, unwrap_or, refl, sym, ap, ◌∙◌, subst, inl, inr, arith}
+use Rattle.std.proofs.Common.{◌≡◌, ℕ, suc, ◌≤◌, ◌==◌, Bool, true, false, List, [], ◌∷◌, ◌++◌, length, Option, Some, None, refl, sym, ap, ◌∙◌, subst, inl, inr, arith}
 use Rattle.std.specs.Prelude.{if◌then◌else◌}
 use Rattle.std.proofs.lemmas.Bool.{cases_eq, eqb-true}
 use Rattle.spec_levels.specs.Levels.{Payload, Row, Node, rows_of, pages_of, first_page, IsLinked, tree_pages}
 use Rattle.spec_ways.specs.Rows.{without, with_first_key, lowest_key}
 use Rattle.spec_ways.specs.Ways.{child_toward, key_toward, Way, through, ending_at, through_child, way_from}
 use Rattle.spec_ways.specs.Insert.{root_rows}
-use Rattle.spec_ways.specs.Sinks.{Loss, Untouched, Keeps, Goes, loss_of, gone_key_of, edge_of, Sink, sink_through, sink, edge_below}
+use Rattle.spec_ways.specs.Sinks.{Loss, Untouched, Keeps, Goes, loss_of, gone_key_of, edge_of, Sink, sink_through, sink}
 use Rattle.spec_ways.specs.Pages.{IndexPage, Pages, ShowsLevel, Shows}
-use Rattle.spec_ways.specs.DeleteWrites.{first_value, first_child, first_children, edge_from, left_edge}
+use Rattle.spec_ways.specs.DeleteWrites.{first_value, first_child, first_children, left_edge}
 use Rattle.law_ways.specs.DeleteLaws.{edge_nexts, LeftEdgeIsNext}
 use Rattle.law_ways.proofs.Bounds.{Within, rows_behind}
 use Rattle.law_ways.proofs.Bridge.{fits_from, once}

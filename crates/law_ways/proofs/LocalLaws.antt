@@ -1,17 +1,17 @@
 -- What an insert or a delete writes depends on the pages that it reads, and on the page that is written.
-use Rattle.std.proofs.Common.{◌≡◌, ℕ, zero, suc, ◌==◌, Bool, true, false, List, [], ◌∷◌, ◌++◌, length, Contains, Option, Some, None, refl, sym, ap, ◌∙◌, subst}
+use Rattle.std.proofs.Common.{◌≡◌, ℕ, zero, suc, ◌==◌, Bool, true, false, List, [], ◌∷◌, ◌++◌, length, Option, Some, None, refl, ap, ◌∙◌, subst}
 use Rattle.std.specs.Prelude.{if◌then◌else◌}
 use Rattle.std.proofs.lemmas.List.Elements.{Contains-push, Contains-append_left, Contains-append_right}
-use Rattle.spec_levels.specs.Levels.{Payload, Row, Node, Index, Leaf, Tree}
+use Rattle.spec_levels.specs.Levels.{Payload, Row, Node, Index, Leaf}
 use Rattle.spec_ways.specs.Insert.{first_fresh}
-use Rattle.spec_ways.specs.Ways.{Way, way_pages, way_from, way_to}
+use Rattle.spec_ways.specs.Ways.{Way, way_pages}
 use Rattle.spec_ways.specs.Climbs.{Step, Stays, Grows, Splits, Climb}
-use Rattle.spec_ways.specs.Sinks.{Loss, Untouched, Keeps, Goes, Sink, sink_of, edge_below, freed_below_root}
+use Rattle.spec_ways.specs.Sinks.{Loss, Untouched, Keeps, Goes, Sink, edge_below, freed_below_root}
 use Rattle.spec_ways.specs.Pages.{Page, LeafPage, IndexPage, Pages, with_page, AgreeOn}
-use Rattle.spec_ways.specs.InsertWrites.{page_with_prev, prev_written, step_written, steps_written, halves_written, raise_written, insert_written, split_next, split_nexts, insert_reads}
-use Rattle.spec_ways.specs.DeleteWrites.{page_with_next, page_with_edge, next_written, behind_written, loss_written, losses_written, only_child, last_from, last_only_child, page_as_root, collapse_written, delete_written, neighbours, all_neighbours, left_edge, only_children_from, only_children, collapsed_children, delete_reads, delete_frees}
+use Rattle.spec_ways.specs.InsertWrites.{page_with_prev, step_written, steps_written, halves_written, raise_written, insert_written, split_next, split_nexts, insert_reads}
+use Rattle.spec_ways.specs.DeleteWrites.{page_with_next, page_with_edge, behind_written, loss_written, losses_written, only_child, last_from, last_only_child, page_as_root, delete_written, neighbours, all_neighbours, left_edge, only_children_from, only_children, collapsed_children}
 use Rattle.law_ways.specs.InsertLaws.{InsertIsLocal}
-use Rattle.law_ways.specs.DeleteLaws.{DeletesAlike, DeleteIsLocal}
+use Rattle.law_ways.specs.DeleteLaws.{DeleteIsLocal}
 
 on_left : (xs ys : List ℕ) (a b : Pages) → AgreeOn (xs ++ ys) a b → AgreeOn xs a b
 on_left xs ys a b agree p has = agree p (Contains-append_left xs ys p has)

@@ -1,5 +1,5 @@
 -- The rows of each page have room, before and after.
-use Rattle.std.proofs.Common.{◌≡◌, ℕ, ◌==◌, Bool, true, false, List, [], ◌∷◌, length, take, drop, Option, Some, None, refl}
+use Rattle.std.proofs.Common.{◌≡◌, ℕ, ◌==◌, Bool, true, false, List, [], ◌∷◌, length, Option, Some, None, refl}
 use Rattle.std.specs.Prelude.{if◌then◌else◌}
 use Rattle.spec_levels.specs.Levels.{Row, Node, Tree, rows_of, Payload}
 use Rattle.spec_ways.specs.Delete.{kept_page, before_taken, take_row, leaf_without, index_without, with_first_keys, with_left_edges, Shrunk, below_loss, without_separator, shrunk, collapsed, lowered, deleted}

@@ -1,5 +1,5 @@
 -- The rows of a tree, and the way to one of them.
-use Rattle.std.proofs.Common.{◌≡◌, ℕ, suc, ◌≤◌, List, [], ◌∷◌, Option, None, refl, arith}
+use Rattle.std.proofs.Common.{ℕ, List, [], ◌∷◌, Option, None, refl, arith}
 use Rattle.spec_levels.specs.Levels.{Row, Node, Tree, rows_of, tree_pages, IsTree, Payload}
 use Rattle.spec_ways.specs.Insert.{root_rows}
 use Rattle.law_ways.proofs.Bounds.{Within}

@@ -41,7 +41,7 @@ DeleteSinks = (root key : ℕ) (tree : Tree) → IsTree root tree → IsSunkTree
 
 -- what the way of a delete writes shows the tree without the row, and no page changes that wasn't the tree's; the pages
 -- that are freed are those of the tree before that it has no more, each once
-pub record DeleteWrites (root key : ℕ) (tree now : Tree) (image : Pages) : Type 0 where
+pub record IsDeleteWritten (root key : ℕ) (tree now : Tree) (image : Pages) : Type 0 where
   pub way : Way
   pub is : way_to root tree key ≡ Some way
   pub shows : let sink = sink_of key way in Shows (delete_written root way sink sink.gone_key image) now.above now.leaves
@@ -51,7 +51,7 @@ pub record DeleteWrites (root key : ℕ) (tree now : Tree) (image : Pages) : Typ
 
 -- where the pages of an image show the tree
 abbrev pub DeleteIsWritten : Type 0
-DeleteIsWritten = (root key : ℕ) (tree : Tree) (image : Pages) → IsTree root tree → Shows image tree.above tree.leaves → DeleteWrites root key tree (deleted root key tree) image
+DeleteIsWritten = (root key : ℕ) (tree : Tree) (image : Pages) → IsTree root tree → Shows image tree.above tree.leaves → IsDeleteWritten root key tree (deleted root key tree) image
 
 -- the next of each index page that goes below a page that keeps rows and lost the first
 abbrev pub edge_nexts : Option ℕ → List Index → List (Loss ℕ) → List ℕ

@@ -1,11 +1,11 @@
 -- Trees worked by hand, with pages that have room for two rows: what an insert and a delete make of them.
-use Rattle.std.specs.Prelude.{◌≡◌, ℕ, List, [], ◌∷◌, length, Option, Some, None, nat_lt, ◌==◌, if◌then◌else◌}
-use Rattle.spec_levels.specs.Levels.{Payload, Row, Node, Index, Leaf, Tree}
+use Rattle.std.specs.Prelude.{◌≡◌, ℕ, List, [], ◌∷◌, length, Some, None, nat_lt, ◌==◌, if◌then◌else◌}
+use Rattle.spec_levels.specs.Levels.{Payload, Row, Node, Tree}
 use Rattle.spec_ways.specs.Ways.{Way, way_to}
 use Rattle.spec_ways.specs.Insert.{Cut, Cuts, inserted}
 use Rattle.spec_ways.specs.Delete.{deleted}
 use Rattle.spec_ways.specs.Sinks.{sink_of}
-use Rattle.spec_ways.specs.Pages.{Page, LeafPage, IndexPage, Pages, Shows}
+use Rattle.spec_ways.specs.Pages.{LeafPage, IndexPage, Pages, Shows}
 use Rattle.spec_ways.specs.DeleteWrites.{delete_reads, delete_frees}
 
 -- of three rows a page keeps the first

@@ -51,7 +51,7 @@ InsertClimbs = (cuts : Cuts) (fresh : List ℕ) (root : ℕ) (row : Row Payload)
     → IsClimbed cuts fresh root row tree (inserted cuts fresh root row tree)
 
 -- what the way of an insert writes shows the tree with the row, and no page changes that isn't one of that tree
-pub record InsertWrites (cuts : Cuts) (fresh : List ℕ) (root : ℕ) (row : Row Payload) (tree now : Tree) (image : Pages) : Type 0 where
+pub record IsInsertWritten (cuts : Cuts) (fresh : List ℕ) (root : ℕ) (row : Row Payload) (tree now : Tree) (image : Pages) : Type 0 where
   pub way : Way
   pub is : way_to root tree row.key ≡ Some way
   pub shows : let climb = climb_of cuts fresh row way in Shows (insert_written root way climb climb.separator image) now.above now.leaves
@@ -60,7 +60,7 @@ pub record InsertWrites (cuts : Cuts) (fresh : List ℕ) (root : ℕ) (row : Row
 -- where the pages of an image show the tree
 abbrev pub InsertIsWritten : Type 0
 InsertIsWritten = (cuts : Cuts) (fresh : List ℕ) (root : ℕ) (row : Row Payload) (tree : Tree) (image : Pages) → IsCut cuts.leaf → IsCut cuts.index → IsTree root tree → AreFresh fresh tree
-    → Shows image tree.above tree.leaves → InsertWrites cuts fresh root row tree (inserted cuts fresh root row tree) image
+    → Shows image tree.above tree.leaves → IsInsertWritten cuts fresh root row tree (inserted cuts fresh root row tree) image
 
 -- what an insert leaves in a page depends on that page and on those that it reads
 abbrev pub InsertIsLocal : Type 0

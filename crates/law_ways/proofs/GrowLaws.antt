@@ -58,7 +58,7 @@ taken None fresh is some p = omega arith
 taken (Some u) [] is some p = absurd (omega (arith, some))
 taken (Some u) (f ∷ fresh) is some p = let e = is u refl in rw e (omega arith)
 
-fewer : (o : Option (Row ℕ)) (fresh : List ℕ) → length fresh ≤ length (left_over o fresh) + 1
+pub fewer : (o : Option (Row ℕ)) (fresh : List ℕ) → length fresh ≤ length (left_over o fresh) + 1
 fewer None fresh = omega arith
 fewer (Some u) [] = omega arith
 fewer (Some u) (f ∷ fresh) = omega arith

@@ -1,8 +1,8 @@
 -- A tree with one row more is a tree.
-use Rattle.std.proofs.Common.{◌≡◌, ◌↔◌, ℕ, ◌≤◌, List, ◌++◌, None, Contains, refl, sym, ap, ◌∙◌, subst, arith}
+use Rattle.std.proofs.Common.{◌≡◌, ℕ, ◌≤◌, List, ◌++◌, length, None, Contains, refl, sym, ap, ◌∙◌, subst, arith}
 use Rattle.spec_levels.specs.Levels.{Row, Tree, keys_of, rows_of, tree_pages, AreDistinct, IsTree, Payload}
 use Rattle.spec_ways.specs.Rows.{with_row, value_at}
-use Rattle.spec_ways.specs.Climbs.{climb}
+use Rattle.spec_ways.specs.Climbs.{climb, taken_pages}
 use Rattle.spec_ways.specs.Insert.{Cuts, root_rows, left_over, grown, raised, inserted, IsCut, AreFresh}
 use Rattle.spec_ways.specs.InsertWrites.{insert_written}
 use Rattle.spec_ways.specs.Pages.{Shows}
@@ -10,7 +10,10 @@ use Rattle.law_ways.proofs.Bridge.{fits_from, levels_from, counted, contains_fro
 use Rattle.law_ways.proofs.Counts.{tree_counts, none_zero, no_count}
 use Rattle.law_ways.proofs.Fits.{count, all_pages}
 use Rattle.law_ways.proofs.RowValues.{with_value, with_others, with_keys}
-use Rattle.law_ways.proofs.WayLaw.{contents_within}
+use Rattle.law_ways.proofs.WayLaw.{contents_within, ways_lead}
+use Rattle.law_ways.proofs.WayReads.{some_is}
+use Rattle.law_ways.proofs.TakenPages.{taken_are_first}
+use Rattle.spec_ways.specs.Ways.{Way}
 use Rattle.law_ways.proofs.GrowLaws.{count_append}
 use Rattle.law_ways.proofs.RaiseShows.{climb_top, insert_shows}
 use Rattle.law_ways.proofs.StepLaws.{climbs}
@@ -74,6 +77,14 @@ insert_climbs cuts fresh root x tree leaf index is new =
     let exact : (p : ℕ) → count p (tree_pages t ++ left_over b.separator b.fresh) ≡ count p (fresh ++ tree_pages tree) = λ p.
     let i = in_all.exact p in let j = tree_counts t p in let k = tree_counts tree p in let l = count_append p (tree_pages t) (left_over b.separator b.fresh) in
     let m = count_append p fresh (tree_pages tree) in omega (arith, i, j, k, l, m) in
+    let lead = ways_lead root x.key tree is in
+    let same_way : lead.way ≡ h.way = some_is lead.way h.way (sym lead.is ∙ h.is) in
+    let long : length h.way.above ≡ length tree.above = subst (λ (w : Way). length w.above ≡ length tree.above) same_way lead.long in
+    let taken = taken_pages c in
+    let takes : taken ++ rest ≡ fresh = taken_are_first cuts fresh x h.way.above h.way.leaf (let e = new.enough in omega (arith, e, long)) in
+    let grows : (p : ℕ) → count p (tree_pages t) ≡ count p (taken ++ tree_pages tree) = λ p.
+    let e = exact p in let f = ap (count p) takes in let g = ap (count p) left_is in let i = count_append p taken rest in let j = count_append p (tree_pages t) (left_over b.separator b.fresh) in
+    let k = count_append p fresh (tree_pages tree) in let l = count_append p taken (tree_pages tree) in omega (arith, e, f, g, i, j, k, l) in
     record {
       way = h.way;
       is = h.is;
@@ -83,11 +94,11 @@ insert_climbs cuts fresh root x tree leaf index is new =
       fresh_is = h.fresh_is;
       raises = ap (raised root b) h.separator;
       height = λ none. in_all.low (h.separator ∙ none);
-      pages_are = λ p. subst (λ (left : List ℕ). Contains (tree_pages t ++ left) p ↔ Contains (fresh ++ tree_pages tree) p) {y = rest} left_is
-          (let e = exact p in (
-            λ has. contains_from p (fresh ++ tree_pages tree) (let some = counted p (tree_pages t ++ left_over b.separator b.fresh) has in omega (arith, e, some)),
-            λ has. contains_from p (tree_pages t ++ left_over b.separator b.fresh) (let some = counted p (fresh ++ tree_pages tree) has in omega (arith, e, some)),
-          ));
+      fresh_are = sym takes;
+      pages_are = λ p. let e = grows p in (
+        λ has. contains_from p (taken ++ tree_pages tree) (let some = counted p (tree_pages t) has in omega (arith, e, some)),
+        λ has. contains_from p (tree_pages t) (let some = counted p (taken ++ tree_pages tree) has in omega (arith, e, some)),
+      );
       apart = subst (λ (left : List ℕ). AreDistinct (tree_pages t ++ left)) {y = rest} left_is
           (distinct_from (tree_pages t ++ left_over b.separator b.fresh) (λ p. let e = exact p in let f = once p (fresh ++ tree_pages tree) new.distinct in omega (arith, e, f)));
     }

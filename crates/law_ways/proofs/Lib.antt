@@ -11,6 +11,7 @@ pub mod InsertLaw
 pub mod LeftEdge
 pub mod LocalLaws
 pub mod LossShows
+pub mod OtherPages
 pub mod PathLaws
 pub mod PutLaws
 pub mod RaiseShows
@@ -23,5 +24,6 @@ pub mod ShrinkLaws
 pub mod SinkLaws
 pub mod StepLaws
 pub mod TakeLaws
+pub mod TakenPages
 pub mod TopLaws
 pub mod WayReads

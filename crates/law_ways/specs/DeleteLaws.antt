@@ -74,3 +74,8 @@ pub record DeletesAlike (root : ℕ) (way : Way) (sink : Sink) (image other : Pa
 abbrev pub DeleteIsLocal : Type 0
 DeleteIsLocal = (root : ℕ) (way : Way) (sink : Sink) (image other : Pages) → Contains (way_pages way) root → AgreeOn (delete_reads root way sink image) image other
     → DeletesAlike root way sink image other
+
+-- pages that a delete doesn't read stay
+abbrev pub DeleteKeepsOthers : Type 0
+DeleteKeepsOthers = (root : ℕ) (way : Way) (sink : Sink) (image : Pages) → Contains (way_pages way) root
+    → (page : ℕ) → (Contains (delete_reads root way sink image) page → ⊥) → delete_written root way sink sink.gone_key image page ≡ image page

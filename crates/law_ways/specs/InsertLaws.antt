@@ -2,9 +2,9 @@
 use Rattle.std.specs.Prelude.{◌≡◌, ◌↔◌, ℕ, ◌+◌, ◌≤◌, List, ◌++◌, length, Contains, Some, None}
 use Rattle.spec_levels.specs.Levels.{Payload, Row, Tree, keys_of, tree_pages, AreDistinct, IsTree}
 use Rattle.spec_ways.specs.Rows.{with_row, value_at, contents}
-use Rattle.spec_ways.specs.Ways.{Way, way_to}
+use Rattle.spec_ways.specs.Ways.{Way, way_to, way_pages}
 use Rattle.spec_ways.specs.Insert.{Cuts, IsCut, Grown, left_over, raised, inserted, AreFresh}
-use Rattle.spec_ways.specs.Climbs.{Climb, climb_of, IsStepped, AreStepped}
+use Rattle.spec_ways.specs.Climbs.{Climb, climb_of, taken_pages, IsStepped, AreStepped}
 use Rattle.spec_ways.specs.Pages.{Pages, Shows, AgreeOn}
 use Rattle.spec_ways.specs.InsertWrites.{insert_written, insert_reads}
 
@@ -32,7 +32,8 @@ UpdateReplaces = (cuts : Cuts) (fresh : List ℕ) (root : ℕ) (row : Row Payloa
     → value_at row.key (contents tree) ≡ Some old → IsUpdated row tree (inserted cuts fresh root row tree)
 
 -- of each level the page of the way makes its step and nothing else changes; then a root that was split is raised, and
--- only then the tree has a level more. The pages of the tree with the row, and the new ones that are left, are the new ones and the pages of the tree before
+-- only then the tree has a level more. Its pages are those before and the new ones that are taken, which are the first of
+-- the new ones
 pub record IsClimbed (cuts : Cuts) (fresh : List ℕ) (root : ℕ) (row : Row Payload) (tree now : Tree) : Type 0 where
   pub way : Way
   pub is : way_to root tree row.key ≡ Some way
@@ -42,8 +43,8 @@ pub record IsClimbed (cuts : Cuts) (fresh : List ℕ) (root : ℕ) (row : Row Pa
   pub fresh_is : levels.fresh ≡ (climb_of cuts fresh row way).fresh
   pub raises : now ≡ raised root levels (climb_of cuts fresh row way).separator
   pub height : (climb_of cuts fresh row way).separator ≡ None → length now.above ≡ length tree.above
-  pub pages_are : (page : ℕ) → let climb = climb_of cuts fresh row way in
-      Contains (tree_pages now ++ left_over climb.separator climb.fresh) page ↔ Contains (fresh ++ tree_pages tree) page
+  pub fresh_are : let climb = climb_of cuts fresh row way in fresh ≡ taken_pages climb ++ left_over climb.separator climb.fresh
+  pub pages_are : (page : ℕ) → Contains (tree_pages now) page ↔ Contains (taken_pages (climb_of cuts fresh row way) ++ tree_pages tree) page
   pub apart : let climb = climb_of cuts fresh row way in AreDistinct (tree_pages now ++ left_over climb.separator climb.fresh)
 
 abbrev pub InsertClimbs : Type 0
@@ -66,3 +67,8 @@ InsertIsWritten = (cuts : Cuts) (fresh : List ℕ) (root : ℕ) (row : Row Paylo
 abbrev pub InsertIsLocal : Type 0
 InsertIsLocal = (root : ℕ) (way : Way) (climb : Climb) (image other : Pages) → AgreeOn (insert_reads way climb) image other
     → (page : ℕ) → image page ≡ other page → insert_written root way climb climb.separator image page ≡ insert_written root way climb climb.separator other page
+
+-- pages that an insert neither reads nor takes stay
+abbrev pub InsertKeepsOthers : Type 0
+InsertKeepsOthers = (root : ℕ) (way : Way) (climb : Climb) (image : Pages) → Contains (way_pages way) root
+    → (page : ℕ) → (Contains (insert_reads way climb ++ taken_pages climb) page → ⊥) → insert_written root way climb climb.separator image page ≡ image page

@@ -3,8 +3,8 @@
 #![tactic(auto)]
 
 ghost use Rattle.law_ways.specs.WayLaws.{ContentsRise, RowsLead, WaysLead, WaysAreRead};
-ghost use Rattle.law_ways.specs.InsertLaws.{InsertKeeps, UpdateReplaces, InsertClimbs, InsertIsWritten, InsertIsLocal};
-ghost use Rattle.law_ways.specs.DeleteLaws.{DeleteKeeps, DeleteTakes, DeleteSinks, DeleteIsWritten, LeftEdgeIsNext, DeleteIsLocal};
+ghost use Rattle.law_ways.specs.InsertLaws.{InsertKeeps, UpdateReplaces, InsertClimbs, InsertIsWritten, InsertIsLocal, InsertKeepsOthers};
+ghost use Rattle.law_ways.specs.DeleteLaws.{DeleteKeeps, DeleteTakes, DeleteSinks, DeleteIsWritten, LeftEdgeIsNext, DeleteIsLocal, DeleteKeepsOthers};
 ghost use Rattle.law_ways.specs.RoomLaws.{InsertHasRoom, DeleteHasRoom};
 ghost use Rattle.law_ways.specs.Examples.{RootLeafSplits, TwoLevelsSplit, RowIsReplaced, LeafIsUnlinked, FirstRowGoes, LeftEdgeMoves, RootCollapses, LastRowGoes, IsShown, IsWay, PagesAreRead, PagesAreFreed};
 
@@ -25,6 +25,7 @@ pub fn insert_laws()
     ensures climbs { InsertClimbs }
     ensures written { InsertIsWritten }
     ensures local { InsertIsLocal }
+    ensures others { InsertKeepsOthers }
     ensures room { InsertHasRoom }
 {}
 
@@ -37,6 +38,7 @@ pub fn delete_laws()
     ensures written { DeleteIsWritten }
     ensures edge { LeftEdgeIsNext }
     ensures local { DeleteIsLocal }
+    ensures others { DeleteKeepsOthers }
     ensures room { DeleteHasRoom }
 {}
 

@@ -46,6 +46,26 @@ climb cuts fresh row (node ∷ above) leaf = let below = climb cuts fresh row ab
 abbrev pub climb_of : Cuts → List ℕ → Row Payload → Way → Climb
 climb_of cuts fresh row way = climb cuts fresh row way.above way.leaf
 
+-- the new page of a split
+abbrev pub new_page : {V : Type 0} → Step V → List ℕ
+new_page Stays = []
+new_page (Grows rows) = []
+new_page (Splits rows right more) = right ∷ []
+
+-- from the leaf upwards
+abbrev pub new_pages : List (Step ℕ) → Step Payload → List ℕ
+new_pages [] leaf = new_page leaf
+new_pages (step ∷ steps) leaf = new_pages steps leaf ++ new_page step
+
+-- a root that is split has two: that of its split, and one more
+abbrev pub second_page : Option (Row ℕ) → List ℕ → List ℕ
+second_page None fresh = []
+second_page (Some separator) fresh = first_fresh fresh ∷ []
+
+-- the new pages that a climb takes
+abbrev pub taken_pages : Climb → List ℕ
+taken_pages climb = new_pages climb.above climb.leaf ++ second_page climb.separator climb.fresh
+
 -- these nodes, the first with this page as prev
 abbrev pub with_first_prev : {V : Type 0} → ℕ → List (Node V) → List (Node V)
 with_first_prev prev [] = []

@@ -118,7 +118,8 @@ pub record EndShows (image image' : Pages) (tree t : Tree) (goes : List ℕ) : T
   pub same : (p : ℕ) → count p (all_pages tree.above tree.leaves) ≡ 0 → image' p ≡ image p
   pub exact : (p : ℕ) → count p (all_pages t.above t.leaves) + count p goes ≡ count p (all_pages tree.above tree.leaves)
 
-other_page : (root p : ℕ) (above : List (List (Node ℕ))) (leaves : List (Node Payload)) → count root (root ∷ []) ≤ count root (all_pages above leaves) → count p (all_pages above leaves) ≡ 0 → p ≡ root → ⊥
+other_page : (root p : ℕ) (above : List (List (Node ℕ))) (leaves : List (Node Payload)) → count root (root ∷ []) ≤ count root (all_pages above leaves) → count p (all_pages above leaves) ≡ 0
+    → p ≡ root → ⊥
 other_page root p above leaves has none same =
     let a = subst (λ q. count q (all_pages above leaves) ≡ 0) same none in let b = counts_self root [] in omega (arith, a, b, has)
 
@@ -180,7 +181,8 @@ root_page p root n loss edge nodes nodes' st l = ap (λ q. count p (q ∷ [])) (
 ])
 
 root_goes : (p g root : ℕ) (leaves leaves' : List (Node Payload)) (leaf : Node Payload) (loss : Loss Payload) → IsSunk leaf loss None leaves leaves'
-    → (ns : List (Node ℕ)) (losses : List (Loss ℕ)) (above above' : List (List (Node ℕ))) → Fits None (root_rows root) above leaves → AreSunk None ns losses above above' → top_gone losses loss ≡ Some g
+    → (ns : List (Node ℕ)) (losses : List (Loss ℕ)) (above above' : List (List (Node ℕ))) → Fits None (root_rows root) above leaves → AreSunk None ns losses above above'
+    → top_gone losses loss ≡ Some g
     → count p (freed_pages ns losses leaf loss) ≡ count p (freed_below_root ns losses leaf loss) + count p (root ∷ [])
 root_goes p g root leaves leaves' leaf loss st [] [] [] [] f h e =
     let a = goes_freed p g loss leaf e in let b = root_page p root leaf loss None leaves leaves' st f.0 in omega (arith, a, b)

@@ -53,7 +53,8 @@ module _ {V : Type 0} where
       (put_is cut sound right x high below r rest n ns (omega arith, w.1, w.2) l (omega (arith, le, at)))
 
 -- the new page that a split takes
-taken : (o : Option (Row ℕ)) (fresh : List ℕ) → ((u : Row ℕ) → o ≡ Some u → u.value ≡ first_fresh fresh) → 0 < length fresh → (p : ℕ) → count p (page_up o) + count p (left_over o fresh) ≡ count p fresh
+taken : (o : Option (Row ℕ)) (fresh : List ℕ) → ((u : Row ℕ) → o ≡ Some u → u.value ≡ first_fresh fresh) → 0 < length fresh → (p : ℕ)
+    → count p (page_up o) + count p (left_over o fresh) ≡ count p fresh
 taken None fresh is some p = omega arith
 taken (Some u) [] is some p = absurd (omega (arith, some))
 taken (Some u) (f ∷ fresh) is some p = let e = is u refl in rw e (omega arith)

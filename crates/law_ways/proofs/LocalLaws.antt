@@ -41,7 +41,7 @@ changed_kept change p a b agree q e = by_test (p == 0) agree
 module _ {V : Type 0} (kind : Node V → Page) where
   step_kept : (n : Node V) (step : Step V) (a b : Pages) → AgreeOn (split_next step n) a b → Keep a b (step_written kind n step a) (step_written kind n step b)
   step_kept n Stays a b agree q e = e
-  step_kept n (Grows rows) a b agree q e = page_kept n.page (kind (record { page = n.page; prev = n.prev; next = n.next; rows = rows })) (kind (record { page = n.page; prev = n.prev; next = n.next; rows = rows })) a b refl q e
+  step_kept n (Grows rows) a b agree q e = let x = kind (record { page = n.page; prev = n.prev; next = n.next; rows = rows }) in page_kept n.page x x a b refl q e
   step_kept n (Splits rows right more) a b agree q e =
       let x = kind (record { page = n.page; prev = n.prev; next = right; rows = rows }) in
       let y = kind (record { page = right; prev = n.page; next = n.next; rows = more }) in
@@ -61,7 +61,7 @@ module _ {V : Type 0} (kind : Node V → Page) where
 
   loss_kept : (n : Node V) (loss : Loss V) (edge : Option ℕ) (a b : Pages) → AgreeOn (neighbours loss n) a b → Keep a b (loss_written kind n loss edge a) (loss_written kind n loss edge b)
   loss_kept n Untouched edge a b agree q e = e
-  loss_kept n (Keeps rows below) edge a b agree q e = page_kept n.page (kind (record { page = n.page; prev = n.prev; next = n.next; rows = rows })) (kind (record { page = n.page; prev = n.prev; next = n.next; rows = rows })) a b refl q e
+  loss_kept n (Keeps rows below) edge a b agree q e = let x = kind (record { page = n.page; prev = n.prev; next = n.next; rows = rows }) in page_kept n.page x x a b refl q e
   loss_kept n Goes edge a b agree q e =
       let prevs = if n.prev == 0 then [] else n.prev ∷ [] in
       let nexts = if n.next == 0 then [] else n.next ∷ [] in
@@ -101,7 +101,8 @@ insert_kept root way c o a b agree q e =
 pub insert_is_local : InsertIsLocal
 insert_is_local root way c a b agree p e = insert_kept root way c c.separator a b agree p e
 
-losses_kept : (edge : Option ℕ) (ns : List Index) (losses : List (Loss ℕ)) (leaf : Leaf) (loss : Loss Payload) (a b : Pages) → AgreeOn (neighbours loss leaf) a b → AgreeOn (all_neighbours ns losses) a b
+losses_kept : (edge : Option ℕ) (ns : List Index) (losses : List (Loss ℕ)) (leaf : Leaf) (loss : Loss Payload) (a b : Pages) → AgreeOn (neighbours loss leaf) a b
+    → AgreeOn (all_neighbours ns losses) a b
     → Keep a b (losses_written edge ns losses leaf loss a) (losses_written edge ns losses leaf loss b)
 losses_kept edge [] losses leaf loss a b low high q e = loss_kept LeafPage leaf loss None a b low q e
 losses_kept edge (n ∷ ns) [] leaf loss a b low high q e = e
@@ -124,7 +125,8 @@ alike_down (suc m) a b p e agree =
     subst (λ o. IsAlike (last_from (last_only_child m a) p (only_child (a p))) (last_from (last_only_child m b) p o)
     (only_children_from (only_children m a) (only_child (a p))) (only_children_from (only_children m b) o) a b) (ap only_child e) (by_child (λ c. alike_down m a b c) (only_child (a p)) agree)
   where
-    by_child : ((c : ℕ) → a c ≡ b c → AgreeOn (only_children m a c) a b → IsAlike (last_only_child m a c) (last_only_child m b c) (only_children m a c) (only_children m b c) a b) → (o : Option ℕ) → AgreeOn (only_children_from (only_children m a) o) a b
+    by_child : ((c : ℕ) → a c ≡ b c → AgreeOn (only_children m a c) a b → IsAlike (last_only_child m a c) (last_only_child m b c) (only_children m a c) (only_children m b c) a b)
+        → (o : Option ℕ) → AgreeOn (only_children_from (only_children m a) o) a b
         → IsAlike (last_from (last_only_child m a) p o) (last_from (last_only_child m b) p o) (only_children_from (only_children m a) o) (only_children_from (only_children m b) o) a b
     by_child go None agree = record { page = e; children = refl }
     by_child go (Some c) agree =
@@ -140,7 +142,8 @@ record Alike (root : ℕ) (way : Way) (c : Sink) (a b : Pages) (o : Option ℕ) 
 abbrev after : Way → Sink → Pages → Pages
 after way c image = losses_written None way.above c.above way.leaf c.leaf image
 
-root_alike : (root : ℕ) (way : Way) (c : Sink) (a b : Pages) (o : Option ℕ) → Keep a b (after way c a) (after way c b) → a root ≡ b root → AgreeOn (collapsed_children root way c a o) a b → Alike root way c a b o
+root_alike : (root : ℕ) (way : Way) (c : Sink) (a b : Pages) (o : Option ℕ) → Keep a b (after way c a) (after way c b) → a root ≡ b root → AgreeOn (collapsed_children root way c a o) a b
+    → Alike root way c a b o
 root_alike root way c a b None keep at_root down =
     let h = alike_down (length way.above) (after way c a) (after way c b) root (keep root at_root) (kept_on (collapsed_children root way c a None) a b (after way c a) (after way c b) keep down) in
     record { written = λ p e. page_kept root _ _ (after way c a) (after way c b) (ap (page_as_root root) h.page) p (keep p e); children = h.children }

@@ -111,7 +111,8 @@ module _ {V : Type 0} (shape : Node V → Page) (prev_shaped : (q : ℕ) (n : No
     same : (p : ℕ) → count p (pages_of left) + (count p (n.page ∷ []) + count p (pages_of right)) ≡ 0 → image' p ≡ image p
 
   loss_shows : (image : Pages) (left : List (Node V)) (n : Node V) (right : List (Node V)) (loss : Loss V) (edge : Option ℕ) → n.next ≡ first_page right → n.prev ≡ last_page left
-      → count 0 (pages_of left) ≡ 0 → count 0 (pages_of right) ≡ 0 → ((p : ℕ) → count p (pages_of left) + (count p (n.page ∷ []) + count p (pages_of right)) ≤ 1) → ShowsLevel shape image (left ++ n ∷ right)
+      → count 0 (pages_of left) ≡ 0 → count 0 (pages_of right) ≡ 0 → ((p : ℕ) → count p (pages_of left) + (count p (n.page ∷ []) + count p (pages_of right)) ≤ 1)
+      → ShowsLevel shape image (left ++ n ∷ right)
       → LossShows image (loss_written shape n loss edge image) left n right loss edge
   loss_shows image left n right Untouched edge next prev zero_left zero_right once s = record { shows = s; same = λ p none. refl }
   loss_shows image left n right (Keeps rows below) edge next prev zero_left zero_right once s =
@@ -171,7 +172,8 @@ level_lost shape a b c image n loss edge nodes nodes' st links s once nonzero =
       exact = λ p. let i = lost_pages loss edge st.left n st.right p in let j = ap (λ l. count p (pages_of l)) st.is in let k = counts p in omega (arith, i, j, k);
     }
 
-pub losses_long : (edge : Option ℕ) (ns : List (Node ℕ)) (losses : List (Loss ℕ)) (above above' : List (List (Node ℕ))) → AreSunk edge ns losses above above' → (length ns ≡ length above) × (length ns ≡ length above')
+pub losses_long : (edge : Option ℕ) (ns : List (Node ℕ)) (losses : List (Loss ℕ)) (above above' : List (List (Node ℕ))) → AreSunk edge ns losses above above'
+    → (length ns ≡ length above) × (length ns ≡ length above')
 losses_long edge [] [] [] [] h = (refl, refl)
 losses_long edge (n ∷ ns) (l ∷ losses) (nodes ∷ more) (nodes' ∷ more') h = let e = losses_long (edge_below edge l) ns losses more more' h.1 in (ap suc e.0, ap suc e.1)
 losses_long edge [] [] [] (nodes' ∷ more') h = absurd h

@@ -116,7 +116,8 @@ insert_keeps_others root way c image on_way p none =
     by_root c.separator (not_left (way_pages way) (low ++ high) p reads) (not_left low high p behind) (not_right low high p behind)
     (not_left (new_pages c.above c.leaf) (second_page c.separator c.fresh) p takes) (not_right (new_pages c.above c.leaf) (second_page c.separator c.fresh) p takes)
   where
-    by_root : (o : Option (Row ℕ)) → Not (way_pages way) p → Not (split_next c.leaf way.leaf) p → Not (split_nexts way.above c.above) p → Not (new_pages c.above c.leaf) p → Not (second_page o c.fresh) p
+    by_root : (o : Option (Row ℕ)) → Not (way_pages way) p → Not (split_next c.leaf way.leaf) p → Not (split_nexts way.above c.above) p → Not (new_pages c.above c.leaf) p
+        → Not (second_page o c.fresh) p
         → insert_written root way c o image p ≡ image p
     by_root None along low high new second = steps_there p way.above c.above way.leaf c.leaf image along low high new
     by_root (Some u) along low high new second =

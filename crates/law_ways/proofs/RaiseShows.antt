@@ -29,7 +29,8 @@ alone m [] n right e = (refl, sym (drop_first e))
 alone m (x ∷ xs) n right e = absurd (let f = ap (λ (l : List (Node _)). length l) e in let g = some_behind xs n right in omega (arith, f, g))
 
 module _ {V : Type 0} where
-  two_pages : (root : ℕ) (n : Node V) (rows : List (Row V)) (q : ℕ) (more : List (Row V)) (nodes nodes' : List (Node V)) → IsStepped n (Splits rows q more) nodes nodes' → Level None (root_rows root) nodes
+  two_pages : (root : ℕ) (n : Node V) (rows : List (Row V)) (q : ℕ) (more : List (Row V)) (nodes nodes' : List (Node V)) → IsStepped n (Splits rows q more) nodes nodes'
+      → Level None (root_rows root) nodes
       → nodes' ≡ record { page = n.page; prev = n.prev; next = q; rows = rows } ∷ record { page = q; prev = n.page; next = n.next; rows = more } ∷ []
   two_pages root n rows q more nodes nodes' st l =
       let one = one_only root nodes l in
@@ -38,7 +39,8 @@ module _ {V : Type 0} where
       ∙ ap (λ (xs : List (Node V)). after_step (Splits rows q more) n ++ with_first_prev q xs) parts.1
 
   -- the two halves under their new numbers
-  halves_are : (root right : ℕ) (n : Node V) (rows : List (Row V)) (q : ℕ) (more : List (Row V)) (nodes nodes' : List (Node V)) → IsStepped n (Splits rows q more) nodes nodes' → Level None (root_rows root) nodes
+  halves_are : (root right : ℕ) (n : Node V) (rows : List (Row V)) (q : ℕ) (more : List (Row V)) (nodes nodes' : List (Node V)) → IsStepped n (Splits rows q more) nodes nodes'
+      → Level None (root_rows root) nodes
       → linked 0 (renumbered (q ∷ right ∷ []) nodes') ≡ record { page = q; prev = 0; next = right; rows = rows } ∷ record { page = right; prev = q; next = 0; rows = more } ∷ []
   halves_are root right n rows q more nodes nodes' st l = ap (λ (ns : List (Node V)). linked 0 (renumbered (q ∷ right ∷ []) ns)) (two_pages root n rows q more nodes nodes' st l)
 

@@ -27,7 +27,8 @@ module _ {V : Type 0} (P : Room V) where
   put_room cut x room new (r ∷ rest) [] h = h
   put_room cut x room new (r ∷ rest) (n ∷ ns) h = by_test (is_below_first x.key rest) (put_room cut x room new rest ns h.1)
     where
-      by_test : (b : Bool) → HaveRoom P (put_row cut new x rest ns).nodes → HaveRoom P (if b then cut_page (cut (with_row x n.rows)) new n (with_row x n.rows) ns else before_put n (put_row cut new x rest ns)).nodes
+      by_test : (b : Bool) → HaveRoom P (put_row cut new x rest ns).nodes
+          → HaveRoom P (if b then cut_page (cut (with_row x n.rows)) new n (with_row x n.rows) ns else before_put n (put_row cut new x rest ns)).nodes
       by_test true later = parted_room cut x room new n ns (cut (with_row x n.rows)) refl h.0 h.1
       by_test false later = (h.0, later)
 
@@ -72,7 +73,8 @@ module _ (P : Room Payload) (Q : Room ℕ) where
         let b = grown cuts fresh x (rows_of nodes) more leaves in
         let r = grown_room fresh (rows_of nodes) more leaves h.1 l in risen_room rows nodes b b.separator h.0 r.0 r.1
 
-    raised_room : (two : (r s : Row ℕ) → Q (r ∷ s ∷ [])) (root : ℕ) (b : Grown) (o : Option (Row ℕ)) → LevelsHaveRoom Q b.above → HaveRoom P b.leaves → LevelsHaveRoom Q (raised root b o).above × HaveRoom P (raised root b o).leaves
+    raised_room : (two : (r s : Row ℕ) → Q (r ∷ s ∷ [])) (root : ℕ) (b : Grown) (o : Option (Row ℕ)) → LevelsHaveRoom Q b.above → HaveRoom P b.leaves
+        → LevelsHaveRoom Q (raised root b o).above × HaveRoom P (raised root b o).leaves
     raised_room two root b None h l = (h, l)
     raised_room two root b (Some u) h l =
         let t = topped_room (u.value ∷ first_fresh b.fresh ∷ []) b.above b.leaves h l in
@@ -114,7 +116,8 @@ module _ (P : Room Payload) (Q : Room ℕ) where
         let b = shrunk k (rows_of nodes) more leaves in
         let r = shrunk_room k (rows_of nodes) more leaves h.1 l in (sunk_room rows nodes b b.gone_key h.0 r.0, sunk_leaves rows nodes b b.gone_key r.1)
 
-    collapsed_room : (above : List (List (Node ℕ))) (leaves : List (Node Payload)) → LevelsHaveRoom Q above → HaveRoom P leaves → LevelsHaveRoom Q (collapsed above leaves).above × HaveRoom P (collapsed above leaves).leaves
+    collapsed_room : (above : List (List (Node ℕ))) (leaves : List (Node Payload)) → LevelsHaveRoom Q above → HaveRoom P leaves
+        → LevelsHaveRoom Q (collapsed above leaves).above × HaveRoom P (collapsed above leaves).leaves
     collapsed_room [] leaves h l = (tt, l)
     collapsed_room (nodes ∷ more) leaves h l = by_test (length (rows_of nodes) == 1) (collapsed_room more leaves h.1 l)
       where
@@ -123,7 +126,8 @@ module _ (P : Room Payload) (Q : Room ℕ) where
         by_test true later = later
         by_test false later = (h, l)
 
-    ended_room : (none : P []) (root : ℕ) (b : Shrunk) (o : Option ℕ) → LevelsHaveRoom Q b.above → HaveRoom P b.leaves → LevelsHaveRoom Q (lowered root b o).above × HaveRoom P (lowered root b o).leaves
+    ended_room : (none : P []) (root : ℕ) (b : Shrunk) (o : Option ℕ) → LevelsHaveRoom Q b.above → HaveRoom P b.leaves
+        → LevelsHaveRoom Q (lowered root b o).above × HaveRoom P (lowered root b o).leaves
     ended_room none root b (Some k) h l = (tt, (none, tt))
     ended_room none root b None h l = let r = collapsed_room b.above b.leaves h l in topped_room (root ∷ []) (collapsed b.above b.leaves).above (collapsed b.above b.leaves).leaves r.0 r.1
 

@@ -23,7 +23,8 @@ key_alike : (k low : ℕ) (r : Row ℕ) (rest : List (Row ℕ)) → Within low N
 key_alike k low r [] w le = (omega arith, (alike_at k r.key r le (omega arith), tt))
 key_alike k low r (s ∷ rest) w le = by_test (λ le'. key_alike k (suc r.key) s rest w.2 le') (nat_lt k s.key) refl
   where
-    by_test : (s.key ≤ k → (s.key ≤ key_toward k (s ∷ rest)) × AreAlike k (key_toward k (s ∷ rest)) (s ∷ rest)) → (b : Bool) → nat_lt k s.key ≡ b → (r.key ≤ key_toward k (r ∷ s ∷ rest)) × AreAlike k (key_toward k (r ∷ s ∷ rest)) (r ∷ s ∷ rest)
+    by_test : (s.key ≤ k → (s.key ≤ key_toward k (s ∷ rest)) × AreAlike k (key_toward k (s ∷ rest)) (s ∷ rest)) → (b : Bool) → nat_lt k s.key ≡ b
+        → (r.key ≤ key_toward k (r ∷ s ∷ rest)) × AreAlike k (key_toward k (r ∷ s ∷ rest)) (r ∷ s ∷ rest)
     by_test go true e =
         subst (λ q. (r.key ≤ q) × AreAlike k q (r ∷ s ∷ rest)) (sym (toward_here (λ r. r.key) k r (s ∷ rest) e))
         (omega arith, (alike_at k r.key r le (omega arith), alike_above k r.key None (s ∷ rest) (here_within k (suc r.key) None (s ∷ rest) e w.2) w.2))

@@ -113,7 +113,8 @@ module _ (cuts : Cuts) (sound_leaf : IsCut cuts.leaf) (sound_index : IsCut cuts.
     separator : (with_separator cuts.index rows nodes b o).separator ≡ (climb_through cuts.index n c o).separator
     fresh_is : (with_separator cuts.index rows nodes b o).fresh ≡ (climb_through cuts.index n c o).fresh
 
-  rises : (rows : List (Row ℕ)) (nodes : List (Node ℕ)) (more : List (List (Node ℕ))) (s : Spot x.key low rows nodes) → IsLinked 0 nodes → (ns : List (Node ℕ)) (b : Grown) (c : Climb) (o : Option (Row ℕ))
+  rises : (rows : List (Row ℕ)) (nodes : List (Node ℕ)) (more : List (List (Node ℕ))) (s : Spot x.key low rows nodes) → IsLinked 0 nodes
+      → (ns : List (Node ℕ)) (b : Grown) (c : Climb) (o : Option (Row ℕ))
       → AreStepped ns c.above more b.above → b.fresh ≡ c.fresh → ((u : Row ℕ) → o ≡ Some u → AreAlike x.key u.key rows) → Rises rows nodes more s.node ns b c o
   rises rows nodes more s links ns b c None steps same alike = record {
     above_steps = (record { left = s.left; right = s.right; was = s.nodes_are; is = s.nodes_are }, steps);

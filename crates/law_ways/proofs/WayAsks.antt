@@ -41,7 +41,8 @@ module _ {O : Type 0} (ask : ℕ → O → O) where
       ap (λ x. ask p (by_page bad k x next)) (shows n refl) ∙ ap (λ q. ask q (next (record { above = []; leaf = n }))) (sym (at n refl))
       ∙ ap (λ (w : Way). asks (way_pages w) (next w)) (some_is (record { above = []; leaf = n }) way e)
 
-  index_asks : (go : ℕ → (Way → O) → O) (from : ℕ → Option Way) (k level p : ℕ) (o : Option (Node ℕ)) (page : Page) (way : Way) (next : Way → O) → ((n : Node ℕ) → o ≡ Some n → page ≡ IndexPage level n)
+  index_asks : (go : ℕ → (Way → O) → O) (from : ℕ → Option Way) (k level p : ℕ) (o : Option (Node ℕ)) (page : Page) (way : Way) (next : Way → O)
+      → ((n : Node ℕ) → o ≡ Some n → page ≡ IndexPage level n)
       → ((n : Node ℕ) → o ≡ Some n → n.page ≡ p) → ((q : ℕ) (w : Way) (after : Way → O) → from q ≡ Some w → go q after ≡ asks (way_pages w) (after w)) → through_child from k o ≡ Some way
       → ask p (by_page go k page next) ≡ asks (way_pages way) (next way)
   index_asks go from k level p None page way next shows at same e = absurd (cc)

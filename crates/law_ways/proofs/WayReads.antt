@@ -19,7 +19,8 @@ found_shows shape image p (m ∷ ns) n s e = elim (cases_eq m.page p) [
       found_shows shape image p ns n s.1 (sym there ∙ e)
 ]
 
-leaf_way : (go : ℕ → Option Way) (k : ℕ) (o : Option (Node Payload)) (page : Page) (way : Way) → ((n : Node Payload) → o ≡ Some n → page ≡ LeafPage n) → ending_at o ≡ Some way → way_by go k page ≡ Some way
+leaf_way : (go : ℕ → Option Way) (k : ℕ) (o : Option (Node Payload)) (page : Page) (way : Way) → ((n : Node Payload) → o ≡ Some n → page ≡ LeafPage n) → ending_at o ≡ Some way
+    → way_by go k page ≡ Some way
 leaf_way go k None page way shows e = absurd (cc)
 leaf_way go k (Some n) page way shows e = ap (way_by go k) (shows n refl) ∙ e
 
@@ -32,7 +33,8 @@ index_way go go' k level (Some n) page way shows same e = ap (way_by go' k) (sho
     by_rest None is h = absurd (cc)
     by_rest (Some w) is h = ap (through n) (same (child_toward k n.rows) w is) ∙ h
 
-pub way_is_read : (m k : ℕ) (image : Pages) (above : List (List (Node ℕ))) (leaves : List (Node Payload)) → length above ≤ m → Shows image above leaves → (p : ℕ) (way : Way) → way_from k above leaves p ≡ Some way
+pub way_is_read : (m k : ℕ) (image : Pages) (above : List (List (Node ℕ))) (leaves : List (Node Payload)) → length above ≤ m → Shows image above leaves → (p : ℕ) (way : Way)
+    → way_from k above leaves p ≡ Some way
     → read_way m k image p ≡ Some way
 way_is_read zero k image [] leaves long s p way e = leaf_way no_way k (node_at p leaves) (image p) way (λ n is. found_shows LeafPage image p leaves n s is) e
 way_is_read (suc m) k image [] leaves long s p way e = leaf_way (read_way m k image) k (node_at p leaves) (image p) way (λ n is. found_shows LeafPage image p leaves n s is) e

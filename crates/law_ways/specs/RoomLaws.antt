@@ -39,6 +39,8 @@ InsertHasRoom = (leaf : List (Row Payload) → Bool) (index : List (Row ℕ) →
 -- for a delete, rows that have room must have it when one goes, and an index page's when its first row has another key;
 -- and a leaf without rows must have room
 abbrev pub DeleteHasRoom : Type 0
-DeleteHasRoom = (leaf : List (Row Payload) → Bool) (index : List (Row ℕ) → Bool) (root key : ℕ) (tree : Tree) → ((gone : ℕ) (rows : List (Row Payload)) → Passes leaf rows → Passes leaf (without gone rows))
-    → ((gone : ℕ) (rows : List (Row ℕ)) → Passes index rows → Passes index (without gone rows)) → ((first : ℕ) (rows : List (Row ℕ)) → Passes index rows → Passes index (with_first_key first rows)) → Passes leaf []
+DeleteHasRoom = (leaf : List (Row Payload) → Bool) (index : List (Row ℕ) → Bool) (root key : ℕ) (tree : Tree)
+    → ((gone : ℕ) (rows : List (Row Payload)) → Passes leaf rows → Passes leaf (without gone rows))
+    → ((gone : ℕ) (rows : List (Row ℕ)) → Passes index rows → Passes index (without gone rows))
+    → ((first : ℕ) (rows : List (Row ℕ)) → Passes index rows → Passes index (with_first_key first rows)) → Passes leaf []
     → TreeHasRoom (Passes leaf) (Passes index) tree → TreeHasRoom (Passes leaf) (Passes index) (deleted root key tree)

@@ -6,4 +6,13 @@ use Rattle.law_ways.proofs.OtherPages.{delete_keeps_others}
 use Rattle.law_ways.proofs.delete_laws.Goals as goal
 
 pub returns : goal.returns
-returns c = record { keeps = delete_keeps; takes = delete_takes; sinks = delete_sinks; written = delete_is_written; edge = left_edge_is_next; local = delete_is_local; others = delete_keeps_others; room = delete_has_room }
+returns c = record {
+  keeps = delete_keeps;
+  takes = delete_takes;
+  sinks = delete_sinks;
+  written = delete_is_written;
+  edge = left_edge_is_next;
+  local = delete_is_local;
+  others = delete_keeps_others;
+  room = delete_has_room;
+}

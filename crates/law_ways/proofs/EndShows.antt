@@ -70,7 +70,8 @@ bottomed (suc m) low page image (nodes ∷ more) leaves long f s =
           subst (Bottomed (suc m) low page image (nodes ∷ more) leaves) (sym (goes one))
           (record {
             exact = λ p.
-                let g = ap (λ q. count p (q ∷ [])) e in let i = h.exact p in let c = ap (λ o. count p (only_children_from (only_children m image) o)) (there ∙ ap only_value (sym rows_are ∙ row.1)) in let j = ap (count p) (one_page low page nodes f.0) in
+                let g = ap (λ q. count p (q ∷ [])) e in let i = h.exact p in let c = ap (λ o. count p (only_children_from (only_children m image) o)) (there ∙ ap only_value (sym rows_are
+                ∙ row.1)) in let j = ap (count p) (one_page low page nodes f.0) in
                 let k = count_append p (pages_of nodes) (all_pages more leaves) in omega (arith, g, i, j, k, c);
             fits = subst (λ p. Fits None (row_at low p) (collapsed more leaves).above (collapsed more leaves).leaves) (sym e) h.fits;
             shows = h.shows;
@@ -79,7 +80,8 @@ bottomed (suc m) low page image (nodes ∷ more) leaves long f s =
           let e = stops (suc m) image page (there ∙ no_child n.0.rows (λ is. eqb-false (length (rows_of nodes)) 1 other (ap (λ (l : List (Row ℕ)). length l) rows_are ∙ is))) in
           subst (Bottomed (suc m) low page image (nodes ∷ more) leaves) (sym (stays other))
           (record {
-            exact = λ p. let g = ap (λ q. count p (q ∷ [])) e in let i = ap (count p) (childless (suc m) image page (there ∙ no_child n.0.rows (λ is. eqb-false (length (rows_of nodes)) 1 other (ap (λ (l : List (Row ℕ)). length l) rows_are ∙ is)))) in omega (arith, g, i);
+            exact = λ p. let g = ap (λ q. count p (q ∷ [])) e in let i = ap (count p) (childless (suc m) image page (there
+                ∙ no_child n.0.rows (λ is. eqb-false (length (rows_of nodes)) 1 other (ap (λ (l : List (Row ℕ)). length l) rows_are ∙ is)))) in omega (arith, g, i);
             fits = subst (λ p. Fits None (row_at low p) (nodes ∷ more) leaves) (sym e) f;
             shows = s;
           })

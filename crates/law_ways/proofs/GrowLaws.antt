@@ -87,7 +87,8 @@ alike_up a b high (r ∷ rest) [] l s h = absurd l
 alike_up a b high (r ∷ rest) (n ∷ ns) l s h =
     (alike_first a b r.key n.rows (rows_of ns) s.0 h, alike_up a b high rest ns l.2 s.1 (alike_behind a b n.rows (rows_of ns) h))
 
-pub record IsGrown (low : ℕ) (high : Option ℕ) (rows : List (Row ℕ)) (above : List (List (Node ℕ))) (leaves : List (Node Payload)) (fresh : List ℕ) (x : Row Payload) (b : Grown) (o : Option (Row ℕ)) : Type 0 where
+pub record IsGrown (low : ℕ) (high : Option ℕ) (rows : List (Row ℕ)) (above : List (List (Node ℕ))) (leaves : List (Node Payload))
+    (fresh : List ℕ) (x : Row Payload) (b : Grown) (o : Option (Row ℕ)) : Type 0 where
   pub fits : Fits high (with_up o rows) b.above b.leaves
   pub separator : IsUp low high o
   pub contents : rows_of b.leaves ≡ with_row x (rows_of leaves)

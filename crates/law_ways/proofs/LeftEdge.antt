@@ -162,7 +162,8 @@ module _ (k low : ℕ) (rows : List (Row ℕ)) (nodes : List (Node ℕ)) (more :
   goes j g q from (Some x) is e start = by_rows (with_first_key j (without x s.node.rows)) refl e
     where
       by_rows : (rs : List (Row ℕ)) → with_first_key j (without x s.node.rows) ≡ rs → gone_key_of j (loss_of rs (edge_of x s.node.rows)) ≡ Some q
-          → first_children (suc (length h.way.above)) image (first_value (rows_behind (key_toward k rows) rows)) ≡ edge_nexts (Some g) (s.node ∷ h.way.above) (loss_of rs (edge_of x s.node.rows) ∷ below.above)
+          → first_children (suc (length h.way.above)) image (first_value (rows_behind (key_toward k rows) rows))
+          ≡ edge_nexts (Some g) (s.node ∷ h.way.above) (loss_of rs (edge_of x s.node.rows) ∷ below.above)
       by_rows [] none e =
           ap (λ key. first_children (suc (length h.way.above)) image (first_value (rows_behind key rows))) s.key_is
           ∙ page_goes k low rows nodes s le st image (suc (length more)) g h.way.above below.above links shows from (subst (λ key. StartsAt from (rows_behind key rows)) s.key_is start) x (sym (key_is x is))

@@ -80,8 +80,11 @@ module _ {V : Type 0} (shape : Node V → Page) (prev_shaped : (q : ℕ) (n : No
   edged_page : (q : ℕ) (edge : Option ℕ) (m : Node V) (ms : List (Node V)) (image image' : Pages) → image m.page ≡ shape m → image' m.page ≡ page_with_prev q (page_with_edge edge (image m.page))
       → ShowsLevel shape image' ms → ShowsLevel shape image' (with_first_prev q (with_edge edge (m ∷ ms)))
   edged_page q None m ms image image' is now s = (now ∙ ap (page_with_prev q) is ∙ prev_shaped q m, s)
-  edged_page q (Some g) m ms image image' is now s =
-      (now ∙ ap (λ x. page_with_prev q (page_with_edge (Some g) x)) is ∙ ap (page_with_prev q) (edge_shaped g m) ∙ prev_shaped q (record { page = m.page; prev = m.prev; next = m.next; rows = with_first_key g m.rows }), s)
+  edged_page q (Some g) m ms image image' is now s = (
+    now ∙ ap (λ x. page_with_prev q (page_with_edge (Some g) x)) is ∙ ap (page_with_prev q) (edge_shaped g m)
+        ∙ prev_shaped q (record { page = m.page; prev = m.prev; next = m.next; rows = with_first_key g m.rows }),
+    s,
+  )
 
   behind_none : (q : ℕ) (edge : Option ℕ) (image : Pages) → ShowsLevel shape image (with_first_prev q (with_edge edge []))
   behind_none q None image = tt
@@ -199,12 +202,14 @@ module _ (leaf : Node Payload) (loss : Loss Payload) (leaves leaves' : List (Nod
       let counts = λ (p : ℕ). count_append p (pages_of nodes) (all_pages more leaves) in
       let zero_counts = counts 0 in
       let long = losses_long (edge_below edge q) ns losses more more' h.1 in
-      let low = losses_show (edge_below edge q) (rows_of nodes) ns losses more more' f.3 h.1 s.1 (λ p. let a = counts p in let b = once p in omega (arith, a, b)) (omega (arith, zero_counts, nonzero)) in
+      let low = losses_show (edge_below edge q) (rows_of nodes) ns losses more more' f.3 h.1 s.1 (λ p. let a = counts p in
+      let b = once p in omega (arith, a, b)) (omega (arith, zero_counts, nonzero)) in
       let image' = losses_written (edge_below edge q) ns losses leaf loss image in
       let shape = IndexPage (suc (length ns)) in
       let here = shows_same shape image image' nodes (λ p some. low.same p (let a = counts p in let b = once p in omega (arith, a, b, some)))
       (subst (λ m. ShowsLevel (IndexPage (suc m)) image nodes) (sym long.0) s.0) in
-      let l = level_lost shape (λ q n. refl) (λ q n. refl) (λ q n. refl) image' n q edge nodes nodes' h.0 f.2 here (λ p. let a = counts p in let b = once p in omega (arith, a, b)) (omega (arith, zero_counts, nonzero)) in
+      let l = level_lost shape (λ q n. refl) (λ q n. refl) (λ q n. refl) image' n q edge nodes nodes' h.0 f.2 here (λ p. let a = counts p in
+      let b = once p in omega (arith, a, b)) (omega (arith, zero_counts, nonzero)) in
       let image'' = loss_written shape n q edge image' in
       record {
         shows = (

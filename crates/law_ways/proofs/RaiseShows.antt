@@ -119,7 +119,8 @@ raise_index root right n (Splits rows q more) nodes nodes' more' leaves' u image
     let shape = IndexPage (suc (length more')) in
     let image'' = halves_written shape (suc (length more')) root right (Splits rows q more) image' in
     let are = halves_are root right n rows q more nodes nodes' st l in
-    let counts : (p : ℕ) → count p (all_pages (Raised root right v (nodes' ∷ more') leaves').above (Raised root right v (nodes' ∷ more') leaves').leaves) ≡ count p (root ∷ q ∷ right ∷ all_pages more' leaves') =
+    let counts : (p : ℕ) → count p (all_pages (Raised root right v (nodes' ∷ more') leaves').above (Raised root right v (nodes' ∷ more') leaves').leaves)
+    ≡ count p (root ∷ q ∷ right ∷ all_pages more' leaves') =
     λ p. ap (λ (ns : List (Node ℕ)). count p (root ∷ (pages_of ns ++ all_pages more' leaves'))) are in
     let once' : (p : ℕ) → count p (root ∷ q ∷ right ∷ []) + count p (all_pages more' leaves') ≤ 1 =
     λ p. let a = subst (λ (w : Row ℕ). count p (all_pages (Raised root right w (nodes' ∷ more') leaves').above (Raised root right w (nodes' ∷ more') leaves').leaves) ≤ 1) (sym (some_is v u e)) (once p) in

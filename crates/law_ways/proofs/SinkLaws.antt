@@ -182,7 +182,8 @@ record Sinking (k : ℕ) (rows : List (Row ℕ)) (nodes : List (Node ℕ)) (more
   leaf_is : (sink_through (key_toward k rows) n c o).leaf ≡ c.leaf
   leaves_are : (without_separator rows nodes b o).leaves ≡ b.leaves
   gone_is : (without_separator rows nodes b o).gone_key ≡ (sink_through (key_toward k rows) n c o).gone_key
-  above_losses : SunkCase (key_toward k rows) rows (n ∷ ns) (sink_through (key_toward k rows) n c o).above (nodes ∷ more) (without_separator rows nodes b o).above (without_separator rows nodes b o).gone_key
+  above_losses : SunkCase (key_toward k rows) rows (n ∷ ns) (sink_through (key_toward k rows) n c o).above (nodes ∷ more) (without_separator rows nodes b o).above
+      (without_separator rows nodes b o).gone_key
 
 sinking : (k low : ℕ) (rows : List (Row ℕ)) (nodes : List (Node ℕ)) (more : List (List (Node ℕ))) → StartsAt low rows → Within low None rows → Level None rows nodes
     → (s : Spot k low rows nodes) → Starts rows nodes → IsLinked 0 nodes

@@ -151,7 +151,8 @@ module _ (cuts : Cuts) (sound_leaf : IsCut cuts.leaf) (sound_index : IsCut cuts.
       record {
         way = record { above = s.node ∷ h.way.above; leaf = h.way.leaf };
         is = ap (through_child (way_from x.key more leaves) x.key) s.is ∙ ap (λ q. through s.node (way_from x.key more leaves q)) (spot_child x.key low rows nodes s le f.1) ∙ ap (through s.node) h.is;
-        above_steps = subst (λ o. AreStepped (s.node ∷ h.way.above) (climb_through cuts.index s.node c o).above (nodes ∷ more) (with_separator cuts.index rows nodes b b.separator).above) h.separator r.above_steps;
+        above_steps = subst (λ o. AreStepped (s.node ∷ h.way.above) (climb_through cuts.index s.node c o).above (nodes ∷ more)
+            (with_separator cuts.index rows nodes b b.separator).above) h.separator r.above_steps;
         leaf_steps = subst (λ o. IsStepped h.way.leaf (climb_through cuts.index s.node c o).leaf leaves (with_separator cuts.index rows nodes b b.separator).leaves) h.separator
             (subst (λ step. IsStepped h.way.leaf step leaves (with_separator cuts.index rows nodes b b.separator).leaves) (sym r.leaf_is)
             (subst (IsStepped h.way.leaf c.leaf leaves) (sym r.leaves_are) h.leaf_steps));

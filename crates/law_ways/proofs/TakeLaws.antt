@@ -164,12 +164,14 @@ gone_here r rest ns w l = record {
 leaf_here : (k : ℕ) (r : Row ℕ) (rest : List (Row ℕ)) (n : Node Payload) (ns : List (Node Payload)) → Within r.key None (r ∷ rest) → Level None (r ∷ rest) (n ∷ ns)
     → is_below_first k rest ≡ true → (rs : List (Row Payload)) → without k n.rows ≡ rs → IsTaken k (r ∷ rest) (n ∷ ns) (kept_page r.key n rs ns)
 leaf_here k r rest n ns w l e [] is = record {
-  contents = ap (λ l. l ++ rows_of ns) (sym is) ∙ sym (without_left (suc k) None k n.rows (rows_of ns) (omega arith) (level_within (suc k) None rest ns (here_within k (suc r.key) None rest e w.2) l.2));
+  contents = ap (λ l. l ++ rows_of ns) (sym is) ∙ sym (without_left (suc k) None k n.rows (rows_of ns) (omega arith)
+      (level_within (suc k) None rest ns (here_within k (suc r.key) None rest e w.2) l.2));
   fewer = λ p. omega arith;
   left = gone_here r rest ns w l.2;
 }
 leaf_here k r rest n ns w l e (y ∷ ys) is = record {
-  contents = ap (λ l. l ++ rows_of ns) (sym is) ∙ sym (without_left (suc k) None k n.rows (rows_of ns) (omega arith) (level_within (suc k) None rest ns (here_within k (suc r.key) None rest e w.2) l.2));
+  contents = ap (λ l. l ++ rows_of ns) (sym is) ∙ sym (without_left (suc k) None k n.rows (rows_of ns) (omega arith)
+      (level_within (suc k) None rest ns (here_within k (suc r.key) None rest e w.2) l.2));
   fewer = λ p. omega arith;
   left = (l.0, subst (Within r.key (next_key rest None)) is (without_within r.key (next_key rest None) k n.rows l.1), l.2);
 }
@@ -253,7 +255,8 @@ more_rows k key (x ∷ xs) y ys R s is = elim (cases_eq k x.key) [
 
 -- the pages behind the one that goes, the edge of the first brought down
 next_heads : (k : ℕ) (rest : List (Row ℕ)) (ns : List (Node ℕ)) → Within (suc k) None rest → Level None rest ns → Starts rest ns
-    → Level None (with_first_key k rest) (with_first_keys (with_first_key k rest) ns) × Starts (with_first_key k rest) (with_first_keys (with_first_key k rest) ns) × (rows_of (with_first_keys (with_first_key k rest) ns) ≡ with_first_key k (rows_of ns))
+    → Level None (with_first_key k rest) (with_first_keys (with_first_key k rest) ns) × Starts (with_first_key k rest) (with_first_keys (with_first_key k rest) ns)
+    × (rows_of (with_first_keys (with_first_key k rest) ns) ≡ with_first_key k (rows_of ns))
 next_heads k [] [] w l s = (tt, tt, refl)
 next_heads k [] (m ∷ ns) w l s = absurd l
 next_heads k (q ∷ rest) [] w l s = absurd l
@@ -277,7 +280,8 @@ index_here k r rest n ns w l s e [] is =
       left = record {
         same = sym at_key;
         has = inl at_key;
-        rows_are = ap (λ l. l ++ rows_of ns) (sym is) ∙ sym (without_left (suc k) None k n.rows (rows_of ns) (omega arith) (level_within (suc k) None rest ns (here_within k (suc r.key) None rest e w.2) l.2));
+        rows_are = ap (λ l. l ++ rows_of ns) (sym is) ∙ sym (without_left (suc k) None k n.rows (rows_of ns) (omega arith)
+            (level_within (suc k) None rest ns (here_within k (suc r.key) None rest e w.2) l.2));
         level = subst (λ l. Level None l ns) (sym without_is) l.2;
         starts = subst (λ l. Starts l ns) (sym without_is) s.1;
         next = subst (λ l. Level None l (with_first_keys l ns)) (sym shifted_is) behind.0;
@@ -297,7 +301,11 @@ index_here k r rest n ns w l s e (y ∷ ys) is =
         key_is = toward_here (λ r. r.key) k r rest e;
         rows_are = elim (more_rows k r.key n.rows y ys (rows_of ns) s.0 is) [
           | inl a ↦ inl a
-          | inr b ↦ inr (b.0, b.1 ∙ ap (λ l. l ++ rows_of ns) (sym is) ∙ sym (without_left (suc k) None k n.rows (rows_of ns) (omega arith) (level_within (suc k) None rest ns (here_within k (suc r.key) None rest e w.2) l.2)))
+          | inr b ↦ inr (
+            b.0,
+            b.1 ∙ ap (λ l. l ++ rows_of ns) (sym is) ∙ sym (without_left (suc k) None k n.rows (rows_of ns) (omega arith)
+                (level_within (suc k) None rest ns (here_within k (suc r.key) None rest e w.2) l.2)),
+          )
         ];
       };
     }

@@ -1,8 +1,9 @@
 -- Reading place by place, as a plan does: at each page it goes on or refuses.
-use Rattle.std.proofs.Common.{◌≡◌, ℕ, zero, suc, ◌≤◌, List, [], ◌∷◌, length, Option, Some, None, inl, inr, refl, sym, ap, ◌∙◌, arith}
+use Rattle.std.proofs.Common.{◌≡◌, ℕ, zero, suc, ◌≤◌, List, [], ◌∷◌, length, Option, Some, None, inl, inr, refl, sym, ap, ◌∙◌, subst, arith}
 use Rattle.std.proofs.lemmas.Bool.{cases_eq, eq-eqb, ne_eqb}
 use Rattle.spec_levels.specs.Levels.{Node, Payload}
-use Rattle.spec_ways.specs.Pages.{Page, LeafPage, IndexPage, Pages, Shows, asked_below, asked_pages}
+use Rattle.spec_ways.specs.Pages.{Page, LeafPage, IndexPage, Pages, ShowsLevel, Shows, asked_below, asked_pages}
+use Rattle.law_ways.specs.WayLaws.{ShowsWay}
 use Rattle.spec_ways.specs.Ways.{way_pages, Way, child_toward, node_at, through, ending_at, through_child, way_from}
 use Rattle.law_ways.proofs.WayReads.{some_is, found_shows}
 
@@ -94,3 +95,28 @@ pub pages_asked : (m k : ℕ) (image : Pages) (above : List (List (Node ℕ))) (
     → (p : ℕ) (way : Way) → way_from k above leaves p ≡ Some way → asked_pages m k image p ≡ way_pages way
 pages_asked m k image above leaves long s p way e =
     asked_are m k image p ∙ way_is_asked (λ q out. q ∷ out) [] m k image above leaves long s p way (λ w. []) e ∙ asks_all (way_pages way)
+
+-- and each is shown
+node_shown : {V : Type 0} (kind : Node V → Page) (image : Pages) (p : ℕ) (nodes : List (Node V)) (n : Node V) → ShowsLevel kind image nodes → node_at p nodes ≡ Some n → image n.page ≡ kind n
+node_shown kind image p nodes n s e = ap image (found_page p nodes n e) ∙ found_shows kind image p nodes n s e
+
+pub way_is_shown : (k : ℕ) (image : Pages) (above : List (List (Node ℕ))) (leaves : List (Node Payload)) → Shows image above leaves
+    → (p : ℕ) (way : Way) → way_from k above leaves p ≡ Some way → (length way.above ≡ length above) × ShowsWay image way.above way.leaf
+way_is_shown k image [] leaves s p way e = by_leaf (node_at p leaves) refl e
+  where
+    by_leaf : (o : Option (Node Payload)) → node_at p leaves ≡ o → ending_at o ≡ Some way → (length way.above ≡ 0) × ShowsWay image way.above way.leaf
+    by_leaf None is e = absurd (cc)
+    by_leaf (Some n) is e = subst (λ (w : Way). (length w.above ≡ 0) × ShowsWay image w.above w.leaf) (some_is (record { above = []; leaf = n }) way e) (refl, node_shown LeafPage image p leaves n s is)
+way_is_shown k image (nodes ∷ more) leaves s p way e = by_node (λ q w. way_is_shown k image more leaves s.1 q w) (node_at p nodes) refl e
+  where
+    by_node : ((q : ℕ) (w : Way) → way_from k more leaves q ≡ Some w → (length w.above ≡ length more) × ShowsWay image w.above w.leaf) → (o : Option (Node ℕ)) → node_at p nodes ≡ o
+        → through_child (way_from k more leaves) k o ≡ Some way → (length way.above ≡ suc (length more)) × ShowsWay image way.above way.leaf
+    by_node go None is e = absurd (cc)
+    by_node go (Some n) is e = by_rest (way_from k more leaves (child_toward k n.rows)) refl e
+      where
+        by_rest : (o : Option Way) → way_from k more leaves (child_toward k n.rows) ≡ o → through n o ≡ Some way → (length way.above ≡ suc (length more)) × ShowsWay image way.above way.leaf
+        by_rest None rest e = absurd (cc)
+        by_rest (Some w) rest e =
+            let h = go (child_toward k n.rows) w rest in
+            subst (λ (v : Way). (length v.above ≡ suc (length more)) × ShowsWay image v.above v.leaf) (some_is (record { above = n ∷ w.above; leaf = w.leaf }) way e)
+            (ap suc h.0, (node_shown (IndexPage (suc (length more))) image p nodes n s.0 is ∙ ap (λ (m : ℕ). IndexPage (suc m) n) (sym h.0), h.1))

@@ -9,7 +9,7 @@ use Rattle.law_ways.proofs.Fits.{Fits}
 use Rattle.law_ways.proofs.PathLaws.{leads}
 use Rattle.law_ways.proofs.PutLaws.{level_within}
 use Rattle.law_ways.proofs.WayReads.{way_is_read}
-use Rattle.law_ways.proofs.WayAsks.{pages_asked}
+use Rattle.law_ways.proofs.WayAsks.{pages_asked, way_is_shown}
 use Rattle.law_ways.specs.WayLaws.{ContentsRise, WaysLead, WaysAreRead}
 
 -- the rows of the leaves rise
@@ -36,4 +36,5 @@ pub ways_are_read : WaysAreRead
 ways_are_read root k tree image way is s e = record {
   read = way_is_read 15 k image tree.above tree.leaves is.height s root way e;
   asked = pages_asked 15 k image tree.above tree.leaves is.height s root way e;
+  shown = (way_is_shown k image tree.above tree.leaves s root way e).1;
 }

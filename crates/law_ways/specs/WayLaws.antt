@@ -1,9 +1,9 @@
 -- Where the way towards a key leads, and that it is read from the pages that show the tree.
 use Rattle.std.specs.Prelude.{◌≡◌, ◌⊎◌, ◌≤◌, ℕ, suc, List, [], ◌∷◌, ◌++◌, length, Some, None}
-use Rattle.spec_levels.specs.Levels.{Row, Tree, keys_of, Rises, IsTree}
+use Rattle.spec_levels.specs.Levels.{Row, Index, Leaf, Tree, keys_of, Rises, IsTree}
 use Rattle.spec_ways.specs.Rows.{contents, value_at}
 use Rattle.spec_ways.specs.Ways.{row_toward, Way, way_to, way_pages}
-use Rattle.spec_ways.specs.Pages.{Pages, Shows, read_way, asked_pages}
+use Rattle.spec_ways.specs.Pages.{LeafPage, IndexPage, Pages, Shows, read_way, asked_pages}
 
 -- the keys of a tree's rows rise from left to right
 abbrev pub ContentsRise : Type 0
@@ -31,11 +31,21 @@ pub record Leads (root key : ℕ) (tree : Tree) : Type 0 where
 abbrev pub WaysLead : Type 0
 WaysLead = (root key : ℕ) (tree : Tree) → IsTree root tree → Leads root key tree
 
+-- each page of a way is shown, an index page with the number of levels below it
+abbrev pub ShowsWay : Pages → List Index → Leaf → Type 0
+ShowsWay image [] leaf = image leaf.page ≡ LeafPage leaf
+ShowsWay image (node ∷ way) leaf = (image node.page ≡ IndexPage (suc (length way)) node) × ShowsWay image way leaf
+
 -- the way read from an image, and the pages that are asked for it in order
 pub record IsRead (root key : ℕ) (image : Pages) (way : Way) : Type 0 where
   pub read : read_way 15 key image root ≡ Some way
   pub asked : asked_pages 15 key image root ≡ way_pages way
+  pub shown : ShowsWay image way.above way.leaf
 
 -- where the pages of an image show a tree, the way that is read is the tree's, and its pages are asked from the root down
 abbrev pub WaysAreRead : Type 0
 WaysAreRead = (root key : ℕ) (tree : Tree) (image : Pages) (way : Way) → IsTree root tree → Shows image tree.above tree.leaves → way_to root tree key ≡ Some way → IsRead root key image way
+
+-- an image shows at most one tree with this root
+abbrev pub OneTree : Type 0
+OneTree = (root : ℕ) (tree other : Tree) (image : Pages) → IsTree root tree → IsTree root other → Shows image tree.above tree.leaves → Shows image other.above other.leaves → tree ≡ other

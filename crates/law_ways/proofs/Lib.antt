@@ -11,6 +11,7 @@ pub mod InsertLaw
 pub mod LeftEdge
 pub mod LocalLaws
 pub mod LossShows
+pub mod OneTree
 pub mod OtherPages
 pub mod PathLaws
 pub mod PutLaws

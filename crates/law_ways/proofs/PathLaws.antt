@@ -1,5 +1,6 @@
 -- The way from the root to a leaf leads to the row with the key, if the tree has it.
 use Rattle.std.proofs.Common.{◌≡◌, ℕ, suc, ◌<◌, ◌≤◌, Bool, true, false, List, [], ◌∷◌, ◌++◌, length, Some, None, nat_lt, refl, sym, ap, ◌∙◌, subst, inl, inr, arith}
+use Rattle.std.specs.Prelude.{if◌then◌else◌}
 use Rattle.std.proofs.lemmas.Bool.{cases_Bool, cases_eq, eq-eqb, ne_eqb, ltb-false, lt-ltb, le-ltb}
 use Rattle.spec_levels.specs.Levels.{Row, Node, rows_of, pages_of, Payload}
 use Rattle.law_ways.proofs.Bounds.{toward_by, rows_behind}
@@ -7,13 +8,13 @@ use Rattle.spec_ways.specs.Delete.{Taken, take_row, kept_page, before_taken, wit
 use Rattle.spec_ways.specs.Insert.{Cut, Put, cut_page, before_put, put_row}
 use Rattle.spec_ways.specs.Rows.{with_first_key, is_below_first, value_at, with_row}
 use Rattle.spec_ways.specs.Sinks.{with_edge}
-use Rattle.spec_ways.specs.Ways.{child_toward, key_toward, node_at, Way, through, ending_at, through_child, way_from}
+use Rattle.spec_ways.specs.Ways.{last_not_above, child_toward, key_toward, node_at, Way, through, ending_at, through_child, way_from}
 use Rattle.law_ways.proofs.Bounds.{Within, shifted, rows_behind}
 use Rattle.law_ways.proofs.Fits.{Level, Starts, StartsAt, Fits, count, all_pages}
 use Rattle.law_ways.proofs.GrowLaws.{rows_start, starts_append, count_append}
 use Rattle.law_ways.proofs.PutLaws.{level_within, here_within, put_later, AreAlike}
 use Rattle.law_ways.proofs.RowLaws.{join_within, held_left, held_right}
-use Rattle.law_ways.proofs.TakeLaws.{take_later, toward_here, toward_later, shifted_same, shifted_other, headed_same, heads_same}
+use Rattle.law_ways.proofs.TakeLaws.{take_later, above_kept, toward_here, toward_later, shifted_same, shifted_other, headed_same, heads_same}
 use Rattle.std.proofs.lemmas.Grind.{flat_map-append}
 
 abbrev pub onto : {V : Type 0} → List (Node V) → Put V → Put V
@@ -36,28 +37,25 @@ here_alike : (k j : ℕ) (rest : List (Row ℕ)) → AreAlike k j rest → is_be
 here_alike k j [] alike e = refl
 here_alike k j (s ∷ rest) alike e = sym alike.0 ∙ e
 
-above_here : (k : ℕ) (rest : List (Row ℕ)) → Within (suc k) None rest → is_below_first k rest ≡ true
-above_here k [] w = refl
-above_here k (s ∷ rest) w = lt-ltb k s.key w.0
+last_append : (k : ℕ) (f : Row ℕ) (xs ys : List (Row ℕ)) → Within (suc k) None ys → last_not_above k f (xs ++ ys) ≡ last_not_above k f xs
+last_append k f [] ys w = above_kept k (suc k) f ys (omega arith) w
+last_append k f (x ∷ xs) ys w = last_append k (if nat_lt k x.key then f else x) xs ys w
+
+last_reaches : (k : ℕ) (f : Row ℕ) (xs : List (Row ℕ)) (y : Row ℕ) (ys : List (Row ℕ)) → y.key ≤ k → last_not_above k f (xs ++ y ∷ ys) ≡ last_not_above k y ys
+last_reaches k f [] y ys le = ap (λ (b : Bool). last_not_above k (if b then f else y) ys) (le-ltb k y.key le)
+last_reaches k f (x ∷ xs) y ys le = last_reaches k (if nat_lt k x.key then f else x) xs y ys le
 
 module _ (of : Row ℕ → ℕ) where
   -- rows behind, whose keys are above
   pub toward_left : (k : ℕ) (xs ys : List (Row ℕ)) → Within (suc k) None ys → (low : ℕ) → StartsAt low xs → toward_by of k (xs ++ ys) ≡ toward_by of k xs
   toward_left k [] ys w low s = absurd s
-  toward_left k (x ∷ []) ys w low s = toward_here of k x ys (above_here k ys w)
-  toward_left k (x ∷ z ∷ zs) ys w low s = by_test (nat_lt k z.key) refl (toward_left k (z ∷ zs) ys w z.key refl)
-    where
-      by_test : (b : Bool) → nat_lt k z.key ≡ b → toward_by of k (z ∷ zs ++ ys) ≡ toward_by of k (z ∷ zs) → toward_by of k (x ∷ z ∷ zs ++ ys) ≡ toward_by of k (x ∷ z ∷ zs)
-      by_test true e h = toward_here of k x (z ∷ zs ++ ys) e ∙ sym (toward_here of k x (z ∷ zs) e)
-      by_test false e h = toward_later of k x (z ∷ zs ++ ys) e ∙ h ∙ sym (toward_later of k x (z ∷ zs) e)
+  toward_left k (x ∷ xs) ys w low s = ap of (last_append k x xs ys w)
 
   -- rows in front, below a bound where others begin that isn't above
   pub toward_right : (low mid k : ℕ) (xs ys : List (Row ℕ)) → Within low (Some mid) xs → StartsAt mid ys → mid ≤ k → toward_by of k (xs ++ ys) ≡ toward_by of k ys
   toward_right low mid k [] ys w s le = refl
-  toward_right low mid k (x ∷ []) [] w s le = absurd s
-  toward_right low mid k (x ∷ []) (y ∷ ys) w s le = toward_later of k x (y ∷ ys) (le-ltb k y.key (omega (arith, s, le)))
-  toward_right low mid k (x ∷ z ∷ zs) ys w s le =
-      toward_later of k x (z ∷ zs ++ ys) (le-ltb k z.key (omega (arith, w.2.1, le))) ∙ toward_right (suc x.key) mid k (z ∷ zs) ys w.2 s le
+  toward_right low mid k (x ∷ xs) [] w s le = absurd s
+  toward_right low mid k (x ∷ xs) (y ∷ ys) w s le = ap of (last_reaches k x xs y ys (omega (arith, s, le)))
 
 module _ {V : Type 0} where
   page_here : (p : ℕ) (n : Node V) (ns : List (Node V)) → n.page ≡ p → node_at p (n ∷ ns) ≡ Some n
@@ -109,9 +107,9 @@ module _ {V : Type 0} where
     right = ns;
     key = r.key;
     nodes_are = refl;
-    is = page_here (child_toward k (r ∷ rest)) n ns (sym (toward_here (λ r. r.value) k r rest e ∙ l.0));
-    page = toward_here (λ r. r.value) k r rest e ∙ l.0;
-    key_is = toward_here (λ r. r.key) k r rest e;
+    is = page_here (child_toward k (r ∷ rest)) n ns (sym (toward_here (λ r. r.value) k (suc r.key) r rest e w.2 ∙ l.0));
+    page = toward_here (λ r. r.value) k (suc r.key) r rest e w.2 ∙ l.0;
+    key_is = toward_here (λ r. r.key) k (suc r.key) r rest e w.2;
     least = omega arith;
     not_above = λ le. le;
     front = tt;

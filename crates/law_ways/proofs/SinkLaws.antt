@@ -1,6 +1,7 @@
 -- A row taken from a tree changes the pages on the way to its leaf as these pages tell, and prev and next of each page
 -- that goes.
 use Rattle.std.proofs.Common.{◌≡◌, ℕ, suc, ◌≤◌, Bool, true, false, List, [], ◌∷◌, ◌++◌, Option, Some, None, nat_lt, refl, sym, ap, ◌∙◌, subst, inl, inr, arith}
+use Rattle.std.specs.Prelude.{if◌then◌else◌}
 use Rattle.std.proofs.lemmas.Bool.{cases_Bool, eq-eqb, ne_eqb, ltb-false}
 use Rattle.spec_levels.specs.Levels.{Row, Node, rows_of, pages_of, first_page, IsLinked, Payload}
 use Rattle.spec_ways.specs.Climbs.{with_first_prev, Grows}
@@ -8,7 +9,7 @@ use Rattle.spec_ways.specs.Delete.{Taken, kept_page, take_row, leaf_without, ind
 use Rattle.spec_ways.specs.Insert.{linked}
 use Rattle.spec_ways.specs.Rows.{with_first_key, lowest_key, without}
 use Rattle.spec_ways.specs.Sinks.{Loss, Untouched, Keeps, Goes, loss_of, gone_key_of, edge_of, Sink, sink_through, sink, with_last_next, with_edge, after_loss, IsSunk, AreSunk}
-use Rattle.spec_ways.specs.Ways.{child_toward, key_toward, Way, through, ending_at, through_child, way_from}
+use Rattle.spec_ways.specs.Ways.{last_not_above, child_toward, key_toward, Way, through, ending_at, through_child, way_from}
 use Rattle.law_ways.proofs.Bounds.{Within, shifted}
 use Rattle.law_ways.proofs.Fits.{Level, Starts, StartsAt, Fits, count, all_pages}
 use Rattle.law_ways.proofs.GrowLaws.{linked_rows, rows_start, count_append, alike_up}
@@ -26,7 +27,7 @@ key_alike k low r (s ∷ rest) w le = by_test (λ le'. key_alike k (suc r.key) s
     by_test : (s.key ≤ k → (s.key ≤ key_toward k (s ∷ rest)) × AreAlike k (key_toward k (s ∷ rest)) (s ∷ rest)) → (b : Bool) → nat_lt k s.key ≡ b
         → (r.key ≤ key_toward k (r ∷ s ∷ rest)) × AreAlike k (key_toward k (r ∷ s ∷ rest)) (r ∷ s ∷ rest)
     by_test go true e =
-        subst (λ q. (r.key ≤ q) × AreAlike k q (r ∷ s ∷ rest)) (sym (toward_here (λ r. r.key) k r (s ∷ rest) e))
+        subst (λ q. (r.key ≤ q) × AreAlike k q (r ∷ s ∷ rest)) (sym (toward_here (λ r. r.key) k (suc r.key) r (s ∷ rest) e w.2))
         (omega arith, (alike_at k r.key r le (omega arith), alike_above k r.key None (s ∷ rest) (here_within k (suc r.key) None (s ∷ rest) e w.2) w.2))
     by_test go false e =
         let h = go (ltb-false k s.key e) in
@@ -37,13 +38,14 @@ toward_alike : (k low : ℕ) (rows : List (Row ℕ)) → StartsAt low rows → W
 toward_alike k low [] at w le = tt
 toward_alike k low (r ∷ rest) at w le = (key_alike k low r rest w (omega (arith, at, le))).1
 
+last_alike : (k g : ℕ) (f : Row ℕ) (rows : List (Row ℕ)) → AreAlike k g rows → last_not_above g f rows ≡ last_not_above k f rows
+last_alike k g f [] h = refl
+last_alike k g f (q ∷ rest) h =
+    ap (λ (b : Bool). last_not_above g (if b then f else q) rest) (sym h.0) ∙ last_alike k g (if nat_lt k q.key then f else q) rest h.1
+
 key_same : (k g : ℕ) (rows : List (Row ℕ)) → AreAlike k g rows → key_toward g rows ≡ key_toward k rows
 key_same k g [] h = refl
-key_same k g (r ∷ []) h = refl
-key_same k g (r ∷ q ∷ rest) h = elim (cases_Bool (nat_lt k q.key)) [
-  | inl e ↦ toward_here (λ r. r.key) g r (q ∷ rest) (sym h.1.0 ∙ e) ∙ sym (toward_here (λ r. r.key) k r (q ∷ rest) e)
-  | inr e ↦ toward_later (λ r. r.key) g r (q ∷ rest) (sym h.1.0 ∙ e) ∙ key_same k g (q ∷ rest) h.1 ∙ sym (toward_later (λ r. r.key) k r (q ∷ rest) e)
-]
+key_same k g (r ∷ rest) h = ap (λ (x : Row ℕ). x.key) (last_alike k g r rest h.1)
 
 module _ {V : Type 0} where
   edge_first : (e : Option ℕ) (nodes : List (Node V)) → first_page (with_edge e nodes) ≡ first_page nodes

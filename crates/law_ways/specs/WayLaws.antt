@@ -1,5 +1,5 @@
 -- Where the way towards a key leads, and that it is read from the pages that show the tree.
-use Rattle.std.specs.Prelude.{◌≡◌, ◌⊎◌, ◌≤◌, ℕ, suc, List, [], ◌∷◌, ◌++◌, length, Some, None}
+use Rattle.std.specs.Prelude.{◌≡◌, ◌⊎◌, ◌<◌, ◌≤◌, ℕ, suc, List, [], ◌∷◌, ◌++◌, length, Some, None}
 use Rattle.spec_levels.specs.Levels.{Row, Index, Leaf, Tree, keys_of, Rises, IsTree}
 use Rattle.spec_ways.specs.Rows.{contents, value_at}
 use Rattle.spec_ways.specs.Ways.{row_toward, Way, way_to, way_pages}
@@ -9,17 +9,22 @@ use Rattle.spec_ways.specs.Pages.{LeafPage, IndexPage, Pages, Shows, read_way, a
 abbrev pub ContentsRise : Type 0
 ContentsRise = (root : ℕ) (tree : Tree) → IsTree root tree → Rises 0 None (keys_of (contents tree))
 
--- the last of these rows whose key isn't above this one, or else the first of them
+-- rows whose keys are all above this one
+abbrev pub AreAbove : ℕ → List (Row ℕ) → Type 0
+AreAbove key [] = Unit {0}
+AreAbove key (row ∷ rows) = (key < row.key) × AreAbove key rows
+
+-- a row among rows: those behind it are above the key, and the row isn't, or no row is before it
 pub record IsLastNotAbove (key : ℕ) (rows : List (Row ℕ)) (row : Row ℕ) : Type 0 where
   pub front : List (Row ℕ)
   pub back : List (Row ℕ)
   pub rows_are : rows ≡ front ++ row ∷ back
-  pub above : Rises (suc key) None (keys_of back)
+  pub above : AreAbove key back
   pub not_above : (row.key ≤ key) ⊎ (front ≡ [])
 
--- where keys rise, that is the row under which the key belongs
+-- that is the row towards the key, whether the keys of the rows rise or not
 abbrev pub RowsLead : Type 0
-RowsLead = (key : ℕ) (row : Row ℕ) (rest : List (Row ℕ)) → Rises 0 None (keys_of (row ∷ rest)) → IsLastNotAbove key (row ∷ rest) (row_toward key (row ∷ rest))
+RowsLead = (key : ℕ) (row : Row ℕ) (rest : List (Row ℕ)) → IsLastNotAbove key (row ∷ rest) (row_toward key (row ∷ rest))
 
 -- the way towards a key has a page of each level, and its leaf holds what the tree holds at the key
 pub record Leads (root key : ℕ) (tree : Tree) : Type 0 where

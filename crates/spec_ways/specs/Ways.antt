@@ -1,12 +1,16 @@
 -- The way towards a key: the pages from the root down to the leaf where the key belongs.
-use Rattle.std.specs.Prelude.{ℕ, List, [], ◌∷◌, ◌++◌, map, Option, Some, None, ◌==◌, if◌then◌else◌}
+use Rattle.std.specs.Prelude.{ℕ, List, [], ◌∷◌, ◌++◌, map, Option, Some, None, nat_lt, ◌==◌, if◌then◌else◌}
 use Rattle.spec_levels.specs.Levels.{Row, Node, Index, Leaf, Tree, root_row}
-use Rattle.spec_ways.specs.Rows.{is_below_first}
 
--- the row of an index page under which a key belongs: the one before the first row behind it whose key is above this key
+-- the last of these rows whose key isn't above this one, or else the row before them
+abbrev pub last_not_above : ℕ → Row ℕ → List (Row ℕ) → Row ℕ
+last_not_above key before [] = before
+last_not_above key before (row ∷ rest) = last_not_above key (if nat_lt key row.key then before else row) rest
+
+-- the row of an index page under which a key belongs: the last whose key isn't above it, or else the first
 abbrev pub row_toward : ℕ → List (Row ℕ) → Row ℕ
 row_toward key [] = root_row 0
-row_toward key (row ∷ rest) = if is_below_first key rest then row else row_toward key rest
+row_toward key (row ∷ rest) = last_not_above key row rest
 
 -- the page that it names
 abbrev pub child_toward : ℕ → List (Row ℕ) → ℕ

@@ -7,7 +7,7 @@ use Rattle.spec_ways.specs.DeleteWrites.{losses_written, only_value, only_child,
 use Rattle.spec_ways.specs.Insert.{linked, renumbered, top_renumbered, root_rows}
 use Rattle.spec_ways.specs.Pages.{Page, LeafPage, IndexPage, Pages, ShowsLevel, Shows, with_page}
 use Rattle.spec_ways.specs.Rows.{without}
-use Rattle.spec_ways.specs.Sinks.{Loss, Untouched, Keeps, Goes, gone_key_of, Sink, sink_through, sink, IsSunk, edge_below, AreSunk, freed_page, freed_pages, freed_below_root}
+use Rattle.spec_ways.specs.Sinks.{Loss, Untouched, Keeps, Goes, gone_key_of, Sink, IsSunk, edge_below, AreSunk, freed_page, freed_pages, freed_below_root}
 use Rattle.spec_ways.specs.Ways.{Way, key_toward}
 use Rattle.law_ways.proofs.Bounds.{HasKey}
 use Rattle.law_ways.proofs.Fits.{Level, Fits, count, all_pages}
@@ -16,6 +16,7 @@ use Rattle.law_ways.proofs.LossShows.{losses_show, losses_long}
 use Rattle.law_ways.proofs.ShowLaws.{wrote_here, wrote_there, counts_self, tree_same, pages_join}
 use Rattle.law_ways.proofs.ShrinkLaws.{single, one_page, root_counts, IsShrunk}
 use Rattle.law_ways.proofs.TopLaws.{topped_is}
+use Rattle.law_ways.proofs.ByKey.{sink_through_by_key, sink_by_key}
 
 abbrev row_at : ℕ → ℕ → List (Row ℕ)
 row_at low page = record { key = low; value = page } ∷ []
@@ -137,13 +138,13 @@ abbrev pub top_gone : List (Loss ℕ) → Loss Payload → Option ℕ
 top_gone [] loss = gone_key_of 0 loss
 top_gone (l ∷ losses) loss = gone_key_of 0 l
 
-sunk_top : (k : ℕ) (n : Node ℕ) (b : Sink) (o : Option ℕ) → top_gone (sink_through 0 n b o).above (sink_through 0 n b o).leaf ≡ (sink_through 0 n b o).gone_key
+sunk_top : (k : ℕ) (n : Node ℕ) (b : Sink) (o : Option ℕ) → top_gone (sink_through_by_key 0 n b o).above (sink_through_by_key 0 n b o).leaf ≡ (sink_through_by_key 0 n b o).gone_key
 sunk_top k n b None = refl
 sunk_top k n b (Some g) = refl
 
-pub sink_top : (k : ℕ) (ns : List (Node ℕ)) (leaf : Node Payload) → let c = sink 0 k ns leaf in top_gone c.above c.leaf ≡ c.gone_key
+pub sink_top : (k : ℕ) (ns : List (Node ℕ)) (leaf : Node Payload) → let c = sink_by_key 0 k ns leaf in top_gone c.above c.leaf ≡ c.gone_key
 sink_top k [] leaf = refl
-sink_top k (n ∷ ns) leaf = let b = sink (key_toward k n.rows) k ns leaf in sunk_top k n b b.gone_key
+sink_top k (n ∷ ns) leaf = let b = sink_by_key (key_toward k n.rows) k ns leaf in sunk_top k n b b.gone_key
 
 stays_freed : {V : Type 0} (p : ℕ) (loss : Loss V) (n : Node V) → gone_key_of 0 loss ≡ None → count p (freed_page loss n) ≡ 0
 stays_freed p Untouched n e = refl

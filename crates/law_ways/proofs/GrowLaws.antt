@@ -1,11 +1,13 @@
 -- A row put into a leaf, and what goes up from there.
-use Rattle.std.proofs.Common.{◌≡◌, ℕ, suc, ◌+◌, ◌<◌, ◌≤◌, List, [], ◌∷◌, ◌++◌, length, Option, Some, None, nat_lt, refl, sym, ap, ◌∙◌, subst, arith}
+use Rattle.std.proofs.Common.{◌≡◌, ℕ, suc, ◌+◌, ◌<◌, ◌≤◌, List, [], ◌∷◌, ◌++◌, length, Option, Some, None, nat_lt, refl, sym, ap, ◌∙◌, subst, arith, Bool, false}
+use Rattle.std.specs.Prelude.{if◌then◌else◌}
 use Rattle.spec_levels.specs.Levels.{Row, Node, rows_of, first_page, IsLinked, IsBelow, pages_of, Payload}
 use Rattle.spec_ways.specs.Insert.{linked, Cut, Cuts, put_row, Grown, first_fresh, left_over, with_separator, grown, IsCut}
 use Rattle.spec_ways.specs.Rows.{with_row}
 use Rattle.law_ways.proofs.Bounds.{Within}
 use Rattle.law_ways.proofs.Fits.{Level, Starts, StartsAt, Fits, with_up, IsUp, count, page_up, all_pages}
 use Rattle.law_ways.proofs.PutLaws.{level_within, IsPut, put_is, AreAlike}
+use Rattle.spec_ways.specs.Ways.{are_above, row_toward, key_toward}
 
 module _ {V : Type 0} where
   pub linked_first : (b : ℕ) (nodes : List (Node V)) → first_page (linked b nodes) ≡ first_page nodes
@@ -72,7 +74,24 @@ pub alike_trans : (a b c : ℕ) (rows : List (Row ℕ)) → AreAlike a b rows �
 alike_trans a b c [] h i = tt
 alike_trans a b c (r ∷ rest) h i = (h.0 ∙ i.0, alike_trans a b c rest h.1 i.1)
 
-alike_behind : (a b : ℕ) (xs ys : List (Row ℕ)) → AreAlike a b (xs ++ ys) → AreAlike a b ys
+above_alike : (k g : ℕ) (rows : List (Row ℕ)) → AreAlike k g rows → are_above g rows ≡ are_above k rows
+above_alike k g [] h = refl
+above_alike k g (q ∷ rest) h =
+    ap (λ (b : Bool). if b then are_above g rest else false) (sym h.0) ∙ ap (λ (b : Bool). if nat_lt k q.key then b else false) (above_alike k g rest h.1)
+
+row_same : (k g : ℕ) (rows : List (Row ℕ)) → AreAlike k g rows → row_toward g rows ≡ row_toward k rows
+row_same k g [] h = refl
+row_same k g (r ∷ rest) h =
+    ap (λ (b : Bool). if b then r else row_toward g rest) (above_alike k g rest h.1) ∙ ap (λ (x : Row ℕ). if are_above k rest then r else x) (row_same k g rest h.1)
+
+pub key_same : (k g : ℕ) (rows : List (Row ℕ)) → AreAlike k g rows → key_toward g rows ≡ key_toward k rows
+key_same k g rows h = ap (λ (x : Row ℕ). x.key) (row_same k g rows h)
+
+pub alike_front : (a b : ℕ) (xs ys : List (Row ℕ)) → AreAlike a b (xs ++ ys) → AreAlike a b xs
+alike_front a b [] ys h = tt
+alike_front a b (x ∷ xs) ys h = (h.0, alike_front a b xs ys h.1)
+
+pub alike_behind : (a b : ℕ) (xs ys : List (Row ℕ)) → AreAlike a b (xs ++ ys) → AreAlike a b ys
 alike_behind a b [] ys h = h
 alike_behind a b (x ∷ xs) ys h = alike_behind a b xs ys h.1
 
@@ -93,6 +112,7 @@ pub record IsGrown (low : ℕ) (high : Option ℕ) (rows : List (Row ℕ)) (abov
   pub separator : IsUp low high o
   pub contents : rows_of b.leaves ≡ with_row x (rows_of leaves)
   pub alike : (u : Row ℕ) → o ≡ Some u → AreAlike x.key u.key rows
+  pub higher : (u : Row ℕ) → o ≡ Some u → key_toward x.key rows < u.key
   pub pages_are : (p : ℕ) → count p (all_pages b.above b.leaves) + count p b.fresh ≡ count p (all_pages above leaves) + count p fresh
   pub less : (p : ℕ) → count p b.fresh ≤ count p fresh
   pub enough : length fresh ≤ length b.fresh + suc (length above)
@@ -109,6 +129,7 @@ module _ (cuts : Cuts) (sound_leaf : IsCut cuts.leaf) (sound_index : IsCut cuts.
         separator = is.separator;
         contents = linked_rows 0 c.nodes ∙ is.contents;
         alike = is.alike;
+        higher = is.higher;
         pages_are = λ p.
             let e = is.pages_are p in
             let f = taken c.separator fresh is.right_is some p in
@@ -126,6 +147,7 @@ module _ (cuts : Cuts) (sound_leaf : IsCut cuts.leaf) (sound_index : IsCut cuts.
     separator = tt;
     contents = h.contents;
     alike = λ u e. absurd (cc);
+    higher = λ u e. absurd (cc);
     pages_are = λ p.
         let e = h.pages_are p in
         let f = count_append p (pages_of nodes) (all_pages more leaves) in
@@ -148,6 +170,7 @@ module _ (cuts : Cuts) (sound_leaf : IsCut cuts.leaf) (sound_index : IsCut cuts.
         separator = is.separator;
         contents = h.contents;
         alike = λ u e. alike_trans x.key y.key u.key rows (alike_up x.key y.key high rows nodes l s (h.alike y refl)) (is.alike u e);
+        higher = λ u e. let f = key_same x.key y.key rows (alike_up x.key y.key high rows nodes l s (h.alike y refl)) in let g = is.higher u e in omega (arith, f, g);
         pages_are = λ p.
             let e = h.pages_are p in
             let f = count_append p (pages_of nodes) (all_pages more leaves) in

@@ -1,11 +1,11 @@
 -- A tree with one row more is a tree.
-use Rattle.std.proofs.Common.{◌≡◌, ℕ, ◌≤◌, List, ◌++◌, length, None, Contains, refl, sym, ap, ◌∙◌, subst, arith}
+use Rattle.std.proofs.Common.{◌≡◌, ℕ, ◌≤◌, List, ◌++◌, length, Option, None, Contains, refl, sym, ap, ◌∙◌, subst, arith}
 use Rattle.spec_levels.specs.Levels.{Row, Tree, keys_of, rows_of, tree_pages, AreDistinct, IsTree, Payload}
 use Rattle.spec_ways.specs.Rows.{with_row, value_at}
-use Rattle.spec_ways.specs.Climbs.{climb, taken_pages}
-use Rattle.spec_ways.specs.Insert.{Cuts, root_rows, left_over, grown, raised, inserted, IsCut, AreFresh}
+use Rattle.spec_ways.specs.Climbs.{Climb, climb_of, taken_pages, IsStepped, AreStepped}
+use Rattle.spec_ways.specs.Insert.{Cuts, Grown, root_rows, left_over, grown, raised, inserted, IsCut, AreFresh}
 use Rattle.spec_ways.specs.InsertWrites.{insert_written}
-use Rattle.spec_ways.specs.Pages.{Shows}
+use Rattle.spec_ways.specs.Pages.{Pages, Shows}
 use Rattle.law_ways.proofs.Bridge.{fits_from, levels_from, counted, contains_from, once, distinct_from}
 use Rattle.law_ways.proofs.Counts.{tree_counts, none_zero, no_count}
 use Rattle.law_ways.proofs.Fits.{count, all_pages}
@@ -16,9 +16,10 @@ use Rattle.law_ways.proofs.TakenPages.{taken_are_first}
 use Rattle.spec_ways.specs.Ways.{Way}
 use Rattle.law_ways.proofs.GrowLaws.{count_append}
 use Rattle.law_ways.proofs.RaiseShows.{climb_top, insert_shows}
-use Rattle.law_ways.proofs.StepLaws.{climbs}
-use Rattle.law_ways.specs.InsertLaws.{InsertKeeps, UpdateReplaces, InsertClimbs, InsertIsWritten}
+use Rattle.law_ways.proofs.StepLaws.{Climbs, climbs}
+use Rattle.law_ways.specs.InsertLaws.{IsClimbed, IsInsertWritten, InsertKeeps, UpdateReplaces, InsertClimbs, InsertIsWritten}
 use Rattle.law_ways.proofs.TopLaws as top
+use Rattle.law_ways.proofs.ByKey.{climb_by_key}
 
 -- the pages of the tree with the row, counted
 new_counts : (cuts : Cuts) (fresh : List ℕ) (root : ℕ) (x : Row Payload) (tree : Tree) → IsCut cuts.leaf → IsCut cuts.index → IsTree root tree → AreFresh fresh tree
@@ -63,59 +64,75 @@ update_replaces cuts fresh root x tree old leaf index is new e =
       others = λ key other. ap (value_at key) same ∙ with_others key x (rows_of tree.leaves) other;
     }
 
-pub insert_climbs : InsertClimbs
-insert_climbs cuts fresh root x tree leaf index is new =
-    let b = grown cuts fresh x (root_rows root) tree.above tree.leaves in
-    let t = inserted cuts fresh root x tree in
-    let in_all = top.inserted_is cuts leaf index fresh root x tree (omega (arith, new.enough)) (fits_from (root_rows root) tree.above tree.leaves is.levels) in
-    let h = climbs cuts leaf index fresh x 0 (omega arith) (root_rows root) tree.above tree.leaves refl (omega arith, tt, tt)
-    (fits_from (root_rows root) tree.above tree.leaves is.levels) (omega (arith, new.enough))
-    (λ p. let a = tree_counts tree p in let b = once p (tree_pages tree) is.distinct in omega (arith, a, b)) in
-    let c = climb cuts fresh x h.way.above h.way.leaf in
-    let rest = left_over c.separator c.fresh in
-    let left_is : left_over b.separator b.fresh ≡ rest = ap (λ o. left_over o b.fresh) h.separator ∙ ap (left_over c.separator) h.fresh_is in
-    let exact : (p : ℕ) → count p (tree_pages t ++ left_over b.separator b.fresh) ≡ count p (fresh ++ tree_pages tree) = λ p.
-    let i = in_all.exact p in let j = tree_counts t p in let k = tree_counts tree p in let l = count_append p (tree_pages t) (left_over b.separator b.fresh) in
-    let m = count_append p fresh (tree_pages tree) in omega (arith, i, j, k, l, m) in
-    let lead = ways_lead root x.key tree is in
-    let same_way : lead.way ≡ h.way = some_is lead.way h.way (sym lead.is ∙ h.is) in
-    let long : length h.way.above ≡ length tree.above = subst (λ (w : Way). length w.above ≡ length tree.above) same_way lead.long in
+-- from what the steps of a way are to which pages there are
+climbed : (root : ℕ) (fresh : List ℕ) (way : Way) (c : Climb) (tree t : Tree) (b : Grown) → AreStepped way.above c.above tree.above b.above → IsStepped way.leaf c.leaf tree.leaves b.leaves
+    → b.separator ≡ c.separator → b.fresh ≡ c.fresh → t ≡ raised root b b.separator → (b.separator ≡ None → length t.above ≡ length tree.above) → taken_pages c ++ left_over c.separator c.fresh ≡ fresh
+    → ((p : ℕ) → count p (tree_pages t ++ left_over b.separator b.fresh) ≡ count p (fresh ++ tree_pages tree)) → AreDistinct (fresh ++ tree_pages tree) → IsClimbed root fresh way c tree t
+climbed root fresh way c tree t b above_steps leaf_steps separator fresh_is raises low takes exact distinct =
     let taken = taken_pages c in
-    let takes : taken ++ rest ≡ fresh = taken_are_first cuts fresh x h.way.above h.way.leaf (let e = new.enough in omega (arith, e, long)) in
+    let rest = left_over c.separator c.fresh in
+    let left_is : left_over b.separator b.fresh ≡ rest = ap (λ o. left_over o b.fresh) separator ∙ ap (left_over c.separator) fresh_is in
     let grows : (p : ℕ) → count p (tree_pages t) ≡ count p (taken ++ tree_pages tree) = λ p.
-    let e = exact p in let f = ap (count p) takes in let g = ap (count p) left_is in let i = count_append p taken rest in let j = count_append p (tree_pages t) (left_over b.separator b.fresh) in
+    let e = exact p in let f = ap (count p) takes in let g = ap (count p) left_is in let i = count_append p taken rest in
+    let j = count_append p (tree_pages t) (left_over b.separator b.fresh) in
     let k = count_append p fresh (tree_pages tree) in let l = count_append p taken (tree_pages tree) in omega (arith, e, f, g, i, j, k, l) in
     record {
-      way = h.way;
-      is = h.is;
       levels = b;
-      above_steps = h.above_steps;
-      leaf_steps = h.leaf_steps;
-      fresh_is = h.fresh_is;
-      raises = ap (raised root b) h.separator;
-      height = λ none. in_all.low (h.separator ∙ none);
+      above_steps = above_steps;
+      leaf_steps = leaf_steps;
+      fresh_is = fresh_is;
+      raises = raises ∙ ap (raised root b) separator;
+      height = λ none. low (separator ∙ none);
       fresh_are = sym takes;
       pages_are = λ p. let e = grows p in (
         λ has. contains_from p (taken ++ tree_pages tree) (let some = counted p (tree_pages t) has in omega (arith, e, some)),
         λ has. contains_from p (tree_pages t) (let some = counted p (taken ++ tree_pages tree) has in omega (arith, e, some)),
       );
       apart = subst (λ (left : List ℕ). AreDistinct (tree_pages t ++ left)) {y = rest} left_is
-          (distinct_from (tree_pages t ++ left_over b.separator b.fresh) (λ p. let e = exact p in let f = once p (fresh ++ tree_pages tree) new.distinct in omega (arith, e, f)));
+          (distinct_from (tree_pages t ++ left_over b.separator b.fresh) (λ p. let e = exact p in let f = once p (fresh ++ tree_pages tree) distinct in omega (arith, e, f)));
     }
 
-pub insert_is_written : InsertIsWritten
-insert_is_written cuts fresh root x tree image leaf index is new s =
+-- the climb of the tree's way
+tree_climbs : (cuts : Cuts) → IsCut cuts.leaf → IsCut cuts.index → (fresh : List ℕ) (root : ℕ) (x : Row Payload) (tree : Tree) → IsTree root tree → AreFresh fresh tree
+    → Climbs x.key (root_rows root) tree.above tree.leaves cuts fresh x (grown cuts fresh x (root_rows root) tree.above tree.leaves)
+tree_climbs cuts leaf index fresh root x tree is new =
+    climbs cuts leaf index fresh x 0 (omega arith) (root_rows root) tree.above tree.leaves refl (omega arith, tt, tt)
+    (fits_from (root_rows root) tree.above tree.leaves is.levels) (omega (arith, new.enough))
+    (λ p. let a = tree_counts tree p in let b = once p (tree_pages tree) is.distinct in omega (arith, a, b))
+
+pub insert_climbs : InsertClimbs
+insert_climbs cuts fresh root x tree way leaf index is new along =
     let b = grown cuts fresh x (root_rows root) tree.above tree.leaves in
-    let f = fits_from (root_rows root) tree.above tree.leaves is.levels in
-    let h = climbs cuts leaf index fresh x 0 (omega arith) (root_rows root) tree.above tree.leaves refl (omega arith, tt, tt) f (omega (arith, new.enough))
-    (λ p. let a = tree_counts tree p in let b = once p (tree_pages tree) is.distinct in omega (arith, a, b)) in
-    let c = climb cuts fresh x h.way.above h.way.leaf in
+    let t = inserted cuts fresh root x tree in
+    let in_all = top.inserted_is cuts leaf index fresh root x tree (omega (arith, new.enough)) (fits_from (root_rows root) tree.above tree.leaves is.levels) in
+    let h = tree_climbs cuts leaf index fresh root x tree is new in
+    let exact : (p : ℕ) → count p (tree_pages t ++ left_over b.separator b.fresh) ≡ count p (fresh ++ tree_pages tree) = λ p.
+    let i = in_all.exact p in let j = tree_counts t p in let k = tree_counts tree p in let l = count_append p (tree_pages t) (left_over b.separator b.fresh) in
+    let m = count_append p fresh (tree_pages tree) in omega (arith, i, j, k, l, m) in
+    let lead = ways_lead root x.key tree is in
+    let long : length h.way.above ≡ length tree.above = subst (λ (w : Way). length w.above ≡ length tree.above) (some_is lead.way h.way (sym lead.is ∙ h.is)) lead.long in
+    let takes = taken_are_first cuts fresh x h.way.above h.way.leaf (let e = new.enough in omega (arith, e, long)) in
+    subst (λ (w : Way). IsClimbed root fresh w (climb_of cuts fresh x w) tree t) (some_is h.way way (sym h.is ∙ along))
+    (subst (λ (c : Climb). IsClimbed root fresh h.way c tree t) (sym h.slots)
+    (climbed root fresh h.way (climb_by_key cuts fresh x h.way.above h.way.leaf) tree t b h.above_steps h.leaf_steps h.separator h.fresh_is refl in_all.low
+    (subst (λ (c : Climb). taken_pages c ++ left_over c.separator c.fresh ≡ fresh) h.slots takes) exact new.distinct))
+
+written : (root : ℕ) (way : Way) (c : Climb) (image : Pages) (t : Tree) (o : Option (Row ℕ)) → o ≡ c.separator → Shows (insert_written root way c o image) t.above t.leaves
+    → ((p : ℕ) → (Contains (tree_pages t) p → ⊥) → insert_written root way c o image p ≡ image p) → IsInsertWritten root way c image t
+written root way c image t o e shows same = record {
+  shows = subst (λ o. Shows (insert_written root way c o image) t.above t.leaves) e shows;
+  same = λ p none. subst (λ o. insert_written root way c o image p ≡ image p) e (same p none);
+}
+
+pub insert_is_written : InsertIsWritten
+insert_is_written cuts fresh root x tree image way leaf index is new s along =
+    let b = grown cuts fresh x (root_rows root) tree.above tree.leaves in
+    let h = tree_climbs cuts leaf index fresh root x tree is new in
+    let c = climb_by_key cuts fresh x h.way.above h.way.leaf in
     let good = new_counts cuts fresh root x tree leaf index is new in
     let t = inserted cuts fresh root x tree in
-    let r = insert_shows root h.way c b tree image b.separator f h.above_steps h.leaf_steps h.fresh_is (climb_top cuts fresh x h.way.above h.way.leaf ∙ sym h.separator) s good.0 good.1 in
-    record {
-      way = h.way;
-      is = h.is;
-      shows = subst (λ o. Shows (insert_written root h.way c o image) t.above t.leaves) h.separator r.shows;
-      same = λ p none. subst (λ o. insert_written root h.way c o image p ≡ image p) h.separator (r.same p (tree_counts t p ∙ no_count (tree_pages t) p none));
-    }
+    let r = insert_shows root h.way c b tree image b.separator (fits_from (root_rows root) tree.above tree.leaves is.levels) h.above_steps h.leaf_steps h.fresh_is
+    (climb_top cuts fresh x h.way.above h.way.leaf ∙ sym h.separator) s good.0 good.1 in
+    subst (λ (w : Way). IsInsertWritten root w (climb_of cuts fresh x w) image t) (some_is h.way way (sym h.is ∙ along))
+    (subst (λ (c : Climb). IsInsertWritten root h.way c image t) (sym h.slots)
+    (written root h.way c image t b.separator h.separator r.shows (λ p none. r.same p (tree_counts t p ∙ no_count (tree_pages t) p none))))

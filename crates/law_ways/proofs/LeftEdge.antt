@@ -6,7 +6,7 @@ use Rattle.spec_levels.specs.Levels.{Payload, Row, Node, rows_of, pages_of, firs
 use Rattle.spec_ways.specs.Rows.{without, with_first_key, lowest_key}
 use Rattle.spec_ways.specs.Ways.{child_toward, key_toward, Way, through, ending_at, through_child, way_from}
 use Rattle.spec_ways.specs.Insert.{root_rows}
-use Rattle.spec_ways.specs.Sinks.{Loss, Untouched, Keeps, Goes, loss_of, gone_key_of, edge_of, Sink, sink_through, sink}
+use Rattle.spec_ways.specs.Sinks.{Loss, Goes, loss_of, gone_key_of, Sink}
 use Rattle.spec_ways.specs.Pages.{IndexPage, Pages, ShowsLevel, Shows}
 use Rattle.spec_ways.specs.DeleteWrites.{first_value, first_child, first_children, left_edge}
 use Rattle.law_ways.specs.DeleteLaws.{edge_nexts, LeftEdgeIsNext}
@@ -20,6 +20,10 @@ use Rattle.law_ways.proofs.PutLaws.{level_within}
 use Rattle.law_ways.proofs.RowLaws.{without_same, without_other}
 use Rattle.law_ways.proofs.ShowLaws.{linked_at}
 use Rattle.law_ways.proofs.WayReads.{some_is}
+use Rattle.law_ways.proofs.ByKey.{edge_by_key, sink_through_by_key, sink_by_key}
+use Rattle.law_ways.proofs.SlotLaws.{gone_is}
+use Rattle.law_ways.proofs.DeleteLaw.{tree_sinks}
+use Rattle.spec_ways.specs.Sinks.{sink}
 
 shows_right : {V : Type 0} (kind : Node V → _) (image : Pages) (left : List (Node V)) (n : Node V) (right : List (Node V)) → ShowsLevel kind image (left ++ n ∷ right) → ShowsLevel kind image right
 shows_right kind image [] n right s = s.1
@@ -50,25 +54,6 @@ has_first level low image (q ∷ post) (m ∷ ms) at l st s = record {
   starts = starts_append q.key m.rows (rows_of ms) st.0;
   child = ap (λ p. first_child (image p)) l.0 ∙ ap first_child s.0 ∙ sym (first_is q.key m.rows (rows_of ms) st.0);
 }
-
--- a level loses the key of the row towards k
-gone_is : (j k : ℕ) (ns : List (Node ℕ)) (leaf : Node Payload) (q : ℕ) → (sink j k ns leaf).gone_key ≡ Some q → j ≡ q
-gone_is j k [] leaf q e = by_loss (loss_of (without k leaf.rows) None) e
-  where
-    by_loss : (loss : Loss Payload) → gone_key_of j loss ≡ Some q → j ≡ q
-    by_loss Untouched e = absurd (cc)
-    by_loss (Keeps rows edge) e = absurd (cc)
-    by_loss Goes e = some_is j q e
-gone_is j k (n ∷ ns) leaf q e = by_below (sink (key_toward k n.rows) k ns leaf) (sink (key_toward k n.rows) k ns leaf).gone_key e
-  where
-    by_loss : (loss : Loss ℕ) → gone_key_of j loss ≡ Some q → j ≡ q
-    by_loss Untouched e = absurd (cc)
-    by_loss (Keeps rows edge) e = absurd (cc)
-    by_loss Goes e = some_is j q e
-
-    by_below : (b : Sink) (o : Option ℕ) → (sink_through j n b o).gone_key ≡ Some q → j ≡ q
-    by_below b None e = absurd (cc)
-    by_below b (Some g) e = by_loss (loss_of (with_first_key j (without g n.rows)) (edge_of g n.rows)) e
 
 module _ (k low : ℕ) (rows : List (Row ℕ)) (nodes : List (Node ℕ)) (s : Spot k low rows nodes) (le : low ≤ k) (st : Starts rows nodes) where
   -- the rows behind the first of the way's page
@@ -109,7 +94,7 @@ no_rows : (j : ℕ) (xs : List (Row ℕ)) → with_first_key j xs ≡ [] → xs 
 no_rows j [] e = refl
 no_rows j (x ∷ xs) e = absurd (cc)
 
-edge_is_first : (x g : ℕ) (xs : List (Row ℕ)) → edge_of x xs ≡ Some g → x ≡ lowest_key xs
+edge_is_first : (x g : ℕ) (xs : List (Row ℕ)) → edge_by_key x xs ≡ Some g → x ≡ lowest_key xs
 edge_is_first x g xs e = by_test (x == lowest_key xs) refl e
   where
     by_test : (b : Bool) → (x == lowest_key xs) ≡ b → (if b then Some x else None) ≡ Some g → x ≡ lowest_key xs
@@ -143,27 +128,27 @@ keeps_rest at x j (r ∷ z ∷ zs) y ys starts first e = record {
 record EdgeRead (k : ℕ) (rows : List (Row ℕ)) (above : List (List (Node ℕ))) (leaves : List (Node Payload)) (image : Pages) : Type 0 where
   way : Way
   is : way_from k above leaves (child_toward k rows) ≡ Some way
-  moved : (j g q from : ℕ) → (sink j k way.above way.leaf).gone_key ≡ Some q → let post = rows_behind (key_toward k rows) rows in StartsAt from post
-      → first_children (length way.above) image (first_value post) ≡ edge_nexts (Some g) way.above (sink j k way.above way.leaf).above
-  same : (j : ℕ) → left_edge image way.above (sink j k way.above way.leaf).above ≡ edge_nexts None way.above (sink j k way.above way.leaf).above
+  moved : (j g q from : ℕ) → (sink_by_key j k way.above way.leaf).gone_key ≡ Some q → let post = rows_behind (key_toward k rows) rows in StartsAt from post
+      → first_children (length way.above) image (first_value post) ≡ edge_nexts (Some g) way.above (sink_by_key j k way.above way.leaf).above
+  same : (j : ℕ) → left_edge image way.above (sink_by_key j k way.above way.leaf).above ≡ edge_nexts None way.above (sink_by_key j k way.above way.leaf).above
 
 -- one level more
 module _ (k low : ℕ) (rows : List (Row ℕ)) (nodes : List (Node ℕ)) (more : List (List (Node ℕ))) (leaves : List (Node Payload)) (image : Pages) (le : low ≤ k) (st : Starts rows nodes)
     (links : IsLinked 0 nodes) (shows : ShowsLevel (IndexPage (suc (length more))) image nodes) (s : Spot k low rows nodes) (h : EdgeRead k (rows_of nodes) more leaves image) where
   abbrev below : Sink
-  below = sink (key_toward k s.node.rows) k h.way.above h.way.leaf
+  below = sink_by_key (key_toward k s.node.rows) k h.way.above h.way.leaf
 
   key_is : (x : ℕ) → below.gone_key ≡ Some x → key_toward k (rows_of nodes) ≡ x
   key_is x e = sym (spot_toward (λ r. r.key) k low rows nodes s le st) ∙ gone_is (key_toward k s.node.rows) k h.way.above h.way.leaf x e
 
-  goes : (j g q from : ℕ) (o : Option ℕ) → below.gone_key ≡ o → (sink_through j s.node below o).gone_key ≡ Some q → StartsAt from (rows_behind (key_toward k rows) rows)
-      → first_children (suc (length h.way.above)) image (first_value (rows_behind (key_toward k rows) rows)) ≡ edge_nexts (Some g) (s.node ∷ h.way.above) (sink_through j s.node below o).above
+  goes : (j g q from : ℕ) (o : Option ℕ) → below.gone_key ≡ o → (sink_through_by_key j s.node below o).gone_key ≡ Some q → StartsAt from (rows_behind (key_toward k rows) rows)
+      → first_children (suc (length h.way.above)) image (first_value (rows_behind (key_toward k rows) rows)) ≡ edge_nexts (Some g) (s.node ∷ h.way.above) (sink_through_by_key j s.node below o).above
   goes j g q from None is e start = absurd (cc)
   goes j g q from (Some x) is e start = by_rows (with_first_key j (without x s.node.rows)) refl e
     where
-      by_rows : (rs : List (Row ℕ)) → with_first_key j (without x s.node.rows) ≡ rs → gone_key_of j (loss_of rs (edge_of x s.node.rows)) ≡ Some q
+      by_rows : (rs : List (Row ℕ)) → with_first_key j (without x s.node.rows) ≡ rs → gone_key_of j (loss_of rs (edge_by_key x s.node.rows)) ≡ Some q
           → first_children (suc (length h.way.above)) image (first_value (rows_behind (key_toward k rows) rows))
-          ≡ edge_nexts (Some g) (s.node ∷ h.way.above) (loss_of rs (edge_of x s.node.rows) ∷ below.above)
+          ≡ edge_nexts (Some g) (s.node ∷ h.way.above) (loss_of rs (edge_by_key x s.node.rows) ∷ below.above)
       by_rows [] none e =
           ap (λ key. first_children (suc (length h.way.above)) image (first_value (rows_behind key rows))) s.key_is
           ∙ page_goes k low rows nodes s le st image (suc (length more)) g h.way.above below.above links shows from (subst (λ key. StartsAt from (rows_behind key rows)) s.key_is start) x (sym (key_is x is))
@@ -171,11 +156,11 @@ module _ (k low : ℕ) (rows : List (Row ℕ)) (nodes : List (Node ℕ)) (more :
       by_rows (y ∷ ys) some e = absurd (cc)
 
   stays : (j : ℕ) (o : Option ℕ) → below.gone_key ≡ o
-      → left_edge image (s.node ∷ h.way.above) (sink_through j s.node below o).above ≡ edge_nexts None (s.node ∷ h.way.above) (sink_through j s.node below o).above
+      → left_edge image (s.node ∷ h.way.above) (sink_through_by_key j s.node below o).above ≡ edge_nexts None (s.node ∷ h.way.above) (sink_through_by_key j s.node below o).above
   stays j None is = h.same (key_toward k s.node.rows)
-  stays j (Some x) is = by_rows (with_first_key j (without x s.node.rows)) refl (edge_of x s.node.rows) refl
+  stays j (Some x) is = by_rows (with_first_key j (without x s.node.rows)) refl (edge_by_key x s.node.rows) refl
     where
-      by_rows : (rs : List (Row ℕ)) → with_first_key j (without x s.node.rows) ≡ rs → (e : Option ℕ) → edge_of x s.node.rows ≡ e
+      by_rows : (rs : List (Row ℕ)) → with_first_key j (without x s.node.rows) ≡ rs → (e : Option ℕ) → edge_by_key x s.node.rows ≡ e
           → left_edge image (s.node ∷ h.way.above) (loss_of rs e ∷ below.above) ≡ edge_nexts None (s.node ∷ h.way.above) (loss_of rs e ∷ below.above)
       by_rows [] none e edge = h.same (key_toward k s.node.rows)
       by_rows (y ∷ ys) some None edge = h.same (key_toward k s.node.rows)
@@ -195,7 +180,7 @@ edge_read k low rows (nodes ∷ more) leaves image le at w f once shows =
     let s = spot_at k low rows nodes at w f.0 (λ p. let a = once p in let b = counts p in omega (arith, a, b)) in
     let h = edge_read k low (rows_of nodes) more leaves image le (rows_start low None rows nodes at f.0 f.1) (level_within low None rows nodes w f.0) f.3
     (λ p. let a = once p in let b = counts p in omega (arith, a, b)) shows.1 in
-    let b = sink (key_toward k s.node.rows) k h.way.above h.way.leaf in
+    let b = sink_by_key (key_toward k s.node.rows) k h.way.above h.way.leaf in
     record {
       way = record { above = s.node ∷ h.way.above; leaf = h.way.leaf };
       is = ap (through_child (way_from k more leaves) k) s.is ∙ ap (λ q. through s.node (way_from k more leaves q)) (spot_child k low rows nodes s le f.1) ∙ ap (through s.node) h.is;
@@ -208,4 +193,7 @@ left_edge_is_next root k tree image way is shows e =
     let h = edge_read k 0 (root_rows root) tree.above tree.leaves image (omega arith) refl (omega arith, tt, tt) (fits_from (root_rows root) tree.above tree.leaves is.levels)
     (λ p. let a = tree_counts tree p in let b = once p (tree_pages tree) is.distinct in omega (arith, a, b)) shows in
     let same : h.way ≡ way = some_is h.way way (sym h.is ∙ e) in
-    subst (λ (w : Way). left_edge image w.above (sink 0 k w.above w.leaf).above ≡ edge_nexts None w.above (sink 0 k w.above w.leaf).above) same (h.same 0)
+    let d = tree_sinks root k tree is in
+    let slots = subst (λ (w : Way). sink 0 k w.above w.leaf ≡ sink_by_key 0 k w.above w.leaf) (some_is d.way way (sym d.is ∙ e)) (d.slots 0 refl) in
+    subst (λ (c : Sink). left_edge image way.above c.above ≡ edge_nexts None way.above c.above) (sym slots)
+    (subst (λ (w : Way). left_edge image w.above (sink_by_key 0 k w.above w.leaf).above ≡ edge_nexts None w.above (sink_by_key 0 k w.above w.leaf).above) same (h.same 0))

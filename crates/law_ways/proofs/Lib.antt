@@ -2,6 +2,7 @@ pub mod WayAsks
 pub mod WayLaw
 pub mod Bounds
 pub mod Bridge
+pub mod ByKey
 pub mod Counts
 pub mod DeleteLaw
 pub mod EndShows
@@ -23,8 +24,10 @@ pub mod RowsLead
 pub mod ShowLaws
 pub mod ShrinkLaws
 pub mod SinkLaws
+pub mod SlotLaws
 pub mod StepLaws
 pub mod TakeLaws
 pub mod TakenPages
 pub mod TopLaws
+pub mod TowardLaws
 pub mod WayReads

@@ -4,7 +4,7 @@ use Rattle.spec_levels.specs.Levels.{Payload, Row, Node, Tree, rows_of}
 use Rattle.spec_ways.specs.Insert.{root_rows}
 use Rattle.spec_ways.specs.Pages.{Page, LeafPage, IndexPage, Pages, ShowsLevel, Shows}
 use Rattle.law_ways.proofs.Bridge.{fits_from}
-use Rattle.law_ways.proofs.Fits.{Level, Starts, StartsAt, Fits}
+use Rattle.law_ways.proofs.Fits.{Level, StartsAt, Fits}
 use Rattle.law_ways.proofs.GrowLaws.{rows_start}
 use Rattle.law_ways.specs.WayLaws.{OneTree}
 

@@ -1,15 +1,15 @@
 -- An insert or a delete leaves alone all pages but those that it reads or takes.
-use Rattle.std.proofs.Common.{◌≡◌, ℕ, suc, ◌==◌, Bool, true, false, List, [], ◌∷◌, ◌++◌, map, length, Contains, Option, Some, None, refl, sym, ap, ◌∙◌, subst}
+use Rattle.std.proofs.Common.{◌≡◌, ℕ, suc, ◌==◌, Bool, true, false, List, [], ◌∷◌, ◌++◌, map, length, Contains, Option, Some, None, refl, sym, ◌∙◌, subst}
 use Rattle.std.specs.Prelude.{if◌then◌else◌}
 use Rattle.std.proofs.lemmas.List.Elements.{Contains-push, Contains-append_left, Contains-append_right}
 use Rattle.spec_levels.specs.Levels.{Payload, Row, Node, Index, Leaf}
 use Rattle.spec_ways.specs.Insert.{first_fresh}
-use Rattle.spec_ways.specs.Ways.{Way, way_pages}
-use Rattle.spec_ways.specs.Climbs.{Step, Stays, Grows, Splits, Climb, new_page, new_pages, second_page, taken_pages}
-use Rattle.spec_ways.specs.Sinks.{Loss, Untouched, Keeps, Goes, Sink, edge_below}
+use Rattle.spec_ways.specs.Ways.{way_pages}
+use Rattle.spec_ways.specs.Climbs.{Step, Stays, Grows, Splits, new_page, new_pages, second_page, taken_pages}
+use Rattle.spec_ways.specs.Sinks.{Loss, Untouched, Keeps, Goes, edge_below}
 use Rattle.spec_ways.specs.Pages.{Page, LeafPage, IndexPage, Pages, with_page}
 use Rattle.spec_ways.specs.InsertWrites.{page_with_prev, step_written, steps_written, halves_written, raise_written, insert_written, split_next, split_nexts, insert_reads}
-use Rattle.spec_ways.specs.DeleteWrites.{page_with_next, page_with_edge, behind_written, loss_written, losses_written, delete_written, neighbours, all_neighbours, left_edge, collapsed_children, delete_reads}
+use Rattle.spec_ways.specs.DeleteWrites.{page_with_next, page_with_edge, behind_written, loss_written, losses_written, delete_written, neighbours, all_neighbours, left_edge, collapsed_children}
 use Rattle.law_ways.proofs.ShowLaws.{wrote_there}
 use Rattle.law_ways.specs.InsertLaws.{InsertKeepsOthers}
 use Rattle.law_ways.specs.DeleteLaws.{DeleteKeepsOthers}

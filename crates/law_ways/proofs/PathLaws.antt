@@ -1,20 +1,20 @@
 -- The way from the root to a leaf leads to the row with the key, if the tree has it.
-use Rattle.std.proofs.Common.{◌≡◌, ℕ, suc, ◌<◌, ◌≤◌, Bool, true, false, List, [], ◌∷◌, ◌++◌, length, Some, None, nat_lt, refl, sym, ap, ◌∙◌, subst, inl, inr, arith}
-use Rattle.std.specs.Prelude.{if◌then◌else◌}
-use Rattle.std.proofs.lemmas.Bool.{cases_Bool, cases_eq, eq-eqb, ne_eqb, ltb-false, lt-ltb, le-ltb}
+use Rattle.std.proofs.Common.{◌≡◌, ℕ, suc, ◌<◌, ◌≤◌, true, false, List, [], ◌∷◌, ◌++◌, length, Option, Some, None, refl, sym, ap, ◌∙◌, subst, inl, inr, arith}
+use Rattle.std.proofs.lemmas.Bool.{cases_Bool, cases_eq, eq-eqb, ne_eqb, ltb-false}
 use Rattle.spec_levels.specs.Levels.{Row, Node, rows_of, pages_of, Payload}
-use Rattle.law_ways.proofs.Bounds.{toward_by, rows_behind}
+use Rattle.law_ways.proofs.Bounds.{toward_by, rows_behind, next_key}
 use Rattle.spec_ways.specs.Delete.{Taken, take_row, kept_page, before_taken, with_first_keys}
 use Rattle.spec_ways.specs.Insert.{Cut, Put, cut_page, before_put, put_row}
 use Rattle.spec_ways.specs.Rows.{with_first_key, is_below_first, value_at, with_row}
 use Rattle.spec_ways.specs.Sinks.{with_edge}
-use Rattle.spec_ways.specs.Ways.{last_not_above, child_toward, key_toward, node_at, Way, through, ending_at, through_child, way_from}
-use Rattle.law_ways.proofs.Bounds.{Within, shifted, rows_behind}
+use Rattle.spec_ways.specs.Ways.{child_toward, key_toward, node_at, Way, through, ending_at, through_child, way_from}
+use Rattle.law_ways.proofs.Bounds.{Within, shifted, rows_behind, next_key}
 use Rattle.law_ways.proofs.Fits.{Level, Starts, StartsAt, Fits, count, all_pages}
 use Rattle.law_ways.proofs.GrowLaws.{rows_start, starts_append, count_append}
 use Rattle.law_ways.proofs.PutLaws.{level_within, here_within, put_later, AreAlike}
 use Rattle.law_ways.proofs.RowLaws.{join_within, held_left, held_right}
-use Rattle.law_ways.proofs.TakeLaws.{take_later, above_kept, toward_here, toward_later, shifted_same, shifted_other, headed_same, heads_same}
+use Rattle.law_ways.proofs.TowardLaws.{toward_here, toward_later, row_left, row_right}
+use Rattle.law_ways.proofs.TakeLaws.{take_later, shifted_same, shifted_other, headed_same, heads_same}
 use Rattle.std.proofs.lemmas.Grind.{flat_map-append}
 
 abbrev pub onto : {V : Type 0} → List (Node V) → Put V → Put V
@@ -37,25 +37,17 @@ here_alike : (k j : ℕ) (rest : List (Row ℕ)) → AreAlike k j rest → is_be
 here_alike k j [] alike e = refl
 here_alike k j (s ∷ rest) alike e = sym alike.0 ∙ e
 
-last_append : (k : ℕ) (f : Row ℕ) (xs ys : List (Row ℕ)) → Within (suc k) None ys → last_not_above k f (xs ++ ys) ≡ last_not_above k f xs
-last_append k f [] ys w = above_kept k (suc k) f ys (omega arith) w
-last_append k f (x ∷ xs) ys w = last_append k (if nat_lt k x.key then f else x) xs ys w
-
-last_reaches : (k : ℕ) (f : Row ℕ) (xs : List (Row ℕ)) (y : Row ℕ) (ys : List (Row ℕ)) → y.key ≤ k → last_not_above k f (xs ++ y ∷ ys) ≡ last_not_above k y ys
-last_reaches k f [] y ys le = ap (λ (b : Bool). last_not_above k (if b then f else y) ys) (le-ltb k y.key le)
-last_reaches k f (x ∷ xs) y ys le = last_reaches k (if nat_lt k x.key then f else x) xs y ys le
-
 module _ (of : Row ℕ → ℕ) where
   -- rows behind, whose keys are above
   pub toward_left : (k : ℕ) (xs ys : List (Row ℕ)) → Within (suc k) None ys → (low : ℕ) → StartsAt low xs → toward_by of k (xs ++ ys) ≡ toward_by of k xs
   toward_left k [] ys w low s = absurd s
-  toward_left k (x ∷ xs) ys w low s = ap of (last_append k x xs ys w)
+  toward_left k (x ∷ xs) ys w low s = ap of (row_left k x xs ys w)
 
   -- rows in front, below a bound where others begin that isn't above
   pub toward_right : (low mid k : ℕ) (xs ys : List (Row ℕ)) → Within low (Some mid) xs → StartsAt mid ys → mid ≤ k → toward_by of k (xs ++ ys) ≡ toward_by of k ys
   toward_right low mid k [] ys w s le = refl
   toward_right low mid k (x ∷ xs) [] w s le = absurd s
-  toward_right low mid k (x ∷ xs) (y ∷ ys) w s le = ap of (last_reaches k x xs y ys (omega (arith, s, le)))
+  toward_right low mid k (x ∷ xs) (y ∷ ys) w s le = ap of (row_right k (x ∷ xs) y ys (omega (arith, s, le)))
 
 module _ {V : Type 0} where
   page_here : (p : ℕ) (n : Node V) (ns : List (Node V)) → n.page ≡ p → node_at p (n ∷ ns) ≡ Some n
@@ -94,6 +86,8 @@ module _ {V : Type 0} where
     pub starts : Starts rows nodes → StartsAt key node.rows
     pub puts : (cut : Cut V) (new : ℕ) (x : Row V) → AreAlike k x.key rows →
         put_row cut new x rows nodes ≡ onto left (cut_page (cut (with_row x node.rows)) new node (with_row x node.rows) right)
+    pub bound : Option ℕ
+    pub within : Within key bound node.rows
     pub behind : Level None (rows_behind key rows) right
     pub behind_starts : Starts rows nodes → Starts (rows_behind key rows) right
     pub edges : (g : ℕ) → g ≡ key → Starts rows nodes → with_first_keys (shifted g rows) (left ++ right) ≡ left ++ with_edge (Some g) right
@@ -107,15 +101,17 @@ module _ {V : Type 0} where
     right = ns;
     key = r.key;
     nodes_are = refl;
-    is = page_here (child_toward k (r ∷ rest)) n ns (sym (toward_here (λ r. r.value) k (suc r.key) r rest e w.2 ∙ l.0));
-    page = toward_here (λ r. r.value) k (suc r.key) r rest e w.2 ∙ l.0;
-    key_is = toward_here (λ r. r.key) k (suc r.key) r rest e w.2;
+    is = page_here (child_toward k (r ∷ rest)) n ns (sym (toward_here (λ r. r.value) k (suc r.key) None r rest e w.2 ∙ l.0));
+    page = toward_here (λ r. r.value) k (suc r.key) None r rest e w.2 ∙ l.0;
+    key_is = toward_here (λ r. r.key) k (suc r.key) None r rest e w.2;
     least = omega arith;
     not_above = λ le. le;
     front = tt;
     back = level_within (suc k) None rest ns (here_within k (suc r.key) None rest e w.2) l.2;
     starts = λ s. s.0;
     puts = λ cut new x alike. let f = here_alike k x.key rest alike.1 e in rw f refl;
+    bound = next_key rest None;
+    within = l.1;
     behind = subst (λ l. Level None l ns) (sym (behind_same r.key r rest refl)) l.2;
     behind_starts = λ s. subst (λ l. Starts l ns) (sym (behind_same r.key r rest refl)) s.1;
     edges = λ g at s. ap (λ l. with_first_keys l ns) (shifted_same g r rest at) ∙ heads_headed g rest ns l.2 s.1;
@@ -144,6 +140,8 @@ module _ {V : Type 0} where
         back = h.back;
         starts = λ st. h.starts st.1;
         puts = λ cut new x alike. put_later cut new x r (s ∷ rest) n (m ∷ ns) (sym alike.1.0 ∙ e) ∙ ap (λ c. before_put n c) (h.puts cut new x alike.1);
+        bound = h.bound;
+        within = h.within;
         behind = subst (λ l. Level None l h.right) (sym (behind_other h.key r (s ∷ rest) (λ same. let f = h.least in omega (arith, same, f, w.2.0)))) h.behind;
         behind_starts = λ st. subst (λ l. Starts l h.right) (sym (behind_other h.key r (s ∷ rest) (λ same. let f = h.least in omega (arith, same, f, w.2.0)))) (h.behind_starts st.1);
         edges = λ g at st.
@@ -197,12 +195,15 @@ pub record Leads (k : ℕ) (rows : List (Row ℕ)) (above : List (List (Node ℕ
   pub is : way_from k above leaves (child_toward k rows) ≡ Some way
   pub long : length way.above ≡ length above
   pub holds : value_at k way.leaf.rows ≡ value_at k (rows_of leaves)
+  pub key : ℕ
+  pub bound : Option ℕ
+  pub within : Within key bound way.leaf.rows
 
 pub leads : (k low : ℕ) (rows : List (Row ℕ)) (above : List (List (Node ℕ))) (leaves : List (Node Payload)) → low ≤ k → StartsAt low rows → Within low None rows
     → Fits None rows above leaves → ((p : ℕ) → count p (all_pages above leaves) ≤ 1) → Leads k rows above leaves
 leads k low rows [] leaves le at w f once =
     let s = spot_at k low rows leaves at w f.0 once in
-    record { way = record { above = []; leaf = s.node }; is = ap ending_at s.is; long = refl; holds = spot_holds k low rows leaves s le }
+    record { way = record { above = []; leaf = s.node }; is = ap ending_at s.is; long = refl; holds = spot_holds k low rows leaves s le; key = s.key; bound = s.bound; within = s.within }
 leads k low rows (nodes ∷ more) leaves le at w f once =
     let counts = λ (p : ℕ). count_append p (pages_of nodes) (all_pages more leaves) in
     let s = spot_at k low rows nodes at w f.0 (λ p. let a = once p in let b = counts p in omega (arith, a, b)) in
@@ -213,4 +214,7 @@ leads k low rows (nodes ∷ more) leaves le at w f once =
       is = ap (through_child (way_from k more leaves) k) s.is ∙ ap (λ q. through s.node (way_from k more leaves q)) (spot_child k low rows nodes s le f.1) ∙ ap (through s.node) h.is;
       long = ap suc h.long;
       holds = h.holds;
+      key = h.key;
+      bound = h.bound;
+      within = h.within;
     }

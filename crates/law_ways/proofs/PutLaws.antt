@@ -9,6 +9,8 @@ use Rattle.spec_ways.specs.Rows.{is_below_first, lowest_key, with_row}
 use Rattle.law_ways.proofs.Bounds.{Within, next_key}
 use Rattle.law_ways.proofs.Fits.{Level, Starts, StartsAt, with_up, IsUp, count, page_up}
 use Rattle.law_ways.proofs.RowLaws.{below_below, with_same, with_more, from_lower, join_within, with_within, with_front, with_left, with_right}
+use Rattle.law_ways.proofs.TowardLaws.{toward_here, toward_later}
+use Rattle.spec_ways.specs.Ways.{key_toward}
 
 -- the rows of a level rise as the rows that name its pages
 pub level_within : {V : Type 0} (low : ℕ) (high : Option ℕ) (rows : List (Row ℕ)) (nodes : List (Node V)) → Within low high rows → Level high rows nodes → Within low high (rows_of nodes)
@@ -108,6 +110,7 @@ module _ {V : Type 0} where
     pub separator : IsUp low high c.separator
     pub right_is : (u : Row ℕ) → c.separator ≡ Some u → u.value ≡ right
     pub alike : (u : Row ℕ) → c.separator ≡ Some u → AreAlike x.key u.key rows
+    pub higher : (u : Row ℕ) → c.separator ≡ Some u → key_toward x.key rows < u.key
     pub pages_are : (p : ℕ) → count p (pages_of c.nodes) ≡ count p (pages_of nodes) + count p (page_up c.separator)
     pub starts : Starts rows nodes → Starts (with_up c.separator rows) c.nodes
 
@@ -145,6 +148,7 @@ module _ {V : Type 0} where
       separator = tt;
       right_is = λ u h. absurd (cc);
       alike = λ u h. absurd (cc);
+      higher = λ u h. absurd (cc);
       pages_are = λ p. omega arith;
       starts = λ s. (starts_with r.key x n.rows le s.0, s.1);
     }
@@ -168,6 +172,8 @@ module _ {V : Type 0} where
             alike_at x.key key r le (omega (arith, more)),
             alike_above x.key key high rest (here_within x.key (suc r.key) high rest e w.2) (below_within key (suc r.key) high rest p.below w.2),
           );
+          higher = λ v h. subst (λ (z : Row ℕ). key_toward x.key (r ∷ rest) < z.key) (some_is u v h)
+              (let f = toward_here (λ z. z.key) x.key (suc r.key) high r rest e w.2 in omega (arith, f, more));
           right_is = λ v h. sym (ap (λ (z : Row ℕ). z.value) (some_is u v h));
           pages_are = λ q. omega arith;
           starts = λ s. subst (λ l. Starts l nodes) (sym names)
@@ -185,6 +191,7 @@ module _ {V : Type 0} where
               (l.0, subst (λ k. Within r.key k n.rows) (sym (first_later s rest high c.separator h.separator)) l.1, h.level);
           separator = up_lower r.key s.key high c.separator w.2.0 h.separator;
           right_is = h.right_is;
+          higher = λ u e. let f = toward_later (λ z. z.key) x.key r (s ∷ rest) (le-ltb x.key s.key le) in let g = h.higher u e in omega (arith, f, g);
           alike = λ u e. (alike_at x.key u.key r (omega (arith, le, w.2.0)) (low_up r.key s.key high c.separator w.2.0 h.separator u e), h.alike u e);
           pages_are = λ p. let e = h.pages_are p in omega (arith, e);
           starts = λ st. subst (λ l. Starts l (n ∷ c.nodes)) (sym names) (st.0, h.starts st.1);

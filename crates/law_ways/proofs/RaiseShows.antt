@@ -1,7 +1,7 @@
 -- What an insert writes shows the tree with the row.
 use Rattle.std.proofs.Common.{◌≡◌, ℕ, suc, ◌+◌, ◌<◌, ◌≤◌, List, [], ◌∷◌, ◌++◌, length, Option, Some, None, unwrap_or, refl, sym, ap, ◌∙◌, subst, arith}
 use Rattle.spec_levels.specs.Levels.{Row, Node, Tree, rows_of, pages_of, Payload}
-use Rattle.spec_ways.specs.Climbs.{Step, Stays, Grows, Splits, separator_of, Climb, climb_through, climb, with_first_prev, after_step, IsStepped, AreStepped}
+use Rattle.spec_ways.specs.Climbs.{Step, Stays, Grows, Splits, separator_of, Climb, with_first_prev, after_step, IsStepped, AreStepped}
 use Rattle.spec_ways.specs.Insert.{linked, Cut, Cuts, Grown, first_fresh, renumbered, raised, root_rows}
 use Rattle.spec_ways.specs.InsertWrites.{steps_written, halves_written, raise_written, insert_written}
 use Rattle.spec_ways.specs.Pages.{Page, LeafPage, IndexPage, Pages, ShowsLevel, Shows, with_page}
@@ -10,6 +10,7 @@ use Rattle.spec_ways.specs.Ways.{Way}
 use Rattle.law_ways.proofs.Fits.{Level, Fits, count, all_pages}
 use Rattle.law_ways.proofs.GrowLaws.{count_append}
 use Rattle.law_ways.proofs.ShowLaws.{wrote_here, wrote_there, counts_self, uncounted, tree_same, steps_show, steps_long}
+use Rattle.law_ways.proofs.ByKey.{climb_through_by_key, climb_by_key}
 
 -- a level of one page
 one_only : {V : Type 0} (root : ℕ) (nodes : List (Node V)) → Level None (root_rows root) nodes → (m : Node V) × (nodes ≡ m ∷ [])
@@ -157,13 +158,14 @@ module _ (root right : ℕ) (leaf : Node Payload) (step : Step Payload) (leaves 
   raised_shows (n ∷ ns) (q ∷ steps) [] above' f h s e once nonzero = absurd h
   raised_shows (n ∷ ns) (q ∷ steps) (nodes ∷ more) [] f h s e once nonzero = absurd h
 
-climbed_top : (cut : Cut ℕ) (n : Node ℕ) (b : Climb) (o : Option (Row ℕ)) → top_up (climb_through cut n b o).above (climb_through cut n b o).leaf ≡ (climb_through cut n b o).separator
+climbed_top : (cut : Cut ℕ) (n : Node ℕ) (b : Climb) (o : Option (Row ℕ))
+    → top_up (climb_through_by_key cut n b o).above (climb_through_by_key cut n b o).leaf ≡ (climb_through_by_key cut n b o).separator
 climbed_top cut n b None = refl
 climbed_top cut n b (Some y) = refl
 
-pub climb_top : (cuts : Cuts) (fresh : List ℕ) (x : Row Payload) (ns : List (Node ℕ)) (leaf : Node Payload) → let c = climb cuts fresh x ns leaf in top_up c.above c.leaf ≡ c.separator
+pub climb_top : (cuts : Cuts) (fresh : List ℕ) (x : Row Payload) (ns : List (Node ℕ)) (leaf : Node Payload) → let c = climb_by_key cuts fresh x ns leaf in top_up c.above c.leaf ≡ c.separator
 climb_top cuts fresh x [] leaf = refl
-climb_top cuts fresh x (n ∷ ns) leaf = let b = climb cuts fresh x ns leaf in climbed_top cuts.index n b b.separator
+climb_top cuts fresh x (n ∷ ns) leaf = let b = climb_by_key cuts fresh x ns leaf in climbed_top cuts.index n b b.separator
 
 -- an insert, by the row that goes above the root
 pub insert_shows : (root : ℕ) (way : Way) (c : Climb) (b : Grown) (tree : Tree) (image : Pages) (o : Option (Row ℕ)) → Fits None (root_rows root) tree.above tree.leaves

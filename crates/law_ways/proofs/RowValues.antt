@@ -31,7 +31,7 @@ module _ {V : Type 0} where
   ]
 
   -- keys below all that the rows have
-  none_below : (k low : ℕ) (high : Option ℕ) (xs : List (Row V)) → k < low → Within low high xs → value_at k xs ≡ None
+  pub none_below : (k low : ℕ) (high : Option ℕ) (xs : List (Row V)) → k < low → Within low high xs → value_at k xs ≡ None
   none_below k low high [] less w = refl
   none_below k low high (x ∷ xs) less w =
       held_other k x xs (λ same. omega (arith, same, less, w.0)) ∙ none_below k (suc x.key) high xs (omega (arith, less, w.0)) w.2

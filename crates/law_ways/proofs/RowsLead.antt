@@ -1,47 +1,69 @@
--- The row towards a key is the last whose key is not above it, or else the first.
-use Rattle.std.proofs.Common.{◌≡◌, ◌⊎◌, ℕ, ◌<◌, ◌≤◌, true, false, List, [], ◌∷◌, ◌++◌, nat_lt, refl, sym, ap, ◌∙◌, subst, inl, inr}
-use Rattle.std.proofs.lemmas.Bool.{cases_Bool, ltb-true, ltb-false}
+-- The row towards a key is the last whose key is not above it, or else the first; in a leaf, a row is found at its key.
+use Rattle.std.proofs.Common.{◌≡◌, ℕ, suc, ◌≤◌, Bool, true, false, List, [], ◌∷◌, Option, Some, None, nat_lt, ◌==◌, refl, sym, ap, ◌∙◌, inl, inr, arith}
+use Rattle.std.specs.Prelude.{if◌then◌else◌}
+use Rattle.std.proofs.lemmas.Bool.{cases_order, lt-ltb, le-ltb, ltb-true, ltb-false, eq-eqb, ne_eqb}
 use Rattle.spec_levels.specs.Levels.{Row}
-use Rattle.spec_ways.specs.Ways.{last_not_above}
+use Rattle.spec_ways.specs.Rows.{value_at, value_found}
+use Rattle.spec_ways.specs.Ways.{are_above, row_toward}
+use Rattle.law_ways.proofs.Bounds.{Within}
+use Rattle.law_ways.proofs.RowLaws.{held_same, held_other}
+use Rattle.law_ways.proofs.RowValues.{none_below}
 use Rattle.law_ways.specs.WayLaws.{AreAbove, IsLastNotAbove, RowsLead}
 
-record IsLater (k : ℕ) (rows : List (Row ℕ)) (x : Row ℕ) : Type 0 where
-  front : List (Row ℕ)
-  back : List (Row ℕ)
-  rows_are : rows ≡ front ++ x ∷ back
-  above : AreAbove k back
-  low : x.key ≤ k
+are_all : (k : ℕ) (rows : List (Row ℕ)) → are_above k rows ≡ true → AreAbove k rows
+are_all k [] e = tt
+are_all k (s ∷ rest) e = by_test (nat_lt k s.key) refl e (are_all k rest)
+  where
+    by_test : (b : Bool) → nat_lt k s.key ≡ b → (if b then are_above k rest else false) ≡ true → (are_above k rest ≡ true → AreAbove k rest) → AreAbove k (s ∷ rest)
+    by_test true less e go = (ltb-true k s.key less, go e)
+    by_test false less e go = absurd (cc)
 
-abbrev IsLast : ℕ → Row ℕ → List (Row ℕ) → Row ℕ → Type 0
-IsLast k f rows x = (x ≡ f) × AreAbove k rows ⊎ IsLater k rows x
+toward_low : (k : ℕ) (r : Row ℕ) (rest : List (Row ℕ)) → are_above k (r ∷ rest) ≡ false → (row_toward k (r ∷ rest)).key ≤ k
+toward_low k r [] e = by_test (nat_lt k r.key) refl e
+  where
+    by_test : (b : Bool) → nat_lt k r.key ≡ b → (if b then true else false) ≡ false → r.key ≤ k
+    by_test true less e = absurd (cc)
+    by_test false less e = ltb-false k r.key less
+toward_low k r (s ∷ rest) e = by_test (are_above k (s ∷ rest)) refl e (toward_low k s rest)
+  where
+    by_first : (b : Bool) → nat_lt k r.key ≡ b → (if b then true else false) ≡ false → r.key ≤ k
+    by_first true less e = absurd (cc)
+    by_first false less e = ltb-false k r.key less
 
-later : (k : ℕ) (s x : Row ℕ) (rest : List (Row ℕ)) → IsLater k rest x → IsLater k (s ∷ rest) x
-later k s x rest h = record { front = s ∷ h.front; back = h.back; rows_are = ap (λ l. s ∷ l) h.rows_are; above = h.above; low = h.low }
+    by_test : (b : Bool) → are_above k (s ∷ rest) ≡ b → (if nat_lt k r.key then b else false) ≡ false → (are_above k (s ∷ rest) ≡ false → (row_toward k (s ∷ rest)).key ≤ k)
+        → (if b then r else row_toward k (s ∷ rest)).key ≤ k
+    by_test true above e go = by_first (nat_lt k r.key) refl e
+    by_test false above e go = go above
 
-last_before : (k : ℕ) (f s : Row ℕ) (rest : List (Row ℕ)) → nat_lt k s.key ≡ true → last_not_above k f (s ∷ rest) ≡ last_not_above k f rest
-last_before k f s rest e = rw e refl
-
-last_behind : (k : ℕ) (f s : Row ℕ) (rest : List (Row ℕ)) → nat_lt k s.key ≡ false → last_not_above k f (s ∷ rest) ≡ last_not_above k s rest
-last_behind k f s rest e = rw e refl
-
-is_before : (k : ℕ) (f s x : Row ℕ) (rest : List (Row ℕ)) → k < s.key → IsLast k f rest x → IsLast k f (s ∷ rest) x
-is_before k f s x rest above (inl h) = inl (h.0, (above, h.1))
-is_before k f s x rest above (inr h) = inr (later k s x rest h)
-
-is_behind : (k : ℕ) (f s x : Row ℕ) (rest : List (Row ℕ)) → s.key ≤ k → IsLast k s rest x → IsLast k f (s ∷ rest) x
-is_behind k f s x rest low (inl h) =
-    inr (record { front = []; back = rest; rows_are = ap (λ y. y ∷ rest) (sym h.0); above = h.1; low = subst (λ (y : Row ℕ). y.key ≤ k) (sym h.0) low })
-is_behind k f s x rest low (inr h) = inr (later k s x rest h)
-
-last_is : (k : ℕ) (f : Row ℕ) (rows : List (Row ℕ)) → IsLast k f rows (last_not_above k f rows)
-last_is k f [] = inl (refl, tt)
-last_is k f (s ∷ rest) = elim (cases_Bool (nat_lt k s.key)) [
-  | inl e ↦ subst (IsLast k f (s ∷ rest)) (sym (last_before k f s rest e)) (is_before k f s (last_not_above k f rest) rest (ltb-true k s.key e) (last_is k f rest))
-  | inr e ↦ subst (IsLast k f (s ∷ rest)) (sym (last_behind k f s rest e)) (is_behind k f s (last_not_above k s rest) rest (ltb-false k s.key e) (last_is k s rest))
-]
+lead : (k : ℕ) (r : Row ℕ) (rest : List (Row ℕ)) → IsLastNotAbove k (r ∷ rest) (row_toward k (r ∷ rest))
+lead k r [] = record { front = []; back = []; rows_are = refl; above = tt; not_above = inr refl }
+lead k r (s ∷ rest) = by_test (are_above k (s ∷ rest)) refl (lead k s rest)
+  where
+    by_test : (b : Bool) → are_above k (s ∷ rest) ≡ b → IsLastNotAbove k (s ∷ rest) (row_toward k (s ∷ rest)) → IsLastNotAbove k (r ∷ s ∷ rest) (if b then r else row_toward k (s ∷ rest))
+    by_test true e h = record { front = []; back = s ∷ rest; rows_are = refl; above = are_all k (s ∷ rest) e; not_above = inr refl }
+    by_test false e h = record { front = r ∷ h.front; back = h.back; rows_are = ap (λ l. r ∷ l) h.rows_are; above = h.above; not_above = inl (toward_low k s rest e) }
 
 pub rows_lead : RowsLead
-rows_lead k r rest = elim (last_is k r rest) [
-  | inl h ↦ record { front = []; back = rest; rows_are = ap (λ x. x ∷ rest) (sym h.0); above = h.1; not_above = inr refl }
-  | inr h ↦ record { front = r ∷ h.front; back = h.back; rows_are = ap (λ l. r ∷ l) h.rows_are; above = h.above; not_above = inl h.low }
-]
+rows_lead k r rest = lead k r rest
+
+-- a row of a leaf
+module _ {V : Type 0} where
+  found_later : (k : ℕ) (x : Row V) (xs : List (Row V)) → nat_lt x.key k ≡ true → value_found k (x ∷ xs) ≡ value_found k xs
+  found_later k x xs e = rw e refl
+
+  found_here : (k : ℕ) (x : Row V) (xs : List (Row V)) → nat_lt x.key k ≡ false → value_found k (x ∷ xs) ≡ (if k == x.key then Some x.value else None)
+  found_here k x xs e = rw e refl
+
+  pub found_is : (low : ℕ) (high : Option ℕ) (k : ℕ) (xs : List (Row V)) → Within low high xs → value_found k xs ≡ value_at k xs
+  found_is low high k [] w = refl
+  found_is low high k (x ∷ xs) w = elim (cases_order k x.key) [
+    | inl same ↦
+        found_here k x xs (le-ltb x.key k (omega (arith, same)))
+        ∙ ap (λ (b : Bool). if b then Some x.value else None) (eq-eqb k x.key same) ∙ sym (held_same k x xs same)
+    | inr (inl less) ↦
+        found_here k x xs (le-ltb x.key k (omega (arith, less)))
+        ∙ ap (λ (b : Bool). if b then Some x.value else None) (ne_eqb k x.key (λ same. omega (arith, same, less)))
+        ∙ sym (none_below k x.key high (x ∷ xs) less (omega arith, w.1, w.2))
+    | inr (inr more) ↦
+        found_later k x xs (lt-ltb x.key k more) ∙ found_is (suc x.key) high k xs w.2 ∙ sym (held_other k x xs (λ same. omega (arith, same, more)))
+  ]

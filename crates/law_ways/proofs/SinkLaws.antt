@@ -1,23 +1,26 @@
 -- A row taken from a tree changes the pages on the way to its leaf as these pages tell, and prev and next of each page
 -- that goes.
 use Rattle.std.proofs.Common.{◌≡◌, ℕ, suc, ◌≤◌, Bool, true, false, List, [], ◌∷◌, ◌++◌, Option, Some, None, nat_lt, refl, sym, ap, ◌∙◌, subst, inl, inr, arith}
-use Rattle.std.specs.Prelude.{if◌then◌else◌}
-use Rattle.std.proofs.lemmas.Bool.{cases_Bool, eq-eqb, ne_eqb, ltb-false}
+use Rattle.std.proofs.lemmas.Bool.{eq-eqb, ne_eqb, ltb-false}
 use Rattle.spec_levels.specs.Levels.{Row, Node, rows_of, pages_of, first_page, IsLinked, Payload}
 use Rattle.spec_ways.specs.Climbs.{with_first_prev, Grows}
 use Rattle.spec_ways.specs.Delete.{Taken, kept_page, take_row, leaf_without, index_without, with_first_keys, with_left_edges, Shrunk, below_loss, without_separator, shrunk}
 use Rattle.spec_ways.specs.Insert.{linked}
 use Rattle.spec_ways.specs.Rows.{with_first_key, lowest_key, without}
-use Rattle.spec_ways.specs.Sinks.{Loss, Untouched, Keeps, Goes, loss_of, gone_key_of, edge_of, Sink, sink_through, sink, with_last_next, with_edge, after_loss, IsSunk, AreSunk}
-use Rattle.spec_ways.specs.Ways.{last_not_above, child_toward, key_toward, Way, through, ending_at, through_child, way_from}
+use Rattle.spec_ways.specs.Sinks.{Loss, Untouched, Keeps, Goes, loss_of, gone_key_of, Sink, with_last_next, with_edge, after_loss, IsSunk, AreSunk}
+use Rattle.spec_ways.specs.Ways.{child_toward, key_toward, Way, through, ending_at, through_child, way_from}
 use Rattle.law_ways.proofs.Bounds.{Within, shifted}
 use Rattle.law_ways.proofs.Fits.{Level, Starts, StartsAt, Fits, count, all_pages}
-use Rattle.law_ways.proofs.GrowLaws.{linked_rows, rows_start, count_append, alike_up}
+use Rattle.law_ways.proofs.GrowLaws.{key_same, linked_rows, rows_start, count_append, alike_up}
 use Rattle.law_ways.proofs.PathLaws.{behind_left, Spot, spot_at, spot_child, spot_toward}
 use Rattle.law_ways.proofs.PutLaws.{level_within, here_within, AreAlike, alike_at, alike_above}
 use Rattle.law_ways.proofs.ShrinkLaws.{edged_same, IsLower, shrunk_is}
 use Rattle.law_ways.proofs.StepLaws.{linked_same, linked_step, alike_same}
-use Rattle.law_ways.proofs.TakeLaws.{heads_linked, IsOut, index_out_at, toward_here, toward_later}
+use Rattle.law_ways.proofs.TakeLaws.{heads_linked, IsOut, index_out_at}
+use Rattle.law_ways.proofs.TowardLaws.{toward_here, toward_later}
+use Rattle.law_ways.proofs.ByKey.{edge_by_key, sink_through_by_key, sink_by_key}
+use Rattle.law_ways.proofs.SlotLaws.{gone_is, sink_same}
+use Rattle.spec_ways.specs.Sinks.{sink, sink_through}
 
 -- the key of the row towards a key is on its side of each row
 key_alike : (k low : ℕ) (r : Row ℕ) (rest : List (Row ℕ)) → Within low None (r ∷ rest) → r.key ≤ k → (r.key ≤ key_toward k (r ∷ rest)) × AreAlike k (key_toward k (r ∷ rest)) (r ∷ rest)
@@ -27,7 +30,7 @@ key_alike k low r (s ∷ rest) w le = by_test (λ le'. key_alike k (suc r.key) s
     by_test : (s.key ≤ k → (s.key ≤ key_toward k (s ∷ rest)) × AreAlike k (key_toward k (s ∷ rest)) (s ∷ rest)) → (b : Bool) → nat_lt k s.key ≡ b
         → (r.key ≤ key_toward k (r ∷ s ∷ rest)) × AreAlike k (key_toward k (r ∷ s ∷ rest)) (r ∷ s ∷ rest)
     by_test go true e =
-        subst (λ q. (r.key ≤ q) × AreAlike k q (r ∷ s ∷ rest)) (sym (toward_here (λ r. r.key) k (suc r.key) r (s ∷ rest) e w.2))
+        subst (λ q. (r.key ≤ q) × AreAlike k q (r ∷ s ∷ rest)) (sym (toward_here (λ r. r.key) k (suc r.key) None r (s ∷ rest) e w.2))
         (omega arith, (alike_at k r.key r le (omega arith), alike_above k r.key None (s ∷ rest) (here_within k (suc r.key) None (s ∷ rest) e w.2) w.2))
     by_test go false e =
         let h = go (ltb-false k s.key e) in
@@ -37,15 +40,6 @@ key_alike k low r (s ∷ rest) w le = by_test (λ le'. key_alike k (suc r.key) s
 toward_alike : (k low : ℕ) (rows : List (Row ℕ)) → StartsAt low rows → Within low None rows → low ≤ k → AreAlike k (key_toward k rows) rows
 toward_alike k low [] at w le = tt
 toward_alike k low (r ∷ rest) at w le = (key_alike k low r rest w (omega (arith, at, le))).1
-
-last_alike : (k g : ℕ) (f : Row ℕ) (rows : List (Row ℕ)) → AreAlike k g rows → last_not_above g f rows ≡ last_not_above k f rows
-last_alike k g f [] h = refl
-last_alike k g f (q ∷ rest) h =
-    ap (λ (b : Bool). last_not_above g (if b then f else q) rest) (sym h.0) ∙ last_alike k g (if nat_lt k q.key then f else q) rest h.1
-
-key_same : (k g : ℕ) (rows : List (Row ℕ)) → AreAlike k g rows → key_toward g rows ≡ key_toward k rows
-key_same k g [] h = refl
-key_same k g (r ∷ rest) h = ap (λ (x : Row ℕ). x.key) (last_alike k g r rest h.1)
 
 module _ {V : Type 0} where
   edge_first : (e : Option ℕ) (nodes : List (Node V)) → first_page (with_edge e nodes) ≡ first_page nodes
@@ -101,10 +95,10 @@ first_is : (key : ℕ) (xs : List (Row ℕ)) → StartsAt key xs → lowest_key 
 first_is key [] s = absurd s
 first_is key (x ∷ xs) s = s
 
-edge_yes : (g key : ℕ) (xs : List (Row ℕ)) → StartsAt key xs → g ≡ key → edge_of g xs ≡ Some g
+edge_yes : (g key : ℕ) (xs : List (Row ℕ)) → StartsAt key xs → g ≡ key → edge_by_key g xs ≡ Some g
 edge_yes g key xs s same = let e = eq-eqb g (lowest_key xs) (same ∙ sym (first_is key xs s)) in rw e refl
 
-edge_no : (g key : ℕ) (xs : List (Row ℕ)) → StartsAt key xs → (g ≡ key → ⊥) → edge_of g xs ≡ None
+edge_no : (g key : ℕ) (xs : List (Row ℕ)) → StartsAt key xs → (g ≡ key → ⊥) → edge_by_key g xs ≡ None
 edge_no g key xs s other = let e = ne_eqb g (lowest_key xs) (λ same. other (same ∙ first_is key xs s)) in rw e refl
 
 -- one level more
@@ -113,7 +107,7 @@ module _ (k low : ℕ) (rows : List (Row ℕ)) (nodes : List (Node ℕ)) (more :
   sunk_level : (rs : List (Row ℕ)) → IsOut g rows nodes (left_taken s.key s.left s.node s.right rs) → AreSunk None ns losses more b.above
       → AreSunk (Some g) ns losses more (with_left_edges (shifted g (rows_of nodes)) b.above) → Fits None (without g (rows_of nodes)) b.above b.leaves
       → let t = from_taken rows b (left_taken s.key s.left s.node s.right rs) in
-      SunkCase s.key rows (s.node ∷ ns) (loss_of rs (edge_of g s.node.rows) ∷ losses) (nodes ∷ more) t.above t.gone_key
+      SunkCase s.key rows (s.node ∷ ns) (loss_of rs (edge_by_key g s.node.rows) ∷ losses) (nodes ∷ more) t.above t.gone_key
   sunk_level [] out plain edge f =
       let h = out.left in
       let S = shifted g rows in
@@ -148,9 +142,10 @@ module _ (k low : ℕ) (rows : List (Row ℕ)) (nodes : List (Node ℕ)) (more :
 pub record Sinks (k : ℕ) (rows : List (Row ℕ)) (above : List (List (Node ℕ))) (leaves : List (Node Payload)) (b : Shrunk) : Type 0 where
   pub way : Way
   pub is : way_from k above leaves (child_toward k rows) ≡ Some way
-  pub leaf_loss : IsSunk way.leaf (sink (key_toward k rows) k way.above way.leaf).leaf None leaves b.leaves
-  pub gone_is : b.gone_key ≡ (sink (key_toward k rows) k way.above way.leaf).gone_key
-  pub above_losses : SunkCase (key_toward k rows) rows way.above (sink (key_toward k rows) k way.above way.leaf).above above b.above b.gone_key
+  pub leaf_loss : IsSunk way.leaf (sink_by_key (key_toward k rows) k way.above way.leaf).leaf None leaves b.leaves
+  pub slots : (j : ℕ) → j ≡ key_toward k rows → sink j k way.above way.leaf ≡ sink_by_key j k way.above way.leaf
+  pub gone_is : b.gone_key ≡ (sink_by_key (key_toward k rows) k way.above way.leaf).gone_key
+  pub above_losses : SunkCase (key_toward k rows) rows way.above (sink_by_key (key_toward k rows) k way.above way.leaf).above above b.above b.gone_key
 
 sinks_leaves : (k low : ℕ) (rows : List (Row ℕ)) (leaves : List (Node Payload)) → StartsAt low rows → Within low None rows → Level None rows leaves → IsLinked 0 leaves
     → ((p : ℕ) → count p (pages_of leaves) ≤ 1) → Sinks k rows [] leaves (shrunk k rows [] leaves)
@@ -170,6 +165,7 @@ sinks_leaves k low rows leaves at w l links once =
         was = s.nodes_are;
         is = ap (λ (c : Taken Payload). linked 0 c.nodes) is ∙ taken_loss s.key s.left s.node s.right rs None (subst (IsLinked 0) s.nodes_are links);
       };
+      slots = λ j same. refl;
       gone_is = gone_key;
       above_losses = subst (SunkCase key rows [] [] [] []) (sym gone_key) (by_loss key (loss_of rs None));
     }
@@ -181,10 +177,10 @@ sinks_leaves k low rows leaves at w l links once =
 
 -- one level more
 record Sinking (k : ℕ) (rows : List (Row ℕ)) (nodes : List (Node ℕ)) (more : List (List (Node ℕ))) (n : Node ℕ) (ns : List (Node ℕ)) (b : Shrunk) (c : Sink) (o : Option ℕ) : Type 0 where
-  leaf_is : (sink_through (key_toward k rows) n c o).leaf ≡ c.leaf
+  leaf_is : (sink_through_by_key (key_toward k rows) n c o).leaf ≡ c.leaf
   leaves_are : (without_separator rows nodes b o).leaves ≡ b.leaves
-  gone_is : (without_separator rows nodes b o).gone_key ≡ (sink_through (key_toward k rows) n c o).gone_key
-  above_losses : SunkCase (key_toward k rows) rows (n ∷ ns) (sink_through (key_toward k rows) n c o).above (nodes ∷ more) (without_separator rows nodes b o).above
+  gone_is : (without_separator rows nodes b o).gone_key ≡ (sink_through_by_key (key_toward k rows) n c o).gone_key
+  above_losses : SunkCase (key_toward k rows) rows (n ∷ ns) (sink_through_by_key (key_toward k rows) n c o).above (nodes ∷ more) (without_separator rows nodes b o).above
       (without_separator rows nodes b o).gone_key
 
 sinking : (k low : ℕ) (rows : List (Row ℕ)) (nodes : List (Node ℕ)) (more : List (List (Node ℕ))) → StartsAt low rows → Within low None rows → Level None rows nodes
@@ -204,7 +200,7 @@ sinking k low rows nodes more at w l s st links ns b c (Some g) case lower alike
     let t = left_taken s.key s.left s.node s.right rs in
     let out = subst (IsOut g rows nodes) is (index_out_at g low rows nodes at w l st) in
     let key = key_toward k rows in
-    let e = edge_of g s.node.rows in
+    let e = edge_by_key g s.node.rows in
     let loss = λ (j : ℕ). loss_of (with_first_key j (without g s.node.rows)) e in
     record {
       leaf_is = refl;
@@ -226,14 +222,14 @@ sinks k low rows (nodes ∷ more) leaves le at w f once =
     let b = shrunk k (rows_of nodes) more leaves in
     let h = sinks k low (rows_of nodes) more leaves le at_more within_more f.3 (λ p. let a = once p in let b = counts p in omega (arith, a, b)) in
     let key_is : key_toward k s.node.rows ≡ key_toward k (rows_of nodes) = spot_toward (λ r. r.key) k low rows nodes s le f.1 in
-    let c = λ (j : ℕ). sink j k h.way.above h.way.leaf in
+    let c = λ (j : ℕ). sink_by_key j k h.way.above h.way.leaf in
     let below = key_toward k (rows_of nodes) in
     let key = key_toward k rows in
     let lower = shrunk_is k low (rows_of nodes) more leaves at_more within_more f.3 in
     let alike = alike_up k below None rows nodes f.0 f.1 (toward_alike k low (rows_of nodes) at_more within_more le) in
     let r = sinking k low rows nodes more at w f.0 s f.1 f.2 h.way.above b (c below) b.gone_key h.above_losses lower.lower alike in
     let t = without_separator rows nodes b b.gone_key in
-    let end = λ (j : ℕ) (o : Option ℕ). sink_through key s.node (c j) o in
+    let end = λ (j : ℕ) (o : Option ℕ). sink_through_by_key key s.node (c j) o in
     record {
       way = record { above = s.node ∷ h.way.above; leaf = h.way.leaf };
       is = ap (through_child (way_from k more leaves) k) s.is ∙ ap (λ q. through s.node (way_from k more leaves q)) (spot_child k low rows nodes s le f.1) ∙ ap (through s.node) h.is;
@@ -241,6 +237,11 @@ sinks k low rows (nodes ∷ more) leaves le at w f once =
           (subst (λ o. IsSunk h.way.leaf (end below o).leaf None leaves t.leaves) h.gone_is
           (subst (λ loss. IsSunk h.way.leaf loss None leaves t.leaves) (sym r.leaf_is)
           (subst (IsSunk h.way.leaf (c below).leaf None leaves) (sym r.leaves_are) h.leaf_loss)));
+      slots = λ j same.
+          let at : s.key ≡ j = sym s.key_is ∙ sym same in
+          ap (λ (d : Sink). sink_through j k s.node d d.gone_key) (h.slots (key_toward k s.node.rows) key_is)
+          ∙ sink_same j k s.bound s.node (c (key_toward k s.node.rows)) (c (key_toward k s.node.rows)).gone_key (subst (λ i. StartsAt i s.node.rows) at (s.starts f.1)) (subst (λ i. Within i s.bound s.node.rows) at s.within)
+          (λ g e. sym (gone_is (key_toward k s.node.rows) k h.way.above h.way.leaf g e));
       gone_is = r.gone_is ∙ ap (λ o. (end below o).gone_key) h.gone_is ∙ ap (λ j. (end j (c j).gone_key).gone_key) (sym key_is);
       above_losses = subst (λ j. SunkCase key rows (s.node ∷ h.way.above) (end j (c j).gone_key).above (nodes ∷ more) t.above t.gone_key) (sym key_is)
           (subst (λ o. SunkCase key rows (s.node ∷ h.way.above) (end below o).above (nodes ∷ more) t.above t.gone_key) h.gone_is r.above_losses);

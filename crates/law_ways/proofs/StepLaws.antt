@@ -2,15 +2,18 @@
 -- is split.
 use Rattle.std.proofs.Common.{◌≡◌, ℕ, ◌<◌, ◌≤◌, List, [], ◌∷◌, ◌++◌, length, Option, Some, None, refl, sym, ap, ◌∙◌, subst, arith}
 use Rattle.spec_levels.specs.Levels.{Row, Node, rows_of, pages_of, first_page, IsLinked, Payload}
-use Rattle.spec_ways.specs.Climbs.{Step, Stays, Grows, Splits, step_of, separator_of, Climb, climb_through, climb, with_first_prev, after_step, behind_step, IsStepped, AreStepped}
+use Rattle.spec_ways.specs.Climbs.{Step, Stays, Grows, Splits, step_of, separator_of, Climb, with_first_prev, after_step, behind_step, IsStepped, AreStepped}
 use Rattle.spec_ways.specs.Insert.{linked, Cut, Cuts, Put, cut_page, put_row, Grown, first_fresh, left_over, with_separator, grown, IsCut}
 use Rattle.spec_ways.specs.Rows.{with_row}
 use Rattle.spec_ways.specs.Ways.{child_toward, Way, through, ending_at, through_child, way_from}
 use Rattle.law_ways.proofs.Bounds.{Within}
 use Rattle.law_ways.proofs.Fits.{Level, StartsAt, Fits, count, all_pages}
-use Rattle.law_ways.proofs.GrowLaws.{rows_start, count_append, alike_up, grown_is}
-use Rattle.law_ways.proofs.PathLaws.{onto, Spot, spot_at, spot_child}
+use Rattle.law_ways.proofs.GrowLaws.{rows_start, count_append, alike_front, alike_behind, alike_up, grown_is}
+use Rattle.law_ways.proofs.SlotLaws.{behind_at, through_same}
+use Rattle.spec_ways.specs.Climbs.{climb_through, climb}
+use Rattle.law_ways.proofs.PathLaws.{onto, Spot, spot_at, spot_rows, spot_toward, spot_child}
 use Rattle.law_ways.proofs.PutLaws.{level_within, AreAlike}
+use Rattle.law_ways.proofs.ByKey.{climb_through_by_key, climb_by_key}
 
 module _ {V : Type 0} where
   pub linked_same : (b : ℕ) (nodes : List (Node V)) → IsLinked b nodes → linked b nodes ≡ nodes
@@ -85,10 +88,11 @@ alike_same k (r ∷ rest) = (refl, alike_same k rest)
 pub record Climbs (k : ℕ) (rows : List (Row ℕ)) (above : List (List (Node ℕ))) (leaves : List (Node Payload)) (cuts : Cuts) (fresh : List ℕ) (x : Row Payload) (b : Grown) : Type 0 where
   pub way : Way
   pub is : way_from k above leaves (child_toward k rows) ≡ Some way
-  pub above_steps : AreStepped way.above (climb cuts fresh x way.above way.leaf).above above b.above
-  pub leaf_steps : IsStepped way.leaf (climb cuts fresh x way.above way.leaf).leaf leaves b.leaves
-  pub separator : b.separator ≡ (climb cuts fresh x way.above way.leaf).separator
-  pub fresh_is : b.fresh ≡ (climb cuts fresh x way.above way.leaf).fresh
+  pub above_steps : AreStepped way.above (climb_by_key cuts fresh x way.above way.leaf).above above b.above
+  pub leaf_steps : IsStepped way.leaf (climb_by_key cuts fresh x way.above way.leaf).leaf leaves b.leaves
+  pub separator : b.separator ≡ (climb_by_key cuts fresh x way.above way.leaf).separator
+  pub fresh_is : b.fresh ≡ (climb_by_key cuts fresh x way.above way.leaf).fresh
+  pub slots : climb cuts fresh x way.above way.leaf ≡ climb_by_key cuts fresh x way.above way.leaf
 
 module _ (cuts : Cuts) (sound_leaf : IsCut cuts.leaf) (sound_index : IsCut cuts.index) (fresh : List ℕ) (x : Row Payload) (low : ℕ) (le : low ≤ x.key) where
   climbs_leaves : (rows : List (Row ℕ)) (leaves : List (Node Payload)) → StartsAt low rows → Within low None rows → Level None rows leaves → IsLinked 0 leaves
@@ -103,15 +107,16 @@ module _ (cuts : Cuts) (sound_leaf : IsCut cuts.leaf) (sound_index : IsCut cuts.
         leaf_steps = h.stepped;
         separator = h.separator;
         fresh_is = ap (λ o. left_over o fresh) h.separator;
+        slots = refl;
       }
 
   -- one level more, where the row that comes from below is the way's
   record Rises (rows : List (Row ℕ)) (nodes : List (Node ℕ)) (more : List (List (Node ℕ))) (n : Node ℕ) (ns : List (Node ℕ)) (b : Grown) (c : Climb) (o : Option (Row ℕ)) : Type 0 where
-    above_steps : AreStepped (n ∷ ns) (climb_through cuts.index n c o).above (nodes ∷ more) (with_separator cuts.index rows nodes b o).above
-    leaf_is : (climb_through cuts.index n c o).leaf ≡ c.leaf
+    above_steps : AreStepped (n ∷ ns) (climb_through_by_key cuts.index n c o).above (nodes ∷ more) (with_separator cuts.index rows nodes b o).above
+    leaf_is : (climb_through_by_key cuts.index n c o).leaf ≡ c.leaf
     leaves_are : (with_separator cuts.index rows nodes b o).leaves ≡ b.leaves
-    separator : (with_separator cuts.index rows nodes b o).separator ≡ (climb_through cuts.index n c o).separator
-    fresh_is : (with_separator cuts.index rows nodes b o).fresh ≡ (climb_through cuts.index n c o).fresh
+    separator : (with_separator cuts.index rows nodes b o).separator ≡ (climb_through_by_key cuts.index n c o).separator
+    fresh_is : (with_separator cuts.index rows nodes b o).fresh ≡ (climb_through_by_key cuts.index n c o).fresh
 
   rises : (rows : List (Row ℕ)) (nodes : List (Node ℕ)) (more : List (List (Node ℕ))) (s : Spot x.key low rows nodes) → IsLinked 0 nodes
       → (ns : List (Node ℕ)) (b : Grown) (c : Climb) (o : Option (Row ℕ))
@@ -145,17 +150,21 @@ module _ (cuts : Cuts) (sound_leaf : IsCut cuts.leaf) (sound_index : IsCut cuts.
       let within_more = level_within low None rows nodes w f.0 in
       let b = grown cuts fresh x (rows_of nodes) more leaves in
       let h = climbs (rows_of nodes) more leaves at_more within_more f.3 (omega (arith, many)) (λ p. let a = once p in let b = counts p in omega (arith, a, b)) in
-      let c = climb cuts fresh x h.way.above h.way.leaf in
+      let c = climb_by_key cuts fresh x h.way.above h.way.leaf in
       let g = grown_is cuts sound_leaf sound_index x low None tt le fresh (rows_of nodes) more leaves at_more within_more f.3 (omega (arith, many)) in
       let r = rises rows nodes more s f.2 h.way.above b c b.separator h.above_steps h.fresh_is (λ u e. alike_up x.key u.key None rows nodes f.0 f.1 (g.alike u e)) in
       record {
         way = record { above = s.node ∷ h.way.above; leaf = h.way.leaf };
         is = ap (through_child (way_from x.key more leaves) x.key) s.is ∙ ap (λ q. through s.node (way_from x.key more leaves q)) (spot_child x.key low rows nodes s le f.1) ∙ ap (through s.node) h.is;
-        above_steps = subst (λ o. AreStepped (s.node ∷ h.way.above) (climb_through cuts.index s.node c o).above (nodes ∷ more)
+        above_steps = subst (λ o. AreStepped (s.node ∷ h.way.above) (climb_through_by_key cuts.index s.node c o).above (nodes ∷ more)
             (with_separator cuts.index rows nodes b b.separator).above) h.separator r.above_steps;
-        leaf_steps = subst (λ o. IsStepped h.way.leaf (climb_through cuts.index s.node c o).leaf leaves (with_separator cuts.index rows nodes b b.separator).leaves) h.separator
+        leaf_steps = subst (λ o. IsStepped h.way.leaf (climb_through_by_key cuts.index s.node c o).leaf leaves (with_separator cuts.index rows nodes b b.separator).leaves) h.separator
             (subst (λ step. IsStepped h.way.leaf step leaves (with_separator cuts.index rows nodes b b.separator).leaves) (sym r.leaf_is)
             (subst (IsStepped h.way.leaf c.leaf leaves) (sym r.leaves_are) h.leaf_steps));
-        separator = r.separator ∙ ap (λ o. (climb_through cuts.index s.node c o).separator) h.separator;
-        fresh_is = r.fresh_is ∙ ap (λ o. (climb_through cuts.index s.node c o).fresh) h.separator;
+        separator = r.separator ∙ ap (λ o. (climb_through_by_key cuts.index s.node c o).separator) h.separator;
+        fresh_is = r.fresh_is ∙ ap (λ o. (climb_through_by_key cuts.index s.node c o).fresh) h.separator;
+        slots = ap (λ (d : Climb). climb_through cuts.index x.key s.node d d.separator) h.slots ∙ through_same cuts.index x.key s.node c c.separator (λ y e.
+            behind_at s.key x.key s.bound y s.node.rows (s.starts f.1) s.within (alike_front x.key y.key s.node.rows (rows_of s.right)
+            (alike_behind x.key y.key (rows_of s.left) (s.node.rows ++ rows_of s.right) (subst (AreAlike x.key y.key) (spot_rows x.key low rows nodes s) (g.alike y (h.separator ∙ e)))))
+            (let i = spot_toward (λ z. z.key) x.key low rows nodes s le f.1 in let j = g.higher y (h.separator ∙ e) in omega (arith, i, j)));
       }

@@ -1,27 +1,16 @@
 -- A row taken from a level.
 use Rattle.std.proofs.Common.{◌≡◌, ◌⊎◌, ℕ, suc, ◌<◌, ◌≤◌, true, false, List, [], ◌∷◌, ◌++◌, Option, Some, None, nat_lt, refl, sym, ap, ◌∙◌, subst, inl, inr, arith}
-use Rattle.std.proofs.lemmas.Bool.{cases_eq, cases_Bool, lt-ltb, le-ltb, ltb-false, eq-eqb, ne_eqb}
+use Rattle.std.proofs.lemmas.Bool.{cases_eq, cases_Bool, le-ltb, ltb-false, eq-eqb, ne_eqb}
 use Rattle.spec_levels.specs.Levels.{Row, Node, rows_of, first_page, IsBelow, pages_of, Payload}
-use Rattle.law_ways.proofs.Bounds.{toward_by}
 use Rattle.spec_ways.specs.Delete.{Taken, kept_page, before_taken, take_row, leaf_without, index_without, with_first_keys}
 use Rattle.spec_ways.specs.Insert.{linked}
 use Rattle.spec_ways.specs.Rows.{with_first_key, is_below_first, without}
-use Rattle.spec_ways.specs.Ways.{last_not_above, key_toward}
+use Rattle.spec_ways.specs.Ways.{key_toward}
 use Rattle.law_ways.proofs.Bounds.{Within, next_key, shifted, HasKey}
 use Rattle.law_ways.proofs.Fits.{Level, Starts, StartsAt, count}
 use Rattle.law_ways.proofs.PutLaws.{level_within, here_within}
+use Rattle.law_ways.proofs.TowardLaws.{toward_here, toward_later}
 use Rattle.law_ways.proofs.RowLaws.{below_below, from_lower, to_higher, without_same, without_other, without_within, without_left, without_right}
-
-pub above_kept : (k low : ℕ) (r : Row ℕ) (rest : List (Row ℕ)) → k < low → Within low None rest → last_not_above k r rest ≡ r
-above_kept k low r [] less w = refl
-above_kept k low r (s ∷ rest) less w = let e = lt-ltb k s.key (omega (arith, less, w.0)) in rw e (above_kept k (suc s.key) r rest (omega (arith, less, w.0)) w.2)
-
-pub toward_here : (of : Row ℕ → ℕ) (k low : ℕ) (r : Row ℕ) (rest : List (Row ℕ)) → is_below_first k rest ≡ true → Within low None rest → toward_by of k (r ∷ rest) ≡ of r
-toward_here of k low r rest e w = ap of (above_kept k (suc k) r rest (omega arith) (here_within k low None rest e w))
-
-pub toward_later : (of : Row ℕ → ℕ) (k : ℕ) (r : Row ℕ) (rest : List (Row ℕ)) → is_below_first k rest ≡ false → toward_by of k (r ∷ rest) ≡ toward_by of k rest
-toward_later of k r [] e = absurd (cc)
-toward_later of k r (s ∷ rest) e = rw e refl
 
 pub shifted_same : (k : ℕ) (r : Row ℕ) (rest : List (Row ℕ)) → k ≡ r.key → shifted k (r ∷ rest) ≡ with_first_key k rest
 shifted_same k r rest same = let e = eq-eqb k r.key same in rw e refl
@@ -303,7 +292,7 @@ index_here k r rest n ns w l s e (y ∷ ys) is =
         level = (l.0, headed_within r.key r.key bound (y ∷ ys) (omega arith) is_within, l.2);
         starts = (refl, s.1);
         key = r.key;
-        key_is = toward_here (λ r. r.key) k (suc r.key) r rest e w.2;
+        key_is = toward_here (λ r. r.key) k (suc r.key) None r rest e w.2;
         rows_are = elim (more_rows k r.key n.rows y ys (rows_of ns) s.0 is) [
           | inl a ↦ inl a
           | inr b ↦ inr (

@@ -3,6 +3,7 @@ use Rattle.std.proofs.Common.{◌≡◌, ℕ, suc, ◌+◌, ◌<◌, ◌≤◌, 
 use Rattle.spec_levels.specs.Levels.{Payload, Row, Index, Leaf}
 use Rattle.spec_ways.specs.Insert.{Cuts, first_fresh, left_over}
 use Rattle.spec_ways.specs.Rows.{with_row}
+use Rattle.spec_ways.specs.Ways.{with_behind}
 use Rattle.spec_ways.specs.Climbs.{step_of, separator_of, Climb, climb_through, climb, new_page, new_pages, second_page, taken_pages}
 use Rattle.law_ways.proofs.GrowLaws.{fewer}
 
@@ -27,10 +28,10 @@ climb_takes cuts fresh x (n ∷ ns) leaf many =
     let b = climb cuts fresh x ns leaf in
     by_below b b.separator (climb_takes cuts fresh x ns leaf (omega (arith, many)))
   where
-    by_below : (b : Climb) (o : Option (Row ℕ)) → Takes fresh (suc (length ns)) b → Takes fresh (suc (suc (length ns))) (climb_through cuts.index n b o)
+    by_below : (b : Climb) (o : Option (Row ℕ)) → Takes fresh (suc (length ns)) b → Takes fresh (suc (suc (length ns))) (climb_through cuts.index x.key n b o)
     by_below b None h = record { first = ap (λ l. l ++ b.fresh) (append-nil (new_pages b.above b.leaf)) ∙ h.first; enough = let e = h.enough in omega (arith, e) }
     by_below b (Some y) h =
-        let rows = with_row y n.rows in
+        let rows = with_behind x.key y n.rows in
         let step = step_of (cuts.index rows) (first_fresh b.fresh) rows in
         let left = left_over (separator_of step) b.fresh in
         let some : 0 < length b.fresh = (let e = h.enough in omega (arith, e, many)) in

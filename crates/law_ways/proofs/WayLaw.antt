@@ -1,5 +1,5 @@
 -- The rows of a tree, and the way to one of them.
-use Rattle.std.proofs.Common.{ℕ, List, [], ◌∷◌, Option, None, refl, arith}
+use Rattle.std.proofs.Common.{ℕ, List, [], ◌∷◌, Option, None, refl, arith, ◌∙◌}
 use Rattle.spec_levels.specs.Levels.{Row, Node, Tree, rows_of, tree_pages, IsTree, Payload}
 use Rattle.spec_ways.specs.Insert.{root_rows}
 use Rattle.law_ways.proofs.Bounds.{Within}
@@ -7,6 +7,7 @@ use Rattle.law_ways.proofs.Bridge.{fits_from, once, rises_from}
 use Rattle.law_ways.proofs.Counts.{tree_counts}
 use Rattle.law_ways.proofs.Fits.{Fits}
 use Rattle.law_ways.proofs.PathLaws.{leads}
+use Rattle.law_ways.proofs.RowsLead.{found_is}
 use Rattle.law_ways.proofs.PutLaws.{level_within}
 use Rattle.law_ways.proofs.WayReads.{way_is_read}
 use Rattle.law_ways.proofs.WayAsks.{pages_asked, way_is_shown}
@@ -30,7 +31,7 @@ pub ways_lead : WaysLead
 ways_lead root k tree is =
     let h = leads k 0 (root_rows root) tree.above tree.leaves (omega arith) refl (omega arith, tt, tt) (fits_from (root_rows root) tree.above tree.leaves is.levels)
     (λ p. let a = tree_counts tree p in let b = once p (tree_pages tree) is.distinct in omega (arith, a, b)) in
-    record { way = h.way; is = h.is; long = h.long; holds = h.holds }
+    record { way = h.way; is = h.is; long = h.long; holds = h.holds; found = found_is h.key h.bound k h.way.leaf.rows h.within ∙ h.holds }
 
 pub ways_are_read : WaysAreRead
 ways_are_read root k tree image way is s e = record {

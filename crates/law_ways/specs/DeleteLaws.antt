@@ -26,32 +26,29 @@ pub record IsTakenOut (key : ℕ) (tree now : Tree) : Type 0 where
 abbrev pub DeleteTakes : Type 0
 DeleteTakes = (root key : ℕ) (tree : Tree) → IsTree root tree → IsTakenOut key tree (deleted root key tree)
 
--- of each level the page of the way has its loss and nothing else changes but its neighbours where it goes; then a root
--- that is left without rows or with one is lowered
-pub record IsSunkTree (root key : ℕ) (tree now : Tree) : Type 0 where
-  pub way : Way
-  pub is : way_to root tree key ≡ Some way
+-- along a way: of each level the page of the way has its loss and nothing else changes but its neighbours where it goes;
+-- then a root that is left without rows or with one is lowered
+pub record IsSunkTree (root : ℕ) (way : Way) (sink : Sink) (tree now : Tree) : Type 0 where
   pub levels : Shrunk
-  pub above_losses : AreSunk None way.above (sink_of key way).above tree.above levels.above
-  pub leaf_loss : IsSunk way.leaf (sink_of key way).leaf None tree.leaves levels.leaves
-  pub ends : now ≡ lowered root levels (sink_of key way).gone_key
+  pub above_losses : AreSunk None way.above sink.above tree.above levels.above
+  pub leaf_loss : IsSunk way.leaf sink.leaf None tree.leaves levels.leaves
+  pub ends : now ≡ lowered root levels sink.gone_key
 
 abbrev pub DeleteSinks : Type 0
-DeleteSinks = (root key : ℕ) (tree : Tree) → IsTree root tree → IsSunkTree root key tree (deleted root key tree)
+DeleteSinks = (root key : ℕ) (tree : Tree) (way : Way) → IsTree root tree → way_to root tree key ≡ Some way → IsSunkTree root way (sink_of key way) tree (deleted root key tree)
 
--- what the way of a delete writes shows the tree without the row, and no page changes that wasn't the tree's; the pages
--- that are freed are those of the tree before that it has no more, each once
-pub record IsDeleteWritten (root key : ℕ) (tree now : Tree) (image : Pages) : Type 0 where
-  pub way : Way
-  pub is : way_to root tree key ≡ Some way
-  pub shows : let sink = sink_of key way in Shows (delete_written root way sink sink.gone_key image) now.above now.leaves
-  pub same : (page : ℕ) → (Contains (tree_pages tree) page → ⊥) → let sink = sink_of key way in delete_written root way sink sink.gone_key image page ≡ image page
-  pub pages_are : (page : ℕ) → Contains (tree_pages tree) page ↔ Contains (tree_pages now ++ delete_frees root way (sink_of key way) image) page
-  pub apart : AreDistinct (tree_pages now ++ delete_frees root way (sink_of key way) image)
+-- what a sink along a way writes shows the tree after, and no page changes that wasn't the tree's; the pages that are
+-- freed are those of the tree before that it has no more, each once
+pub record IsDeleteWritten (root : ℕ) (way : Way) (sink : Sink) (image : Pages) (tree now : Tree) : Type 0 where
+  pub shows : Shows (delete_written root way sink sink.gone_key image) now.above now.leaves
+  pub same : (page : ℕ) → (Contains (tree_pages tree) page → ⊥) → delete_written root way sink sink.gone_key image page ≡ image page
+  pub pages_are : (page : ℕ) → Contains (tree_pages tree) page ↔ Contains (tree_pages now ++ delete_frees root way sink image) page
+  pub apart : AreDistinct (tree_pages now ++ delete_frees root way sink image)
 
 -- where the pages of an image show the tree
 abbrev pub DeleteIsWritten : Type 0
-DeleteIsWritten = (root key : ℕ) (tree : Tree) (image : Pages) → IsTree root tree → Shows image tree.above tree.leaves → IsDeleteWritten root key tree (deleted root key tree) image
+DeleteIsWritten = (root key : ℕ) (tree : Tree) (image : Pages) (way : Way) → IsTree root tree → Shows image tree.above tree.leaves → way_to root tree key ≡ Some way
+    → IsDeleteWritten root way (sink_of key way) image tree (deleted root key tree)
 
 -- the next of each index page that goes below a page that keeps rows and lost the first
 abbrev pub edge_nexts : Option ℕ → List Index → List (Loss ℕ) → List ℕ

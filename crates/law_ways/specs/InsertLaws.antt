@@ -31,37 +31,33 @@ abbrev pub UpdateReplaces : Type 0
 UpdateReplaces = (cuts : Cuts) (fresh : List ℕ) (root : ℕ) (row : Row Payload) (tree : Tree) (old : Payload) → IsCut cuts.leaf → IsCut cuts.index → IsTree root tree → AreFresh fresh tree
     → value_at row.key (contents tree) ≡ Some old → IsUpdated row tree (inserted cuts fresh root row tree)
 
--- of each level the page of the way makes its step and nothing else changes; then a root that was split is raised, and
--- only then the tree has a level more. Its pages are those before and the new ones that are taken, which are the first of
--- the new ones
-pub record IsClimbed (cuts : Cuts) (fresh : List ℕ) (root : ℕ) (row : Row Payload) (tree now : Tree) : Type 0 where
-  pub way : Way
-  pub is : way_to root tree row.key ≡ Some way
+-- along a way: of each level the page of the way makes its step and nothing else changes; then a root that was split is
+-- raised, and only then the tree has a level more. Its pages are those before and the new ones that are taken, which are
+-- the first of the new ones
+pub record IsClimbed (root : ℕ) (fresh : List ℕ) (way : Way) (climb : Climb) (tree now : Tree) : Type 0 where
   pub levels : Grown
-  pub above_steps : AreStepped way.above (climb_of cuts fresh row way).above tree.above levels.above
-  pub leaf_steps : IsStepped way.leaf (climb_of cuts fresh row way).leaf tree.leaves levels.leaves
-  pub fresh_is : levels.fresh ≡ (climb_of cuts fresh row way).fresh
-  pub raises : now ≡ raised root levels (climb_of cuts fresh row way).separator
-  pub height : (climb_of cuts fresh row way).separator ≡ None → length now.above ≡ length tree.above
-  pub fresh_are : let climb = climb_of cuts fresh row way in fresh ≡ taken_pages climb ++ left_over climb.separator climb.fresh
-  pub pages_are : (page : ℕ) → Contains (tree_pages now) page ↔ Contains (taken_pages (climb_of cuts fresh row way) ++ tree_pages tree) page
-  pub apart : let climb = climb_of cuts fresh row way in AreDistinct (tree_pages now ++ left_over climb.separator climb.fresh)
+  pub above_steps : AreStepped way.above climb.above tree.above levels.above
+  pub leaf_steps : IsStepped way.leaf climb.leaf tree.leaves levels.leaves
+  pub fresh_is : levels.fresh ≡ climb.fresh
+  pub raises : now ≡ raised root levels climb.separator
+  pub height : climb.separator ≡ None → length now.above ≡ length tree.above
+  pub fresh_are : fresh ≡ taken_pages climb ++ left_over climb.separator climb.fresh
+  pub pages_are : (page : ℕ) → Contains (tree_pages now) page ↔ Contains (taken_pages climb ++ tree_pages tree) page
+  pub apart : AreDistinct (tree_pages now ++ left_over climb.separator climb.fresh)
 
 abbrev pub InsertClimbs : Type 0
-InsertClimbs = (cuts : Cuts) (fresh : List ℕ) (root : ℕ) (row : Row Payload) (tree : Tree) → IsCut cuts.leaf → IsCut cuts.index → IsTree root tree → AreFresh fresh tree
-    → IsClimbed cuts fresh root row tree (inserted cuts fresh root row tree)
+InsertClimbs = (cuts : Cuts) (fresh : List ℕ) (root : ℕ) (row : Row Payload) (tree : Tree) (way : Way) → IsCut cuts.leaf → IsCut cuts.index → IsTree root tree → AreFresh fresh tree
+    → way_to root tree row.key ≡ Some way → IsClimbed root fresh way (climb_of cuts fresh row way) tree (inserted cuts fresh root row tree)
 
--- what the way of an insert writes shows the tree with the row, and no page changes that isn't one of that tree
-pub record IsInsertWritten (cuts : Cuts) (fresh : List ℕ) (root : ℕ) (row : Row Payload) (tree now : Tree) (image : Pages) : Type 0 where
-  pub way : Way
-  pub is : way_to root tree row.key ≡ Some way
-  pub shows : let climb = climb_of cuts fresh row way in Shows (insert_written root way climb climb.separator image) now.above now.leaves
-  pub same : (page : ℕ) → (Contains (tree_pages now) page → ⊥) → let climb = climb_of cuts fresh row way in insert_written root way climb climb.separator image page ≡ image page
+-- what a climb along a way writes shows the tree after, and no page changes that isn't one of that tree
+pub record IsInsertWritten (root : ℕ) (way : Way) (climb : Climb) (image : Pages) (now : Tree) : Type 0 where
+  pub shows : Shows (insert_written root way climb climb.separator image) now.above now.leaves
+  pub same : (page : ℕ) → (Contains (tree_pages now) page → ⊥) → insert_written root way climb climb.separator image page ≡ image page
 
 -- where the pages of an image show the tree
 abbrev pub InsertIsWritten : Type 0
-InsertIsWritten = (cuts : Cuts) (fresh : List ℕ) (root : ℕ) (row : Row Payload) (tree : Tree) (image : Pages) → IsCut cuts.leaf → IsCut cuts.index → IsTree root tree → AreFresh fresh tree
-    → Shows image tree.above tree.leaves → IsInsertWritten cuts fresh root row tree (inserted cuts fresh root row tree) image
+InsertIsWritten = (cuts : Cuts) (fresh : List ℕ) (root : ℕ) (row : Row Payload) (tree : Tree) (image : Pages) (way : Way) → IsCut cuts.leaf → IsCut cuts.index → IsTree root tree → AreFresh fresh tree
+    → Shows image tree.above tree.leaves → way_to root tree row.key ≡ Some way → IsInsertWritten root way (climb_of cuts fresh row way) image (inserted cuts fresh root row tree)
 
 -- what an insert leaves in a page depends on that page and on those that it reads
 abbrev pub InsertIsLocal : Type 0

@@ -1,7 +1,7 @@
 -- Where the way towards a key leads, and that it is read from the pages that show the tree.
 use Rattle.std.specs.Prelude.{◌≡◌, ◌⊎◌, ◌<◌, ◌≤◌, ℕ, suc, List, [], ◌∷◌, ◌++◌, length, Some, None}
 use Rattle.spec_levels.specs.Levels.{Row, Index, Leaf, Tree, keys_of, Rises, IsTree}
-use Rattle.spec_ways.specs.Rows.{contents, value_at}
+use Rattle.spec_ways.specs.Rows.{contents, value_at, value_found}
 use Rattle.spec_ways.specs.Ways.{row_toward, Way, way_to, way_pages}
 use Rattle.spec_ways.specs.Pages.{LeafPage, IndexPage, Pages, Shows, read_way, asked_pages}
 
@@ -26,12 +26,14 @@ pub record IsLastNotAbove (key : ℕ) (rows : List (Row ℕ)) (row : Row ℕ) : 
 abbrev pub RowsLead : Type 0
 RowsLead = (key : ℕ) (row : Row ℕ) (rest : List (Row ℕ)) → IsLastNotAbove key (row ∷ rest) (row_toward key (row ∷ rest))
 
--- the way towards a key has a page of each level, and its leaf holds what the tree holds at the key
+-- the way towards a key has a page of each level, and its leaf holds what the tree holds at the key, where a search by
+-- places finds it
 pub record Leads (root key : ℕ) (tree : Tree) : Type 0 where
   pub way : Way
   pub is : way_to root tree key ≡ Some way
   pub long : length way.above ≡ length tree.above
   pub holds : value_at key way.leaf.rows ≡ value_at key (contents tree)
+  pub found : value_found key way.leaf.rows ≡ value_at key (contents tree)
 
 abbrev pub WaysLead : Type 0
 WaysLead = (root key : ℕ) (tree : Tree) → IsTree root tree → Leads root key tree

@@ -2,7 +2,7 @@
 use Rattle.std.specs.Prelude.{◌≡◌, ℕ, List, [], ◌∷◌, ◌++◌, take, drop, Option, Some, None}
 use Rattle.spec_levels.specs.Levels.{Payload, Row, Node, Index, Leaf}
 use Rattle.spec_ways.specs.Rows.{with_row, lowest_key}
-use Rattle.spec_ways.specs.Ways.{Way}
+use Rattle.spec_ways.specs.Ways.{Way, with_behind}
 use Rattle.spec_ways.specs.Insert.{Cut, Cuts, first_fresh, left_over}
 
 -- a page stays, has these rows, or has the first of these and gives the others to a new page right of it
@@ -28,10 +28,11 @@ pub record Climb : Type 0 where
   pub separator : Option (Row ℕ)
   pub fresh : List ℕ
 
-abbrev pub climb_through : Cut ℕ → Index → Climb → Option (Row ℕ) → Climb
-climb_through cut node below None = record { above = Stays ∷ below.above; leaf = below.leaf; separator = None; fresh = below.fresh }
-climb_through cut node below (Some separator) =
-    let rows = with_row separator node.rows in
+-- the separator of the pages below goes right behind the row towards the key
+abbrev pub climb_through : Cut ℕ → ℕ → Index → Climb → Option (Row ℕ) → Climb
+climb_through cut key node below None = record { above = Stays ∷ below.above; leaf = below.leaf; separator = None; fresh = below.fresh }
+climb_through cut key node below (Some separator) =
+    let rows = with_behind key separator node.rows in
     let step = step_of (cut rows) (first_fresh below.fresh) rows in
     record { above = step ∷ below.above; leaf = below.leaf; separator = separator_of step; fresh = left_over (separator_of step) below.fresh }
 
@@ -41,7 +42,7 @@ climb cuts fresh row [] leaf =
     let rows = with_row row leaf.rows in
     let step = step_of (cuts.leaf rows) (first_fresh fresh) rows in
     record { above = []; leaf = step; separator = separator_of step; fresh = left_over (separator_of step) fresh }
-climb cuts fresh row (node ∷ above) leaf = let below = climb cuts fresh row above leaf in climb_through cuts.index node below below.separator
+climb cuts fresh row (node ∷ above) leaf = let below = climb cuts fresh row above leaf in climb_through cuts.index row.key node below below.separator
 
 abbrev pub climb_of : Cuts → List ℕ → Row Payload → Way → Climb
 climb_of cuts fresh row way = climb cuts fresh row way.above way.leaf

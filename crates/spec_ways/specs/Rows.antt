@@ -17,6 +17,11 @@ abbrev pub value_at : {V : Type 0} → ℕ → List (Row V) → Option V
 value_at key [] = None
 value_at key (row ∷ rest) = if key == row.key then Some row.value else value_at key rest
 
+-- the same told by one row, the first whose key isn't below this one
+abbrev pub value_found : {V : Type 0} → ℕ → List (Row V) → Option V
+value_found key [] = None
+value_found key (row ∷ rest) = if nat_lt row.key key then value_found key rest else (if key == row.key then Some row.value else None)
+
 -- the key of the first row; 0 where there is no row
 abbrev pub lowest_key : {V : Type 0} → List (Row V) → ℕ
 lowest_key [] = 0

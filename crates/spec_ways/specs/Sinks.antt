@@ -1,8 +1,8 @@
 -- What becomes of the pages of a way where a row is taken from its leaf, told by these pages alone.
-use Rattle.std.specs.Prelude.{◌≡◌, ℕ, List, [], ◌∷◌, ◌++◌, Option, Some, None, ◌==◌, if◌then◌else◌}
+use Rattle.std.specs.Prelude.{◌≡◌, ℕ, List, [], ◌∷◌, ◌++◌, Option, Some, None, if◌then◌else◌}
 use Rattle.spec_levels.specs.Levels.{Payload, Row, Node, Index, Leaf, first_page}
 use Rattle.spec_ways.specs.Rows.{without, lowest_key, with_first_key}
-use Rattle.spec_ways.specs.Ways.{Way, key_toward}
+use Rattle.spec_ways.specs.Ways.{Way, key_toward, are_above, without_toward}
 use Rattle.spec_ways.specs.Climbs.{with_first_prev}
 
 -- a page is untouched, keeps these rows, or has none left and goes; with the rows that are kept stands the key that goes
@@ -22,9 +22,10 @@ gone_key_of key Untouched = None
 gone_key_of key (Keeps rows edge) = None
 gone_key_of key Goes = Some key
 
--- the key of the row that is lost, where that is the first
+-- the key of the row towards this key, where that is the first row
 abbrev pub edge_of : ℕ → List (Row ℕ) → Option ℕ
-edge_of key rows = if key == lowest_key rows then Some key else None
+edge_of key [] = None
+edge_of key (row ∷ rest) = if are_above key rest then Some row.key else None
 
 -- the losses of a way's pages, the highest first, and the key of the row that named the first where that goes
 pub record Sink : Type 0 where
@@ -32,16 +33,17 @@ pub record Sink : Type 0 where
   pub leaf : Loss Payload
   pub gone_key : Option ℕ
 
-abbrev pub sink_through : ℕ → Index → Sink → Option ℕ → Sink
-sink_through first node below None = record { above = Untouched ∷ below.above; leaf = below.leaf; gone_key = None }
-sink_through first node below (Some key) =
-    let loss = loss_of (with_first_key first (without key node.rows)) (edge_of key node.rows) in
+-- where the page below goes, the row towards the key goes; where that is the first, the row behind it takes its key
+abbrev pub sink_through : ℕ → ℕ → Index → Sink → Option ℕ → Sink
+sink_through first key node below None = record { above = Untouched ∷ below.above; leaf = below.leaf; gone_key = None }
+sink_through first key node below (Some gone) =
+    let loss = loss_of (with_first_key (lowest_key node.rows) (without_toward key node.rows)) (edge_of key node.rows) in
     record { above = loss ∷ below.above; leaf = below.leaf; gone_key = gone_key_of first loss }
 
 -- from the leaf upwards, given the key of the row that names the first page of the way
 abbrev pub sink : ℕ → ℕ → List Index → Leaf → Sink
 sink first key [] leaf = let loss = loss_of (without key leaf.rows) None in record { above = []; leaf = loss; gone_key = gone_key_of first loss }
-sink first key (node ∷ above) leaf = let below = sink (key_toward key node.rows) key above leaf in sink_through first node below below.gone_key
+sink first key (node ∷ above) leaf = let below = sink (key_toward key node.rows) key above leaf in sink_through first key node below below.gone_key
 
 -- of a whole way: the catalog's row names the root
 abbrev pub sink_of : ℕ → Way → Sink

@@ -1,16 +1,26 @@
 -- The way towards a key: the pages from the root down to the leaf where the key belongs.
-use Rattle.std.specs.Prelude.{ℕ, List, [], ◌∷◌, ◌++◌, map, Option, Some, None, nat_lt, ◌==◌, if◌then◌else◌}
+use Rattle.std.specs.Prelude.{ℕ, Bool, true, false, List, [], ◌∷◌, ◌++◌, map, Option, Some, None, nat_lt, ◌==◌, if◌then◌else◌}
 use Rattle.spec_levels.specs.Levels.{Row, Node, Index, Leaf, Tree, root_row}
 
--- the last of these rows whose key isn't above this one, or else the row before them
-abbrev pub last_not_above : ℕ → Row ℕ → List (Row ℕ) → Row ℕ
-last_not_above key before [] = before
-last_not_above key before (row ∷ rest) = last_not_above key (if nat_lt key row.key then before else row) rest
+-- the keys of all these rows are above this one
+abbrev pub are_above : ℕ → List (Row ℕ) → Bool
+are_above key [] = true
+are_above key (row ∷ rest) = if nat_lt key row.key then are_above key rest else false
 
 -- the row of an index page under which a key belongs: the last whose key isn't above it, or else the first
 abbrev pub row_toward : ℕ → List (Row ℕ) → Row ℕ
 row_toward key [] = root_row 0
-row_toward key (row ∷ rest) = last_not_above key row rest
+row_toward key (row ∷ rest) = if are_above key rest then row else row_toward key rest
+
+-- the rows with this one right behind it
+abbrev pub with_behind : ℕ → Row ℕ → List (Row ℕ) → List (Row ℕ)
+with_behind key new [] = new ∷ []
+with_behind key new (row ∷ rest) = if are_above key rest then row ∷ new ∷ rest else row ∷ with_behind key new rest
+
+-- the rows without it
+abbrev pub without_toward : ℕ → List (Row ℕ) → List (Row ℕ)
+without_toward key [] = []
+without_toward key (row ∷ rest) = if are_above key rest then rest else row ∷ without_toward key rest
 
 -- the page that it names
 abbrev pub child_toward : ℕ → List (Row ℕ) → ℕ

@@ -17,7 +17,7 @@ abbrev pub value_at : {V : Type 0} → ℕ → List (Row V) → Option V
 value_at key [] = None
 value_at key (row ∷ rest) = if key == row.key then Some row.value else value_at key rest
 
--- the same told by one row, the first whose key isn't below this one
+-- the same by place: told by the first row whose key isn't below this one
 abbrev pub value_found : {V : Type 0} → ℕ → List (Row V) → Option V
 value_found key [] = None
 value_found key (row ∷ rest) = if nat_lt row.key key then value_found key rest else (if key == row.key then Some row.value else None)

@@ -13,9 +13,9 @@ use Rattle.law_ways.proofs.Bounds.{HasKey}
 use Rattle.law_ways.proofs.Fits.{Level, Fits, count, all_pages}
 use Rattle.law_ways.proofs.GrowLaws.{count_append, rows_start}
 use Rattle.law_ways.proofs.LossShows.{losses_show, losses_long}
-use Rattle.law_ways.proofs.ShowLaws.{wrote_here, wrote_there, counts_self, tree_same, pages_join}
+use Rattle.law_ways.proofs.ShowLaws.{with_page_here, with_page_there, counts_self, tree_same, pages_join}
 use Rattle.law_ways.proofs.ShrinkLaws.{single, one_page, root_counts, IsShrunk}
-use Rattle.law_ways.proofs.TopLaws.{topped_is}
+use Rattle.law_ways.proofs.TopLaws.{top_is}
 use Rattle.law_ways.proofs.ByKey.{sink_through_by_key, sink_by_key}
 
 abbrev row_at : ℕ → ℕ → List (Row ℕ)
@@ -102,7 +102,7 @@ top_shows shape shaped root low page image nodes l s =
     let n = one_node low page nodes l in
     let now = page_as_root root (image page) in
     subst (λ ns. ShowsLevel shape (with_page root now image) (linked 0 (renumbered (root ∷ []) ns))) (sym n.1)
-    (wrote_here root now image ∙ ap (page_as_root root) (one_shows shape image low page nodes l s) ∙ shaped root n.0, tt)
+    (with_page_here root now image ∙ ap (page_as_root root) (one_shows shape image low page nodes l s) ∙ shaped root n.0, tt)
 
 topped_shows : (root low page : ℕ) (image : Pages) (above : List (List (Node ℕ))) (leaves : List (Node Payload)) → Fits None (row_at low page) above leaves → Shows image above leaves
     → count root (all_pages above leaves) ≤ count root (page ∷ [])
@@ -111,7 +111,7 @@ topped_shows root low page image [] leaves f s apart = top_shows LeafPage (λ r 
 topped_shows root low page image (nodes ∷ more) leaves f s apart = (
   top_shows (IndexPage (suc (length more))) (λ r n. refl) root low page image nodes f.0 s.0,
   tree_same image (with_page root (page_as_root root (image page)) image) more leaves
-      (λ p some. wrote_there root p (page_as_root root (image page)) image (λ same.
+      (λ p some. with_page_there root p (page_as_root root (image page)) image (λ same.
       let a = count_append root (pages_of nodes) (all_pages more leaves) in let b = ap (count root) (one_page low page nodes f.0) in
       let c = subst (λ q. 0 < count q (all_pages more leaves)) same some in omega (arith, a, b, c, apart))) s.1,
 )
@@ -216,10 +216,10 @@ delete_shows root k way c b tree image None f h l shrinks s once nonzero at_top 
     let e = once root in
     let g = counts_self root [] in
     let top = topped_shows root 0 q one t.above t.leaves u.fits u.shows (omega (arith, a, d, e, g)) in
-    let tops = topped_is (root ∷ []) None (row_at 0 q) t.above t.leaves refl u.fits in
+    let tops = top_is (root ∷ []) None (row_at 0 q) t.above t.leaves refl u.fits in
     record {
       shows = top;
-      same = λ p none. wrote_there root p (page_as_root root (one q)) one (other_page root p tree.above tree.leaves (root_counts root root tree.above tree.leaves f) none) ∙ low.same p none;
+      same = λ p none. with_page_there root p (page_as_root root (one q)) one (other_page root p tree.above tree.leaves (root_counts root root tree.above tree.leaves f) none) ∙ low.same p none;
       exact = λ p.
           let i = u.exact p in let j = low.exact p in let v = tops.pages_are p in
           let w = count_append p (freed_below_root way.above c.above way.leaf c.leaf) (collapsed_children root way c image None) in
@@ -228,8 +228,8 @@ delete_shows root k way c b tree image None f h l shrinks s once nonzero at_top 
 delete_shows root k way c b tree image (Some g) f h l shrinks s once nonzero at_top =
     let now = LeafPage (record { page = root; prev = 0; next = 0; rows = [] }) in
     record {
-      shows = (wrote_here root now image, tt);
-      same = λ p none. wrote_there root p now image (other_page root p tree.above tree.leaves (root_counts root root tree.above tree.leaves f) none);
+      shows = (with_page_here root now image, tt);
+      same = λ p none. with_page_there root p now image (other_page root p tree.above tree.leaves (root_counts root root tree.above tree.leaves f) none);
       exact = λ p.
           let low = losses_show way.leaf c.leaf tree.leaves b.leaves l image None (root_rows root) way.above c.above tree.above b.above f h s once nonzero in
           let i = low.exact p in

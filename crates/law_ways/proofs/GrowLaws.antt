@@ -139,10 +139,10 @@ module _ (cuts : Cuts) (sound_leaf : IsCut cuts.leaf) (sound_index : IsCut cuts.
         height = refl;
       }
 
-  risen_is : (fresh : List ℕ) (rows : List (Row ℕ)) (nodes : List (Node ℕ)) (more : List (List (Node ℕ))) (leaves : List (Node Payload)) → StartsAt low rows → Within low high rows
+  separator_is : (fresh : List ℕ) (rows : List (Row ℕ)) (nodes : List (Node ℕ)) (more : List (List (Node ℕ))) (leaves : List (Node Payload)) → StartsAt low rows → Within low high rows
       → Level high rows nodes → Starts rows nodes → IsLinked 0 nodes → suc (length more) < length fresh → (b : Grown) (o : Option (Row ℕ)) → IsGrown low high (rows_of nodes) more leaves fresh x b o
       → let t = with_separator cuts.index rows nodes b o in IsGrown low high rows (nodes ∷ more) leaves fresh x t t.separator
-  risen_is fresh rows nodes more leaves at w l s linked many b None h = record {
+  separator_is fresh rows nodes more leaves at w l s linked many b None h = record {
     fits = (l, s, linked, h.fits);
     separator = tt;
     contents = h.contents;
@@ -156,7 +156,7 @@ module _ (cuts : Cuts) (sound_leaf : IsCut cuts.leaf) (sound_index : IsCut cuts.
     enough = let e = h.enough in omega (arith, e);
     height = ap suc h.height;
   }
-  risen_is fresh rows nodes more leaves at w l s are_linked many b (Some y) h =
+  separator_is fresh rows nodes more leaves at w l s are_linked many b (Some y) h =
       let c = put_row cuts.index (first_fresh b.fresh) y rows nodes in
       let some : 0 < length b.fresh = omega (arith, many, h.enough) in
       let is = put_at cuts.index sound_index (first_fresh b.fresh) y low high rows nodes h.separator.1 at w l (omega (arith, h.separator.0)) in
@@ -188,5 +188,5 @@ module _ (cuts : Cuts) (sound_leaf : IsCut cuts.leaf) (sound_index : IsCut cuts.
   grown_is fresh rows [] leaves at w fits many = grown_leaves fresh rows leaves at w fits.0 many
   grown_is fresh rows (nodes ∷ more) leaves at w fits many =
       let b = grown cuts fresh x (rows_of nodes) more leaves in
-      risen_is fresh rows nodes more leaves at w fits.0 fits.1 fits.2 many b b.separator
+      separator_is fresh rows nodes more leaves at w fits.0 fits.1 fits.2 many b b.separator
       (grown_is fresh (rows_of nodes) more leaves (rows_start low high rows nodes at fits.0 fits.1) (level_within low high rows nodes w fits.0) fits.3 (omega (arith, many)))

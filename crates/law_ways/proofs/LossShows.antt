@@ -11,7 +11,7 @@ use Rattle.spec_ways.specs.Rows.{with_first_key}
 use Rattle.spec_ways.specs.Sinks.{Loss, Untouched, Keeps, Goes, with_last_next, with_edge, after_loss, IsSunk, edge_below, AreSunk, freed_page, freed_pages}
 use Rattle.law_ways.proofs.Fits.{Fits, count, all_pages}
 use Rattle.law_ways.proofs.GrowLaws.{count_append}
-use Rattle.law_ways.proofs.ShowLaws.{wrote_here, wrote_there, counts_self, uncounted, shows_join, shows_parts, shows_same, shows_wrote, tree_same, pages_join, linked_at}
+use Rattle.law_ways.proofs.ShowLaws.{with_page_here, with_page_there, counts_self, uncounted, shows_join, shows_parts, shows_same, shows_wrote, tree_same, pages_join, linked_at}
 
 abbrev last_page : {V : Type 0} → List (Node V) → ℕ
 last_page [] = 0
@@ -33,11 +33,11 @@ prev_is_last : {V : Type 0} (left : List (Node V)) (p : ℕ) → Behind 0 left p
 prev_is_last [] p h = h.none refl
 prev_is_last (m ∷ ms) p h = h.some (omega arith)
 
-edged_pages : {V : Type 0} (q : ℕ) (edge : Option ℕ) (right : List (Node V)) → pages_of (with_first_prev q (with_edge edge right)) ≡ pages_of right
-edged_pages q None [] = refl
-edged_pages q (Some g) [] = refl
-edged_pages q None (m ∷ ms) = refl
-edged_pages q (Some g) (m ∷ ms) = refl
+edges_pages : {V : Type 0} (q : ℕ) (edge : Option ℕ) (right : List (Node V)) → pages_of (with_first_prev q (with_edge edge right)) ≡ pages_of right
+edges_pages q None [] = refl
+edges_pages q (Some g) [] = refl
+edges_pages q None (m ∷ ms) = refl
+edges_pages q (Some g) (m ∷ ms) = refl
 
 next_pages : {V : Type 0} (q : ℕ) (left : List (Node V)) → pages_of (with_last_next q left) ≡ pages_of left
 next_pages q [] = refl
@@ -61,8 +61,8 @@ module _ {V : Type 0} (shape : Node V → Page) (prev_shaped : (q : ℕ) (n : No
       ap (λ b. if b then image else with_page p (page_with_next q (image p)) image) e ∙ ap (λ j. with_page j (page_with_next q (image j)) image) is in
       let now = page_with_next q (image n.page) in
       record {
-        shows = (ap (λ (i : Pages). i n.page) f ∙ wrote_here n.page now image ∙ ap (page_with_next q) s.0 ∙ next_shaped q n, tt);
-        same = λ j none. ap (λ (i : Pages). i j) f ∙ wrote_there n.page j now image (uncounted j n.page [] none);
+        shows = (ap (λ (i : Pages). i n.page) f ∙ with_page_here n.page now image ∙ ap (page_with_next q) s.0 ∙ next_shaped q n, tt);
+        same = λ j none. ap (λ (i : Pages). i j) f ∙ with_page_there n.page j now image (uncounted j n.page [] none);
       }
   next_shows p q (n ∷ m ∷ ns) image is nonzero once s =
       let h = next_shows p q (m ∷ ns) image is (omega (arith, nonzero)) (λ j. let a = once j in omega (arith, a)) s.1 in
@@ -77,10 +77,10 @@ module _ {V : Type 0} (shape : Node V → Page) (prev_shaped : (q : ℕ) (n : No
     shows : ShowsLevel shape image' (with_first_prev q (with_edge edge right))
     same : (p : ℕ) → count p (pages_of right) ≡ 0 → image' p ≡ image p
 
-  edged_page : (q : ℕ) (edge : Option ℕ) (m : Node V) (ms : List (Node V)) (image image' : Pages) → image m.page ≡ shape m → image' m.page ≡ page_with_prev q (page_with_edge edge (image m.page))
+  edges_page : (q : ℕ) (edge : Option ℕ) (m : Node V) (ms : List (Node V)) (image image' : Pages) → image m.page ≡ shape m → image' m.page ≡ page_with_prev q (page_with_edge edge (image m.page))
       → ShowsLevel shape image' ms → ShowsLevel shape image' (with_first_prev q (with_edge edge (m ∷ ms)))
-  edged_page q None m ms image image' is now s = (now ∙ ap (page_with_prev q) is ∙ prev_shaped q m, s)
-  edged_page q (Some g) m ms image image' is now s = (
+  edges_page q None m ms image image' is now s = (now ∙ ap (page_with_prev q) is ∙ prev_shaped q m, s)
+  edges_page q (Some g) m ms image image' is now s = (
     now ∙ ap (λ x. page_with_prev q (page_with_edge (Some g) x)) is ∙ ap (page_with_prev q) (edge_shaped g m)
         ∙ prev_shaped q (record { page = m.page; prev = m.prev; next = m.next; rows = with_first_key g m.rows }),
     s,
@@ -104,9 +104,9 @@ module _ {V : Type 0} (shape : Node V → Page) (prev_shaped : (q : ℕ) (n : No
       let o = once m.page in
       let c = counts_self m.page (pages_of ms) in
       record {
-        shows = edged_page q edge m ms image (behind_written p q edge image) s.0 (ap (λ (i : Pages). i m.page) f ∙ wrote_here m.page now image)
+        shows = edges_page q edge m ms image (behind_written p q edge image) s.0 (ap (λ (i : Pages). i m.page) f ∙ with_page_here m.page now image)
             (subst (λ i. ShowsLevel shape i ms) (sym f) (shows_wrote shape m.page now image ms (omega (arith, o, c)) s.1));
-        same = λ j none. ap (λ (i : Pages). i j) f ∙ wrote_there m.page j now image (uncounted j m.page (pages_of ms) none);
+        same = λ j none. ap (λ (i : Pages). i j) f ∙ with_page_there m.page j now image (uncounted j m.page (pages_of ms) none);
       }
 
   record LossShows (image image' : Pages) (left : List (Node V)) (n : Node V) (right : List (Node V)) (loss : Loss V) (edge : Option ℕ) : Type 0 where
@@ -125,8 +125,8 @@ module _ {V : Type 0} (shape : Node V → Page) (prev_shaped : (q : ℕ) (n : No
       let c = counts_self n.page [] in
       record {
         shows = shows_join shape (with_page n.page (shape n') image) left (n' ∷ right) (shows_wrote shape n.page (shape n') image left (omega (arith, o, c)) parts.0)
-            (wrote_here n.page (shape n') image, shows_wrote shape n.page (shape n') image right (omega (arith, o, c)) parts.1.1);
-        same = λ p none. wrote_there n.page p (shape n') image (uncounted p n.page [] (omega (arith, none)));
+            (with_page_here n.page (shape n') image, shows_wrote shape n.page (shape n') image right (omega (arith, o, c)) parts.1.1);
+        same = λ p none. with_page_there n.page p (shape n') image (uncounted p n.page [] (omega (arith, none)));
       }
   loss_shows image left n right Goes edge next prev zero_left zero_right once s =
       let parts = shows_parts shape image left (n ∷ right) s in
@@ -138,7 +138,7 @@ module _ {V : Type 0} (shape : Node V → Page) (prev_shaped : (q : ℕ) (n : No
       let behind = with_first_prev n.prev (with_edge edge right) in
       record {
         shows = shows_join shape two (with_last_next (first_page right) left) behind (subst (λ q. ShowsLevel shape two (with_last_next q left)) next k.shows)
-            (shows_same shape one two behind (λ p some. k.same p (let a = once p in let b = ap (count p) (edged_pages n.prev edge right) in omega (arith, a, b, some))) h.shows);
+            (shows_same shape one two behind (λ p some. k.same p (let a = once p in let b = ap (count p) (edges_pages n.prev edge right) in omega (arith, a, b, some))) h.shows);
         same = λ p none. k.same p (omega (arith, none)) ∙ h.same p (omega (arith, none));
       }
 
@@ -155,7 +155,7 @@ lost_pages (Keeps rows below) edge left n right p = let a = pages_join p left (r
 lost_pages Goes edge left n right p =
     let a = pages_join p (with_last_next (first_page right) left) (with_first_prev n.prev (with_edge edge right)) in
     let b = ap (count p) (next_pages (first_page right) left) in
-    let c = ap (count p) (edged_pages n.prev edge right) in omega (arith, a, b, c)
+    let c = ap (count p) (edges_pages n.prev edge right) in omega (arith, a, b, c)
 
 level_lost : {V : Type 0} (shape : Node V → Page) → ((q : ℕ) (n : Node V) → page_with_prev q (shape n) ≡ shape (record { page = n.page; prev = q; next = n.next; rows = n.rows }))
     → ((q : ℕ) (n : Node V) → page_with_next q (shape n) ≡ shape (record { page = n.page; prev = n.prev; next = q; rows = n.rows }))

@@ -10,7 +10,7 @@ use Rattle.spec_ways.specs.Sinks.{Loss, Untouched, Keeps, Goes, edge_below}
 use Rattle.spec_ways.specs.Pages.{Page, LeafPage, IndexPage, Pages, with_page}
 use Rattle.spec_ways.specs.InsertWrites.{page_with_prev, step_written, steps_written, halves_written, raise_written, insert_written, split_next, split_nexts, insert_reads}
 use Rattle.spec_ways.specs.DeleteWrites.{page_with_next, page_with_edge, behind_written, loss_written, losses_written, delete_written, neighbours, all_neighbours, left_edge, collapsed_children}
-use Rattle.law_ways.proofs.ShowLaws.{wrote_there}
+use Rattle.law_ways.proofs.ShowLaws.{with_page_there}
 use Rattle.law_ways.specs.InsertLaws.{InsertKeepsOthers}
 use Rattle.law_ways.specs.DeleteLaws.{DeleteKeepsOthers}
 
@@ -34,17 +34,17 @@ changed_there change q p image none = by_test (q == 0) none
   where
     by_test : (t : Bool) → Not (if t then [] else q ∷ []) p → (if t then image else with_page q (change (image q)) image) p ≡ image p
     by_test true none = refl
-    by_test false none = wrote_there q p (change (image q)) image (not_first q [] p none)
+    by_test false none = with_page_there q p (change (image q)) image (not_first q [] p none)
 
 module _ {V : Type 0} (kind : Node V → Page) (p : ℕ) where
   step_there : (n : Node V) (step : Step V) (image : Pages) → (p ≡ n.page → ⊥) → Not (split_next step n) p → Not (new_page step) p → step_written kind n step image p ≡ image p
   step_there n Stays image other next new = refl
-  step_there n (Grows rows) image other next new = wrote_there n.page p (kind (record { page = n.page; prev = n.prev; next = n.next; rows = rows })) image other
+  step_there n (Grows rows) image other next new = with_page_there n.page p (kind (record { page = n.page; prev = n.prev; next = n.next; rows = rows })) image other
   step_there n (Splits rows right more) image other next new =
       let x = kind (record { page = n.page; prev = n.prev; next = right; rows = rows }) in
       let y = kind (record { page = right; prev = n.page; next = n.next; rows = more }) in
       changed_there (page_with_prev right) n.next p (with_page right y (with_page n.page x image)) next
-      ∙ wrote_there right p y (with_page n.page x image) (not_first right [] p new) ∙ wrote_there n.page p x image other
+      ∙ with_page_there right p y (with_page n.page x image) (not_first right [] p new) ∙ with_page_there n.page p x image other
 
   halves_there : (level root right : ℕ) (step : Step V) (image : Pages) → (p ≡ root → ⊥) → (p ≡ right → ⊥) → Not (new_page step) p → halves_written kind level root right step image p ≡ image p
   halves_there level root right Stays image at_root at_right new = refl
@@ -52,12 +52,12 @@ module _ {V : Type 0} (kind : Node V → Page) (p : ℕ) where
   halves_there level root right (Splits rows left more) image at_root at_right new =
       let x = kind (record { page = left; prev = 0; next = right; rows = rows }) in
       let y = kind (record { page = right; prev = left; next = 0; rows = more }) in
-      wrote_there root p _ (with_page right y (with_page left x image)) at_root
-      ∙ wrote_there right p y (with_page left x image) at_right ∙ wrote_there left p x image (not_first left [] p new)
+      with_page_there root p _ (with_page right y (with_page left x image)) at_root
+      ∙ with_page_there right p y (with_page left x image) at_right ∙ with_page_there left p x image (not_first left [] p new)
 
   loss_there : (n : Node V) (loss : Loss V) (edge : Option ℕ) (image : Pages) → (p ≡ n.page → ⊥) → Not (neighbours loss n) p → loss_written kind n loss edge image p ≡ image p
   loss_there n Untouched edge image other none = refl
-  loss_there n (Keeps rows below) edge image other none = wrote_there n.page p (kind (record { page = n.page; prev = n.prev; next = n.next; rows = rows })) image other
+  loss_there n (Keeps rows below) edge image other none = with_page_there n.page p (kind (record { page = n.page; prev = n.prev; next = n.next; rows = rows })) image other
   loss_there n Goes edge image other none =
       let prevs = if n.prev == 0 then [] else n.prev ∷ [] in
       let nexts = if n.next == 0 then [] else n.next ∷ [] in
@@ -135,5 +135,5 @@ delete_keeps_others root way c image on_way p none =
   where
     by_root : (o : Option ℕ) → Not (way_pages way) p → (p ≡ root → ⊥) → Not (neighbours c.leaf way.leaf) p → Not (all_neighbours way.above c.above) p → delete_written root way c o image p ≡ image p
     by_root None along at_root low high =
-        wrote_there root p _ (losses_written None way.above c.above way.leaf c.leaf image) at_root ∙ losses_there p None way.above c.above way.leaf c.leaf image along low high
-    by_root (Some key) along at_root low high = wrote_there root p _ image at_root
+        with_page_there root p _ (losses_written None way.above c.above way.leaf c.leaf image) at_root ∙ losses_there p None way.above c.above way.leaf c.leaf image along low high
+    by_root (Some key) along at_root low high = with_page_there root p _ image at_root

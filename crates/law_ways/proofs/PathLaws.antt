@@ -12,9 +12,9 @@ use Rattle.law_ways.proofs.Bounds.{Within, shifted, rows_behind, next_key}
 use Rattle.law_ways.proofs.Fits.{Level, Starts, StartsAt, Fits, count, all_pages}
 use Rattle.law_ways.proofs.GrowLaws.{rows_start, starts_append, count_append}
 use Rattle.law_ways.proofs.PutLaws.{level_within, here_within, put_later, AreAlike}
-use Rattle.law_ways.proofs.RowLaws.{join_within, held_left, held_right}
+use Rattle.law_ways.proofs.RowLaws.{join_within, value_left, value_right}
 use Rattle.law_ways.proofs.TowardLaws.{toward_here, toward_later, row_left, row_right}
-use Rattle.law_ways.proofs.TakeLaws.{take_later, shifted_same, shifted_other, headed_same, heads_same}
+use Rattle.law_ways.proofs.TakeLaws.{take_later, shifted_same, shifted_other, first_key_same, first_keys_same}
 use Rattle.std.proofs.lemmas.Grind.{flat_map-append}
 
 abbrev pub onto : {V : Type 0} → List (Node V) → Put V → Put V
@@ -63,11 +63,11 @@ module _ {V : Type 0} where
     | inr other ↦ let h = page_counts p ns n (sym (page_later p m ns other) ∙ e) in omega (arith, h)
   ]
 
-  heads_headed : (g : ℕ) (rest : List (Row ℕ)) (ns : List (Node V)) → Level None rest ns → Starts rest ns → with_first_keys (with_first_key g rest) ns ≡ with_edge (Some g) ns
-  heads_headed g [] [] l s = refl
-  heads_headed g [] (m ∷ ns) l s = absurd l
-  heads_headed g (q ∷ rest) [] l s = absurd l
-  heads_headed g (q ∷ rest) (m ∷ ns) l s = ap (λ l. record { page = m.page; prev = m.prev; next = m.next; rows = with_first_key g m.rows } ∷ l) (heads_same rest ns s.1)
+  first_keys_headed : (g : ℕ) (rest : List (Row ℕ)) (ns : List (Node V)) → Level None rest ns → Starts rest ns → with_first_keys (with_first_key g rest) ns ≡ with_edge (Some g) ns
+  first_keys_headed g [] [] l s = refl
+  first_keys_headed g [] (m ∷ ns) l s = absurd l
+  first_keys_headed g (q ∷ rest) [] l s = absurd l
+  first_keys_headed g (q ∷ rest) (m ∷ ns) l s = ap (λ l. record { page = m.page; prev = m.prev; next = m.next; rows = with_first_key g m.rows } ∷ l) (first_keys_same rest ns s.1)
 
   -- the page of a level where the key belongs, among those before it and behind it
   pub record Spot (k low : ℕ) (rows : List (Row ℕ)) (nodes : List (Node V)) : Type 0 where
@@ -114,7 +114,7 @@ module _ {V : Type 0} where
     within = l.1;
     behind = subst (λ l. Level None l ns) (sym (behind_same r.key r rest refl)) l.2;
     behind_starts = λ s. subst (λ l. Starts l ns) (sym (behind_same r.key r rest refl)) s.1;
-    edges = λ g at s. ap (λ l. with_first_keys l ns) (shifted_same g r rest at) ∙ heads_headed g rest ns l.2 s.1;
+    edges = λ g at s. ap (λ l. with_first_keys l ns) (shifted_same g r rest at) ∙ first_keys_headed g rest ns l.2 s.1;
     takes = λ change j alike. let f = here_alike k j rest alike.1 e in rw f refl;
   }
 
@@ -147,7 +147,7 @@ module _ {V : Type 0} where
         edges = λ g at st.
             let f = h.least in
             ap (λ l. with_first_keys l (n ∷ h.left ++ h.right)) (shifted_other g r (s ∷ rest) (λ same. omega (arith, same, at, f, w.2.0)))
-            ∙ ap (λ (rs : List (Row V)). record { page = n.page; prev = n.prev; next = n.next; rows = rs } ∷ with_first_keys (shifted g (s ∷ rest)) (h.left ++ h.right)) (headed_same r.key n.rows st.0)
+            ∙ ap (λ (rs : List (Row V)). record { page = n.page; prev = n.prev; next = n.next; rows = rs } ∷ with_first_keys (shifted g (s ∷ rest)) (h.left ++ h.right)) (first_key_same r.key n.rows st.0)
             ∙ ap (λ l. n ∷ l) (h.edges g at st.1);
         takes = λ change j alike. take_later change j r (s ∷ rest) n (m ∷ ns) (sym alike.1.0 ∙ e) ∙ ap (λ c. before_taken n c) (h.takes change j alike.1);
       }
@@ -173,8 +173,8 @@ module _ {V : Type 0} where
 
   pub spot_holds : (k low : ℕ) (rows : List (Row ℕ)) (nodes : List (Node V)) (s : Spot k low rows nodes) → low ≤ k → value_at k s.node.rows ≡ value_at k (rows_of nodes)
   spot_holds k low rows nodes s le =
-      sym (held_left (suc k) None k s.node.rows (rows_of s.right) (omega arith) s.back)
-      ∙ sym (held_right low s.key k (rows_of s.left) (s.node.rows ++ rows_of s.right) (s.not_above le) s.front)
+      sym (value_left (suc k) None k s.node.rows (rows_of s.right) (omega arith) s.back)
+      ∙ sym (value_right low s.key k (rows_of s.left) (s.node.rows ++ rows_of s.right) (s.not_above le) s.front)
       ∙ ap (value_at k) (sym (spot_rows k low rows nodes s))
 
 pub spot_toward : (of : Row ℕ → ℕ) (k low : ℕ) (rows : List (Row ℕ)) (nodes : List (Node ℕ)) (s : Spot k low rows nodes) → low ≤ k → Starts rows nodes

@@ -9,7 +9,7 @@ use Rattle.spec_ways.specs.Rows.{lowest_key}
 use Rattle.spec_ways.specs.Ways.{Way}
 use Rattle.law_ways.proofs.Fits.{Level, Fits, count, all_pages}
 use Rattle.law_ways.proofs.GrowLaws.{count_append}
-use Rattle.law_ways.proofs.ShowLaws.{wrote_here, wrote_there, counts_self, uncounted, tree_same, steps_show, steps_long}
+use Rattle.law_ways.proofs.ShowLaws.{with_page_here, with_page_there, counts_self, uncounted, tree_same, steps_show, steps_long}
 use Rattle.law_ways.proofs.ByKey.{climb_through_by_key, climb_by_key}
 
 -- a level of one page
@@ -67,11 +67,11 @@ module _ {V : Type 0} where
       let q_right : q ≡ right → ⊥ = uncounted q right [] (omega (arith, o, c)) in
       let right_root : right ≡ root → ⊥ = uncounted right root [] (omega (arith, o', c')) in
       record {
-        top = wrote_here root t two;
-        left_half = wrote_there root q t two q_root ∙ wrote_there right q (shape b) one q_right ∙ wrote_here q (shape a) image;
-        right_half = wrote_there root right t two right_root ∙ wrote_here right (shape b) one;
-        same = λ p none. wrote_there root p t two (uncounted p root [] (omega (arith, none)))
-            ∙ wrote_there right p (shape b) one (uncounted p right [] (omega (arith, none))) ∙ wrote_there q p (shape a) image (uncounted p q [] (omega (arith, none)));
+        top = with_page_here root t two;
+        left_half = with_page_there root q t two q_root ∙ with_page_there right q (shape b) one q_right ∙ with_page_here q (shape a) image;
+        right_half = with_page_there root right t two right_root ∙ with_page_here right (shape b) one;
+        same = λ p none. with_page_there root p t two (uncounted p root [] (omega (arith, none)))
+            ∙ with_page_there right p (shape b) one (uncounted p right [] (omega (arith, none))) ∙ with_page_there q p (shape a) image (uncounted p q [] (omega (arith, none)));
       }
 
 abbrev pub top_up : List (Step ℕ) → Step Payload → Option (Row ℕ)

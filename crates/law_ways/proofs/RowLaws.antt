@@ -27,11 +27,11 @@ module _ {V : Type 0} where
   pub without_other : (k : ℕ) (y : Row V) (ys : List (Row V)) → (k ≡ y.key → ⊥) → without k (y ∷ ys) ≡ y ∷ without k ys
   without_other k y ys other = let f = ne_eqb k y.key other in rw f refl
 
-  pub held_same : (k : ℕ) (y : Row V) (ys : List (Row V)) → k ≡ y.key → value_at k (y ∷ ys) ≡ Some y.value
-  held_same k y ys same = let f = eq-eqb k y.key same in rw f refl
+  pub value_same : (k : ℕ) (y : Row V) (ys : List (Row V)) → k ≡ y.key → value_at k (y ∷ ys) ≡ Some y.value
+  value_same k y ys same = let f = eq-eqb k y.key same in rw f refl
 
-  pub held_other : (k : ℕ) (y : Row V) (ys : List (Row V)) → (k ≡ y.key → ⊥) → value_at k (y ∷ ys) ≡ value_at k ys
-  held_other k y ys other = let f = ne_eqb k y.key other in rw f refl
+  pub value_other : (k : ℕ) (y : Row V) (ys : List (Row V)) → (k ≡ y.key → ⊥) → value_at k (y ∷ ys) ≡ value_at k ys
+  value_other k y ys other = let f = ne_eqb k y.key other in rw f refl
 
   -- bounds that widen
   pub from_lower : (low low' : ℕ) (high : Option ℕ) (xs : List (Row V)) → low' ≤ low → Within low high xs → Within low' high xs
@@ -103,15 +103,15 @@ module _ {V : Type 0} where
   pub holds_none : (low : ℕ) (high : Option ℕ) (k : ℕ) (xs : List (Row V)) → k < low → Within low high xs → value_at k xs ≡ None
   holds_none low high k [] less w = refl
   holds_none low high k (x ∷ xs) less w =
-      held_other k x xs (λ same. omega (arith, same, less, w.0)) ∙ holds_none (suc x.key) high k xs (omega (arith, less, w.0)) w.2
+      value_other k x xs (λ same. omega (arith, same, less, w.0)) ∙ holds_none (suc x.key) high k xs (omega (arith, less, w.0)) w.2
 
-  pub held_left : (low : ℕ) (high : Option ℕ) (k : ℕ) (xs ys : List (Row V)) → k < low → Within low high ys → value_at k (xs ++ ys) ≡ value_at k xs
-  held_left low high k [] ys less w = holds_none low high k ys less w
-  held_left low high k (z ∷ zs) ys less w = elim (cases_eq k z.key) [
-    | inl same ↦ held_same k z (zs ++ ys) same ∙ sym (held_same k z zs same)
-    | inr other ↦ held_other k z (zs ++ ys) other ∙ held_left low high k zs ys less w ∙ sym (held_other k z zs other)
+  pub value_left : (low : ℕ) (high : Option ℕ) (k : ℕ) (xs ys : List (Row V)) → k < low → Within low high ys → value_at k (xs ++ ys) ≡ value_at k xs
+  value_left low high k [] ys less w = holds_none low high k ys less w
+  value_left low high k (z ∷ zs) ys less w = elim (cases_eq k z.key) [
+    | inl same ↦ value_same k z (zs ++ ys) same ∙ sym (value_same k z zs same)
+    | inr other ↦ value_other k z (zs ++ ys) other ∙ value_left low high k zs ys less w ∙ sym (value_other k z zs other)
   ]
 
-  pub held_right : (low mid k : ℕ) (xs ys : List (Row V)) → mid ≤ k → Within low (Some mid) xs → value_at k (xs ++ ys) ≡ value_at k ys
-  held_right low mid k [] ys le w = refl
-  held_right low mid k (z ∷ zs) ys le w = held_other k z (zs ++ ys) (λ same. omega (arith, same, le, w.1)) ∙ held_right (suc z.key) mid k zs ys le w.2
+  pub value_right : (low mid k : ℕ) (xs ys : List (Row V)) → mid ≤ k → Within low (Some mid) xs → value_at k (xs ++ ys) ≡ value_at k ys
+  value_right low mid k [] ys le w = refl
+  value_right low mid k (z ∷ zs) ys le w = value_other k z (zs ++ ys) (λ same. omega (arith, same, le, w.1)) ∙ value_right (suc z.key) mid k zs ys le w.2

@@ -6,7 +6,7 @@ use Rattle.spec_levels.specs.Levels.{Row}
 use Rattle.spec_ways.specs.Rows.{value_at, value_found}
 use Rattle.spec_ways.specs.Ways.{are_above, row_toward}
 use Rattle.law_ways.proofs.Bounds.{Within}
-use Rattle.law_ways.proofs.RowLaws.{held_same, held_other}
+use Rattle.law_ways.proofs.RowLaws.{value_same, value_other}
 use Rattle.law_ways.proofs.RowValues.{none_below}
 use Rattle.law_ways.specs.WayLaws.{AreAbove, IsLastNotAbove, RowsLead}
 
@@ -59,11 +59,11 @@ module _ {V : Type 0} where
   found_is low high k (x ∷ xs) w = elim (cases_order k x.key) [
     | inl same ↦
         found_here k x xs (le-ltb x.key k (omega (arith, same)))
-        ∙ ap (λ (b : Bool). if b then Some x.value else None) (eq-eqb k x.key same) ∙ sym (held_same k x xs same)
+        ∙ ap (λ (b : Bool). if b then Some x.value else None) (eq-eqb k x.key same) ∙ sym (value_same k x xs same)
     | inr (inl less) ↦
         found_here k x xs (le-ltb x.key k (omega (arith, less)))
         ∙ ap (λ (b : Bool). if b then Some x.value else None) (ne_eqb k x.key (λ same. omega (arith, same, less)))
         ∙ sym (none_below k x.key high (x ∷ xs) less (omega arith, w.1, w.2))
     | inr (inr more) ↦
-        found_later k x xs (lt-ltb x.key k more) ∙ found_is (suc x.key) high k xs w.2 ∙ sym (held_other k x xs (λ same. omega (arith, same, more)))
+        found_later k x xs (lt-ltb x.key k more) ∙ found_is (suc x.key) high k xs w.2 ∙ sym (value_other k x xs (λ same. omega (arith, same, more)))
   ]

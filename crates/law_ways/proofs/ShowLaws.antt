@@ -9,11 +9,11 @@ use Rattle.spec_ways.specs.Pages.{Page, LeafPage, IndexPage, Pages, ShowsLevel, 
 use Rattle.law_ways.proofs.Fits.{Fits, count, all_pages}
 use Rattle.law_ways.proofs.GrowLaws.{count_append}
 
-pub wrote_here : (p : ℕ) (now : Page) (image : Pages) → with_page p now image p ≡ now
-wrote_here p now image = let e = eq-eqb p p refl in rw e refl
+pub with_page_here : (p : ℕ) (now : Page) (image : Pages) → with_page p now image p ≡ now
+with_page_here p now image = let e = eq-eqb p p refl in rw e refl
 
-pub wrote_there : (p q : ℕ) (now : Page) (image : Pages) → (q ≡ p → ⊥) → with_page p now image q ≡ image q
-wrote_there p q now image other = let e = ne_eqb q p other in rw e refl
+pub with_page_there : (p q : ℕ) (now : Page) (image : Pages) → (q ≡ p → ⊥) → with_page p now image q ≡ image q
+with_page_there p q now image other = let e = ne_eqb q p other in rw e refl
 
 -- a page that is counted no more
 pub counts_self : (p : ℕ) (qs : List ℕ) → count p (p ∷ qs) ≡ 1 + count p qs
@@ -41,7 +41,7 @@ module _ {V : Type 0} (shape : Node V → Page) where
 
   pub shows_wrote : (p : ℕ) (now : Page) (image : Pages) (nodes : List (Node V)) → count p (pages_of nodes) ≡ 0 → ShowsLevel shape image nodes → ShowsLevel shape (with_page p now image) nodes
   shows_wrote p now image nodes none s =
-      shows_same image (with_page p now image) nodes (λ q some. wrote_there p q now image (λ same. let e = subst (λ j. 0 < count j (pages_of nodes)) same some in omega (arith, e, none))) s
+      shows_same image (with_page p now image) nodes (λ q some. with_page_there p q now image (λ same. let e = subst (λ j. 0 < count j (pages_of nodes)) same some in omega (arith, e, none))) s
 
   after_pages : (step : Step V) (right : List (Node V)) → pages_of (behind_step step right) ≡ pages_of right
   after_pages Stays right = refl
@@ -72,8 +72,8 @@ module _ {V : Type 0} (shape : Node V → Page) where
         let c = counts_self m.page (pages_of ms) in (
           subst (λ i. ShowsLevel shape i left) (sym f) (shows_wrote m.page now image left (omega (arith, o, c)) s),
           subst (λ i. ShowsLevel shape i (with_first_prev q (m ∷ ms))) (sym f)
-              (wrote_here m.page now image ∙ ap (page_with_prev q) t.0 ∙ shaped q m, shows_wrote m.page now image ms (omega (arith, o, c)) t.1),
-          λ p none. ap (λ (i : Pages). i p) f ∙ wrote_there m.page p now image (uncounted p m.page (pages_of ms) none),
+              (with_page_here m.page now image ∙ ap (page_with_prev q) t.0 ∙ shaped q m, shows_wrote m.page now image ms (omega (arith, o, c)) t.1),
+          λ p none. ap (λ (i : Pages). i p) f ∙ with_page_there m.page p now image (uncounted p m.page (pages_of ms) none),
         )
 
     step_shows : (image : Pages) (left : List (Node V)) (n : Node V) (right : List (Node V)) (step : Step V) → n.next ≡ first_page right → count 0 (pages_of right) ≡ 0
@@ -87,8 +87,8 @@ module _ {V : Type 0} (shape : Node V → Page) where
         let c = counts_self n.page [] in
         record {
           shows = shows_join (with_page n.page (shape n') image) left (n' ∷ right) (shows_wrote n.page (shape n') image left (omega (arith, o, c)) parts.0)
-              (wrote_here n.page (shape n') image, shows_wrote n.page (shape n') image right (omega (arith, o, c)) parts.1.1);
-          same = λ p none. wrote_there n.page p (shape n') image (uncounted p n.page [] (omega (arith, none)));
+              (with_page_here n.page (shape n') image, shows_wrote n.page (shape n') image right (omega (arith, o, c)) parts.1.1);
+          same = λ p none. with_page_there n.page p (shape n') image (uncounted p n.page [] (omega (arith, none)));
         }
     step_shows image left n right (Splits rows q more) is nonzero once s =
         let parts = shows_parts image left (n ∷ right) s in
@@ -103,8 +103,8 @@ module _ {V : Type 0} (shape : Node V → Page) where
         let apart : count q (n.page ∷ []) ≡ 0 = omega (arith, o', c') in
         let left_two = shows_wrote q (shape x) one left (omega (arith, o', c')) (shows_wrote n.page (shape n') image left (omega (arith, o, c)) parts.0) in
         let right_two = shows_wrote q (shape x) one right (omega (arith, o', c')) (shows_wrote n.page (shape n') image right (omega (arith, o, c)) parts.1.1) in
-        let n_two : two n.page ≡ shape n' = wrote_there q n.page (shape x) one (λ same. uncounted q n.page [] apart (sym same)) ∙ wrote_here n.page (shape n') image in
-        let front = shows_join two left (n' ∷ x ∷ []) left_two (n_two, (wrote_here q (shape x) one, tt)) in
+        let n_two : two n.page ≡ shape n' = with_page_there q n.page (shape x) one (λ same. uncounted q n.page [] apart (sym same)) ∙ with_page_here n.page (shape n') image in
+        let front = shows_join two left (n' ∷ x ∷ []) left_two (n_two, (with_page_here q (shape x) one, tt)) in
         let h = prev_shows two q (left ++ (n' ∷ x ∷ [])) right n.next is nonzero
         (λ p. let a = once p in let b = pages_join p left (n' ∷ x ∷ []) in omega (arith, a, b)) front right_two in
         let three = prev_written n.next q two in
@@ -112,7 +112,7 @@ module _ {V : Type 0} (shape : Node V → Page) where
         record {
           shows = shows_join three left (n' ∷ x ∷ with_first_prev q right) back.0 (back.1.0, (back.1.1.0, h.1));
           same = λ p none. h.2 p (omega (arith, none))
-              ∙ wrote_there q p (shape x) one (uncounted p q [] (omega (arith, none))) ∙ wrote_there n.page p (shape n') image (uncounted p n.page [] (omega (arith, none)));
+              ∙ with_page_there q p (shape x) one (uncounted p q [] (omega (arith, none))) ∙ with_page_there n.page p (shape n') image (uncounted p n.page [] (omega (arith, none)));
         }
       where
         pages_join : (p : ℕ) (xs ys : List (Node V)) → count p (pages_of (xs ++ ys)) ≡ count p (pages_of xs) + count p (pages_of ys)

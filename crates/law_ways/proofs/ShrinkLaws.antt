@@ -9,32 +9,32 @@ use Rattle.law_ways.proofs.Bounds.{Within, shifted, HasKey}
 use Rattle.law_ways.proofs.Fits.{Level, Starts, StartsAt, Fits, count, all_pages}
 use Rattle.law_ways.proofs.GrowLaws.{linked_is, linked_rows, linked_pages, linked_level, linked_starts, rows_start, count_append}
 use Rattle.law_ways.proofs.PutLaws.{level_within}
-use Rattle.law_ways.proofs.TakeLaws.{heads_same, heads_linked, heads_pages, IsLeft, leaf_taken_at, IsCutOut, index_out_at}
-use Rattle.law_ways.proofs.TopLaws.{topped_is, level_pages}
+use Rattle.law_ways.proofs.TakeLaws.{first_keys_same, first_keys_linked, first_keys_pages, IsLeft, leaf_taken_at, IsCutOut, index_out_at}
+use Rattle.law_ways.proofs.TopLaws.{top_is, level_pages}
 
 -- the edge of levels whose pages begin with their keys
-pub edged_same : (rows : List (Row ℕ)) (above : List (List (Node ℕ))) (leaves : List (Node Payload)) → Fits None rows above leaves → with_left_edges rows above ≡ above
-edged_same rows [] leaves f = refl
-edged_same rows (nodes ∷ more) leaves f =
-    ap (λ (ns : List (Node ℕ)). ns ∷ with_left_edges (rows_of ns) more) (heads_same rows nodes f.1) ∙ ap (λ l. nodes ∷ l) (edged_same (rows_of nodes) more leaves f.3)
+pub edges_same : (rows : List (Row ℕ)) (above : List (List (Node ℕ))) (leaves : List (Node Payload)) → Fits None rows above leaves → with_left_edges rows above ≡ above
+edges_same rows [] leaves f = refl
+edges_same rows (nodes ∷ more) leaves f =
+    ap (λ (ns : List (Node ℕ)). ns ∷ with_left_edges (rows_of ns) more) (first_keys_same rows nodes f.1) ∙ ap (λ l. nodes ∷ l) (edges_same (rows_of nodes) more leaves f.3)
 
-edged_pages : (rows : List (Row ℕ)) (above : List (List (Node ℕ))) (leaves : List (Node Payload)) → all_pages (with_left_edges rows above) leaves ≡ all_pages above leaves
-edged_pages rows [] leaves = refl
-edged_pages rows (nodes ∷ more) leaves =
-    ap (λ l. l ++ all_pages (with_left_edges (rows_of (with_first_keys rows nodes)) more) leaves) (heads_pages rows nodes)
-    ∙ ap (λ l. pages_of nodes ++ l) (edged_pages (rows_of (with_first_keys rows nodes)) more leaves)
+edges_pages : (rows : List (Row ℕ)) (above : List (List (Node ℕ))) (leaves : List (Node Payload)) → all_pages (with_left_edges rows above) leaves ≡ all_pages above leaves
+edges_pages rows [] leaves = refl
+edges_pages rows (nodes ∷ more) leaves =
+    ap (λ l. l ++ all_pages (with_left_edges (rows_of (with_first_keys rows nodes)) more) leaves) (first_keys_pages rows nodes)
+    ∙ ap (λ l. pages_of nodes ++ l) (edges_pages (rows_of (with_first_keys rows nodes)) more leaves)
 
-edged_height : (rows : List (Row ℕ)) (above : List (List (Node ℕ))) → length (with_left_edges rows above) ≡ length above
-edged_height rows [] = refl
-edged_height rows (nodes ∷ more) = ap suc (edged_height (rows_of (with_first_keys rows nodes)) more)
+edges_height : (rows : List (Row ℕ)) (above : List (List (Node ℕ))) → length (with_left_edges rows above) ≡ length above
+edges_height rows [] = refl
+edges_height rows (nodes ∷ more) = ap suc (edges_height (rows_of (with_first_keys rows nodes)) more)
 
-settled_pages : (o : Option ℕ) (rows : List (Row ℕ)) (below : List (List (Node ℕ))) (leaves : List (Node Payload)) → all_pages (below_loss o rows below) leaves ≡ all_pages below leaves
-settled_pages None rows below leaves = edged_pages rows below leaves
-settled_pages (Some k) rows below leaves = refl
+below_loss_pages : (o : Option ℕ) (rows : List (Row ℕ)) (below : List (List (Node ℕ))) (leaves : List (Node Payload)) → all_pages (below_loss o rows below) leaves ≡ all_pages below leaves
+below_loss_pages None rows below leaves = edges_pages rows below leaves
+below_loss_pages (Some k) rows below leaves = refl
 
-settled_height : (o : Option ℕ) (rows : List (Row ℕ)) (below : List (List (Node ℕ))) → length (below_loss o rows below) ≡ length below
-settled_height None rows below = edged_height rows below
-settled_height (Some k) rows below = refl
+below_loss_height : (o : Option ℕ) (rows : List (Row ℕ)) (below : List (List (Node ℕ))) → length (below_loss o rows below) ≡ length below
+below_loss_height None rows below = edges_height rows below
+below_loss_height (Some k) rows below = refl
 
 -- a row leaves the level above
 pub record IsLess (rows : List (Row ℕ)) (g : ℕ) (above : List (List (Node ℕ))) (leaves : List (Node Payload)) : Type 0 where
@@ -73,7 +73,7 @@ level_lower g rows nodes nodes' below leaves None h b = (
     | inl e ↦ subst (λ R. Fits None R (with_left_edges R below) leaves) (sym e.1) b.next
     | inr e ↦
         let f = subst (λ R. Fits None R below leaves) (sym e.1) b.fits in
-        subst (λ l. Fits None (rows_of nodes') l leaves) (sym (edged_same (rows_of nodes') below leaves f)) f
+        subst (λ l. Fits None (rows_of nodes') l leaves) (sym (edges_same (rows_of nodes') below leaves f)) f
   ]),
 )
 level_lower g rows nodes nodes' below leaves (Some q) h b =
@@ -86,7 +86,7 @@ level_lower g rows nodes nodes' below leaves (Some q) h b =
         linked_is 0 nodes',
         subst (λ R. Fits None R below leaves) (sym (linked_rows 0 nodes' ∙ h.rows_are)) b.fits,
       );
-      next = subst (λ N. Stands S N below leaves) (sym (heads_linked 0 S nodes')) (
+      next = subst (λ N. Stands S N below leaves) (sym (first_keys_linked 0 S nodes')) (
         linked_level 0 None S (with_first_keys S nodes') h.next,
         linked_starts 0 S (with_first_keys S nodes') h.next_starts,
         linked_is 0 (with_first_keys S nodes'),
@@ -117,9 +117,9 @@ sunk_is k low rows nodes more leaves at w l s is_linked b (Some g) h =
           let f = count_append p (pages_of nodes) (all_pages more leaves) in
           let i = count_append p (pages_of (linked 0 c.nodes)) (all_pages below b.leaves) in
           let j = ap (count p) (linked_pages 0 c.nodes) in
-          let m = ap (count p) (settled_pages c.gone_key (rows_of c.nodes) b.above b.leaves) in
+          let m = ap (count p) (below_loss_pages c.gone_key (rows_of c.nodes) b.above b.leaves) in
           let n = out.fewer p in omega (arith, e, f, i, j, m, n);
-      height = ap suc (settled_height c.gone_key (rows_of c.nodes) b.above ∙ h.height);
+      height = ap suc (below_loss_height c.gone_key (rows_of c.nodes) b.above ∙ h.height);
       lower = level_lower g rows nodes c.nodes b.above b.leaves c.gone_key out.left h.lower;
     }
 
@@ -200,19 +200,19 @@ root_counts root p [] leaves f = let e = ap (count p) (one_page 0 root leaves f.
 root_counts root p (nodes ∷ more) leaves f =
     let e = ap (count p) (one_page 0 root nodes f.0) in let g = count_append p (pages_of nodes) (all_pages more leaves) in omega (arith, e, g)
 
-ended_is : (root k : ℕ) (tree : Tree) (b : Shrunk) (o : Option ℕ) → Fits None (root_rows root) tree.above tree.leaves → IsShrunk k (root_rows root) tree.above tree.leaves b o
+lowered_is : (root k : ℕ) (tree : Tree) (b : Shrunk) (o : Option ℕ) → Fits None (root_rows root) tree.above tree.leaves → IsShrunk k (root_rows root) tree.above tree.leaves b o
     → IsDeleted root k tree (lowered root b o)
-ended_is root k tree b None f h =
+lowered_is root k tree b None f h =
     let c = collapsed_is 0 root b.above b.leaves h.lower in
     let u = collapsed b.above b.leaves in
-    let t = topped_is (root ∷ []) None (record { key = 0; value = c.page' } ∷ []) u.above u.leaves refl c.fits in
+    let t = top_is (root ∷ []) None (record { key = 0; value = c.page' } ∷ []) u.above u.leaves refl c.fits in
     record {
       fits = t.fits;
       contents = t.contents ∙ c.contents ∙ h.contents;
       fewer = λ p. let e = h.fewer p in let g = c.fewer p in let i = t.pages_are p in omega (arith, e, g, i);
       height = let e = h.height in let g = c.height in let i = t.height in omega (arith, e, g, i);
     }
-ended_is root k tree b (Some g) f h = record {
+lowered_is root k tree b (Some g) f h = record {
   fits = ((refl, tt, tt), (refl, refl, tt));
   contents = sym (nothing_under b.above b.leaves (by_key h.lower.has)) ∙ h.contents;
   fewer = λ p. root_counts root p tree.above tree.leaves f;
@@ -226,4 +226,4 @@ ended_is root k tree b (Some g) f h = record {
 pub deleted_is : (root k : ℕ) (tree : Tree) → Fits None (root_rows root) tree.above tree.leaves → IsDeleted root k tree (deleted root k tree)
 deleted_is root k tree f =
     let b = shrunk k (root_rows root) tree.above tree.leaves in
-    ended_is root k tree b b.gone_key f (shrunk_is k 0 (root_rows root) tree.above tree.leaves refl (omega arith, tt, tt) f)
+    lowered_is root k tree b b.gone_key f (shrunk_is k 0 (root_rows root) tree.above tree.leaves refl (omega arith, tt, tt) f)

@@ -14,9 +14,9 @@ use Rattle.law_ways.proofs.Fits.{Level, Starts, StartsAt, Fits, count, all_pages
 use Rattle.law_ways.proofs.GrowLaws.{key_same, linked_rows, rows_start, count_append, alike_up}
 use Rattle.law_ways.proofs.PathLaws.{behind_left, Spot, spot_at, spot_child, spot_toward}
 use Rattle.law_ways.proofs.PutLaws.{level_within, here_within, AreAlike, alike_at, alike_above}
-use Rattle.law_ways.proofs.ShrinkLaws.{edged_same, IsLower, shrunk_is}
+use Rattle.law_ways.proofs.ShrinkLaws.{edges_same, IsLower, shrunk_is}
 use Rattle.law_ways.proofs.StepLaws.{linked_same, linked_step, alike_same}
-use Rattle.law_ways.proofs.TakeLaws.{heads_linked, IsOut, index_out_at}
+use Rattle.law_ways.proofs.TakeLaws.{first_keys_linked, IsOut, index_out_at}
 use Rattle.law_ways.proofs.TowardLaws.{toward_here, toward_later}
 use Rattle.law_ways.proofs.ByKey.{edge_by_key, sink_through_by_key, sink_by_key}
 use Rattle.law_ways.proofs.SlotLaws.{gone_is, sink_same}
@@ -114,13 +114,13 @@ module _ (k low : ℕ) (rows : List (Row ℕ)) (nodes : List (Node ℕ)) (more :
       let nodes' = s.left ++ s.right in
       let at : g ≡ s.key = sym h.same in
       let l = subst (IsLinked 0) s.nodes_are links in
-      let heads_are : with_first_keys S (linked 0 nodes') ≡ linked 0 (s.left ++ with_edge (Some g) s.right) = heads_linked 0 S nodes' ∙ ap (linked 0) (s.edges g at st) in (
+      let heads_are : with_first_keys S (linked 0 nodes') ≡ linked 0 (s.left ++ with_edge (Some g) s.right) = first_keys_linked 0 S nodes' ∙ ap (linked 0) (s.edges g at st) in (
         refl,
         (record { left = s.left; right = s.right; was = s.nodes_are; is = linked_gone 0 s.left s.node s.right None l }, plain),
         subst (λ j. AreSunk (Some j) (s.node ∷ ns) (Goes ∷ losses) (nodes ∷ more) (with_left_edges (shifted j rows) (linked 0 nodes' ∷ b.above))) at (
           record { left = s.left; right = s.right; was = s.nodes_are; is = heads_are ∙ linked_gone 0 s.left s.node s.right (Some g) l },
           subst (λ R. AreSunk (Some g) ns losses more (with_left_edges R b.above))
-              (sym (ap (λ l. rows_of l) (heads_linked 0 S nodes') ∙ linked_rows 0 (with_first_keys S nodes') ∙ h.next_rows)) edge,
+              (sym (ap (λ l. rows_of l) (first_keys_linked 0 S nodes') ∙ linked_rows 0 (with_first_keys S nodes') ∙ h.next_rows)) edge,
         ),
       )
   sunk_level (y ∷ ys) out plain edge f =
@@ -134,7 +134,7 @@ module _ (k low : ℕ) (rows : List (Row ℕ)) (nodes : List (Node ℕ)) (more :
               (subst (λ R. AreSunk (Some g) ns losses more (with_left_edges R b.above)) (sym a.1) edge)
           | inr c ↦ subst (λ e. AreSunk e ns losses more (with_left_edges (rows_of nodes') b.above)) (sym (edge_no g s.key s.node.rows (s.starts st) (λ e. c.0 (e ∙ sym same_key))))
               (subst (λ l. AreSunk None ns losses more l)
-              (sym (edged_same (rows_of nodes') b.above b.leaves (subst (λ R. Fits None R b.above b.leaves) (sym c.1) f))) plain)
+              (sym (edges_same (rows_of nodes') b.above b.leaves (subst (λ R. Fits None R b.above b.leaves) (sym c.1) f))) plain)
         ],
       )
 

@@ -42,10 +42,14 @@ at_rows cut c rows =
     let step = step_of (cut rows) (first_fresh c.fresh) rows in
     record { above = step ∷ c.above; leaf = c.leaf; separator = separator_of step; fresh = left_over (separator_of step) c.fresh }
 
-pub through_same : (cut : Cut ℕ) (k : ℕ) (n : Index) (c : Climb) (o : Option (Row ℕ)) → ((y : Row ℕ) → o ≡ Some y → with_behind k y n.rows ≡ with_row y n.rows)
+through_same : (cut : Cut ℕ) (k : ℕ) (n : Index) (c : Climb) (o : Option (Row ℕ)) → ((y : Row ℕ) → o ≡ Some y → with_behind k y n.rows ≡ with_row y n.rows)
     → climb_through cut k n c o ≡ climb_through_by_key cut n c o
 through_same cut k n c None same = refl
 through_same cut k n c (Some y) same = ap (at_rows cut c) (same y refl)
+
+pub climb_same : (cut : Cut ℕ) (k : ℕ) (n : Index) (c d : Climb) → c ≡ d → ((y : Row ℕ) → d.separator ≡ Some y → with_behind k y n.rows ≡ with_row y n.rows)
+    → climb_through cut k n c c.separator ≡ climb_through_by_key cut n d d.separator
+climb_same cut k n c d e same = ap (λ (x : Climb). climb_through cut k n x x.separator) e ∙ through_same cut k n d d.separator same
 
 -- a level loses the key of the row towards k
 pub gone_is : (j k : ℕ) (ns : List (Node ℕ)) (leaf : Node Payload) (q : ℕ) → (sink_by_key j k ns leaf).gone_key ≡ Some q → j ≡ q

@@ -9,7 +9,7 @@ use Rattle.spec_ways.specs.Ways.{child_toward, Way, through, ending_at, through_
 use Rattle.law_ways.proofs.Bounds.{Within}
 use Rattle.law_ways.proofs.Fits.{Level, StartsAt, Fits, count, all_pages}
 use Rattle.law_ways.proofs.GrowLaws.{rows_start, count_append, alike_front, alike_behind, alike_up, grown_is}
-use Rattle.law_ways.proofs.SlotLaws.{behind_at, through_same}
+use Rattle.law_ways.proofs.SlotLaws.{behind_at, climb_same}
 use Rattle.spec_ways.specs.Climbs.{climb_through, climb}
 use Rattle.law_ways.proofs.PathLaws.{onto, Spot, spot_at, spot_rows, spot_toward, spot_child}
 use Rattle.law_ways.proofs.PutLaws.{level_within, AreAlike}
@@ -53,10 +53,10 @@ module _ {V : Type 0} where
       ∙ ap (λ (q : ℕ). record { page = m.page; prev = m.prev; next = q; rows = m.rows } ∷ linked m.page rest) (first_made ms right right n step ∙ sym l.1)
       ∙ ap (λ l. m ∷ l) (linked_step m.page ms n right step l.2)
 
-  parted_step : (o : Option ℕ) (new : ℕ) (n : Node V) (rows : List (Row V)) (right : List (Node V))
+  cut_page_step : (o : Option ℕ) (new : ℕ) (n : Node V) (rows : List (Row V)) (right : List (Node V))
       → cut_page o new n rows right ≡ record { nodes = after_step (step_of o new rows) n ++ right; separator = separator_of (step_of o new rows) }
-  parted_step None new n rows right = refl
-  parted_step (Some m) new n rows right = refl
+  cut_page_step None new n rows right = refl
+  cut_page_step (Some m) new n rows right = refl
 
   -- a row put into a level
   record PutSteps (k low : ℕ) (rows : List (Row ℕ)) (nodes : List (Node V)) (n : Node V) (step : Step V) (c : Put V) : Type 0 where
@@ -69,7 +69,7 @@ module _ {V : Type 0} where
       let rs = with_row x s.node.rows in
       let step = step_of (cut rs) new rs in
       let is : put_row cut new x rows nodes ≡ record { nodes = s.left ++ (after_step step s.node ++ s.right); separator = separator_of step } =
-      s.puts cut new x alike ∙ ap (onto s.left) (parted_step (cut rs) new s.node rs s.right) in
+      s.puts cut new x alike ∙ ap (onto s.left) (cut_page_step (cut rs) new s.node rs s.right) in
       record {
         stepped = record {
           left = s.left;
@@ -163,7 +163,7 @@ module _ (cuts : Cuts) (sound_leaf : IsCut cuts.leaf) (sound_index : IsCut cuts.
             (subst (IsStepped h.way.leaf c.leaf leaves) (sym r.leaves_are) h.leaf_steps));
         separator = r.separator ∙ ap (λ o. (climb_through_by_key cuts.index s.node c o).separator) h.separator;
         fresh_is = r.fresh_is ∙ ap (λ o. (climb_through_by_key cuts.index s.node c o).fresh) h.separator;
-        slots = ap (λ (d : Climb). climb_through cuts.index x.key s.node d d.separator) h.slots ∙ through_same cuts.index x.key s.node c c.separator (λ y e.
+        slots = climb_same cuts.index x.key s.node (climb cuts fresh x h.way.above h.way.leaf) c h.slots (λ y e.
             behind_at s.key x.key s.bound y s.node.rows (s.starts f.1) s.within (alike_front x.key y.key s.node.rows (rows_of s.right)
             (alike_behind x.key y.key (rows_of s.left) (s.node.rows ++ rows_of s.right) (subst (AreAlike x.key y.key) (spot_rows x.key low rows nodes s) (g.alike y (h.separator ∙ e)))))
             (let i = spot_toward (λ z. z.key) x.key low rows nodes s le f.1 in let j = g.higher y (h.separator ∙ e) in omega (arith, i, j)));

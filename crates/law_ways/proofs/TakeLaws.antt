@@ -24,47 +24,47 @@ shifted_right low mid k (z ∷ zs) ys le w =
     shifted_other k z (zs ++ ys) (λ same. omega (arith, same, le, w.1)) ∙ ap (λ l. z ∷ l) (shifted_right (suc z.key) mid k zs ys le w.2)
 
 module _ {V : Type 0} where
-  headed_within : (low k : ℕ) (high : Option ℕ) (xs : List (Row V)) → k ≤ low → Within low high xs → Within k high (with_first_key k xs)
-  headed_within low k high [] le w = w
-  headed_within low k high (x ∷ xs) le w =
+  first_key_within : (low k : ℕ) (high : Option ℕ) (xs : List (Row V)) → k ≤ low → Within low high xs → Within k high (with_first_key k xs)
+  first_key_within low k high [] le w = w
+  first_key_within low k high (x ∷ xs) le w =
       (omega arith, below_below k x.key high (omega (arith, le, w.0)) w.1, from_lower (suc x.key) (suc k) high xs (omega (arith, le, w.0)) w.2)
 
-  pub headed_same : (k : ℕ) (xs : List (Row V)) → StartsAt k xs → with_first_key k xs ≡ xs
-  headed_same k [] s = refl
-  headed_same k (x ∷ xs) s = ap (λ (j : ℕ). record { key = j; value = x.value } ∷ xs) (sym s)
+  pub first_key_same : (k : ℕ) (xs : List (Row V)) → StartsAt k xs → with_first_key k xs ≡ xs
+  first_key_same k [] s = refl
+  first_key_same k (x ∷ xs) s = ap (λ (j : ℕ). record { key = j; value = x.value } ∷ xs) (sym s)
 
-  headed_append : (k low : ℕ) (xs ys : List (Row V)) → StartsAt low xs → with_first_key k (xs ++ ys) ≡ with_first_key k xs ++ ys
-  headed_append k low [] ys s = absurd s
-  headed_append k low (x ∷ xs) ys s = refl
+  first_key_append : (k low : ℕ) (xs ys : List (Row V)) → StartsAt low xs → with_first_key k (xs ++ ys) ≡ with_first_key k xs ++ ys
+  first_key_append k low [] ys s = absurd s
+  first_key_append k low (x ∷ xs) ys s = refl
 
-  headed_starts : (k low : ℕ) (xs : List (Row V)) → StartsAt low xs → StartsAt k (with_first_key k xs)
-  headed_starts k low [] s = absurd s
-  headed_starts k low (x ∷ xs) s = refl
+  first_key_starts : (k low : ℕ) (xs : List (Row V)) → StartsAt low xs → StartsAt k (with_first_key k xs)
+  first_key_starts k low [] s = absurd s
+  first_key_starts k low (x ∷ xs) s = refl
 
   -- pages that begin with the keys of their rows
-  pub heads_same : (rows : List (Row ℕ)) (nodes : List (Node V)) → Starts rows nodes → with_first_keys rows nodes ≡ nodes
-  heads_same [] nodes s = refl
-  heads_same (r ∷ rest) [] s = refl
-  heads_same (r ∷ rest) (n ∷ ns) s =
-      ap (λ (rs : List (Row V)). record { page = n.page; prev = n.prev; next = n.next; rows = rs } ∷ with_first_keys rest ns) (headed_same r.key n.rows s.0)
-      ∙ ap (λ l. n ∷ l) (heads_same rest ns s.1)
+  pub first_keys_same : (rows : List (Row ℕ)) (nodes : List (Node V)) → Starts rows nodes → with_first_keys rows nodes ≡ nodes
+  first_keys_same [] nodes s = refl
+  first_keys_same (r ∷ rest) [] s = refl
+  first_keys_same (r ∷ rest) (n ∷ ns) s =
+      ap (λ (rs : List (Row V)). record { page = n.page; prev = n.prev; next = n.next; rows = rs } ∷ with_first_keys rest ns) (first_key_same r.key n.rows s.0)
+      ∙ ap (λ l. n ∷ l) (first_keys_same rest ns s.1)
 
-  pub heads_first : (rows : List (Row ℕ)) (nodes : List (Node V)) → first_page (with_first_keys rows nodes) ≡ first_page nodes
-  heads_first [] nodes = refl
-  heads_first (r ∷ rest) [] = refl
-  heads_first (r ∷ rest) (n ∷ ns) = refl
+  pub first_keys_first : (rows : List (Row ℕ)) (nodes : List (Node V)) → first_page (with_first_keys rows nodes) ≡ first_page nodes
+  first_keys_first [] nodes = refl
+  first_keys_first (r ∷ rest) [] = refl
+  first_keys_first (r ∷ rest) (n ∷ ns) = refl
 
-  pub heads_linked : (b : ℕ) (rows : List (Row ℕ)) (nodes : List (Node V)) → with_first_keys rows (linked b nodes) ≡ linked b (with_first_keys rows nodes)
-  heads_linked b [] nodes = refl
-  heads_linked b (r ∷ rest) [] = refl
-  heads_linked b (r ∷ rest) (n ∷ ns) =
-      ap (λ (q : ℕ). record { page = n.page; prev = b; next = q; rows = with_first_key r.key n.rows } ∷ with_first_keys rest (linked n.page ns)) (sym (heads_first rest ns))
-      ∙ ap (λ l. record { page = n.page; prev = b; next = first_page (with_first_keys rest ns); rows = with_first_key r.key n.rows } ∷ l) (heads_linked n.page rest ns)
+  pub first_keys_linked : (b : ℕ) (rows : List (Row ℕ)) (nodes : List (Node V)) → with_first_keys rows (linked b nodes) ≡ linked b (with_first_keys rows nodes)
+  first_keys_linked b [] nodes = refl
+  first_keys_linked b (r ∷ rest) [] = refl
+  first_keys_linked b (r ∷ rest) (n ∷ ns) =
+      ap (λ (q : ℕ). record { page = n.page; prev = b; next = q; rows = with_first_key r.key n.rows } ∷ with_first_keys rest (linked n.page ns)) (sym (first_keys_first rest ns))
+      ∙ ap (λ l. record { page = n.page; prev = b; next = first_page (with_first_keys rest ns); rows = with_first_key r.key n.rows } ∷ l) (first_keys_linked n.page rest ns)
 
-  pub heads_pages : (rows : List (Row ℕ)) (nodes : List (Node V)) → pages_of (with_first_keys rows nodes) ≡ pages_of nodes
-  heads_pages [] nodes = refl
-  heads_pages (r ∷ rest) [] = refl
-  heads_pages (r ∷ rest) (n ∷ ns) = ap (λ l. n.page ∷ l) (heads_pages rest ns)
+  pub first_keys_pages : (rows : List (Row ℕ)) (nodes : List (Node V)) → pages_of (with_first_keys rows nodes) ≡ pages_of nodes
+  first_keys_pages [] nodes = refl
+  first_keys_pages (r ∷ rest) [] = refl
+  first_keys_pages (r ∷ rest) (n ∷ ns) = ap (λ l. n.page ∷ l) (first_keys_pages rest ns)
 
   take_here : (change : ℕ → List (Row V) → List (Row V)) (k : ℕ) (r : Row ℕ) (rest : List (Row ℕ)) (n : Node V) (ns : List (Node V)) → is_below_first k rest ≡ true
       → take_row change k (r ∷ rest) (n ∷ ns) ≡ kept_page r.key n (change r.key n.rows) ns
@@ -244,7 +244,7 @@ more_rows k key (x ∷ xs) y ys R s is = elim (cases_eq k x.key) [
         ∙ ap (λ l. with_first_key k (l ++ R)) (sym is ∙ without_same k x xs same)
         ∙ sym (shifted_same k x (xs ++ R) same),
   )
-  | inr other ↦ inr (λ e. other (e ∙ sym s), ap (λ l. l ++ R) (headed_same key (y ∷ ys) (subst (StartsAt key) (sym (without_other k x xs other) ∙ is) s)))
+  | inr other ↦ inr (λ e. other (e ∙ sym s), ap (λ l. l ++ R) (first_key_same key (y ∷ ys) (subst (StartsAt key) (sym (without_other k x xs other) ∙ is) s)))
 ]
 
 -- the pages behind the one that goes, the edge of the first brought down
@@ -255,10 +255,10 @@ next_heads k [] [] w l s = (tt, tt, refl)
 next_heads k [] (m ∷ ns) w l s = absurd l
 next_heads k (q ∷ rest) [] w l s = absurd l
 next_heads k (q ∷ rest) (m ∷ ns) w l s =
-    let same = heads_same rest ns s.1 in (
-      (l.0, headed_within q.key k (next_key rest None) m.rows (omega (arith, w.0)) l.1, subst (Level None rest) (sym same) l.2),
-      (headed_starts k q.key m.rows s.0, subst (Starts rest) (sym same) s.1),
-      ap (λ l. with_first_key k m.rows ++ rows_of l) same ∙ sym (headed_append k q.key m.rows (rows_of ns) s.0),
+    let same = first_keys_same rest ns s.1 in (
+      (l.0, first_key_within q.key k (next_key rest None) m.rows (omega (arith, w.0)) l.1, subst (Level None rest) (sym same) l.2),
+      (first_key_starts k q.key m.rows s.0, subst (Starts rest) (sym same) s.1),
+      ap (λ l. with_first_key k m.rows ++ rows_of l) same ∙ sym (first_key_append k q.key m.rows (rows_of ns) s.0),
     )
 
 index_here : (k : ℕ) (r : Row ℕ) (rest : List (Row ℕ)) (n : Node ℕ) (ns : List (Node ℕ)) → Within r.key None (r ∷ rest) → Level None (r ∷ rest) (n ∷ ns) → Starts (r ∷ rest) (n ∷ ns)
@@ -289,7 +289,7 @@ index_here k r rest n ns w l s e (y ∷ ys) is =
     record {
       fewer = λ p. omega arith;
       left = record {
-        level = (l.0, headed_within r.key r.key bound (y ∷ ys) (omega arith) is_within, l.2);
+        level = (l.0, first_key_within r.key r.key bound (y ∷ ys) (omega arith) is_within, l.2);
         starts = (refl, s.1);
         key = r.key;
         key_is = toward_here (λ r. r.key) k (suc r.key) None r rest e w.2;
@@ -322,7 +322,7 @@ out_past k r q rest n m ns nodes (Some g) w l s le h =
     let shifted_is = shifted_other k r (q ∷ rest) other in
     let new = shifted k (q ∷ rest) in
     let head_is : with_first_keys (r ∷ new) (n ∷ nodes) ≡ n ∷ with_first_keys new nodes =
-    ap (λ (rs : List (Row ℕ)). record { page = n.page; prev = n.prev; next = n.next; rows = rs } ∷ with_first_keys new nodes) (headed_same r.key n.rows s.0) in
+    ap (λ (rs : List (Row ℕ)). record { page = n.page; prev = n.prev; next = n.next; rows = rs } ∷ with_first_keys new nodes) (first_key_same r.key n.rows s.0) in
     record {
       same = h.same;
       has = inr h.has;

@@ -23,30 +23,30 @@ valued_first (p ∷ ps) [] high = refl
 valued_first (p ∷ ps) (r ∷ rest) high = refl
 
 module _ {V : Type 0} where
-  named_level : (ps : List ℕ) (high : Option ℕ) (rows : List (Row ℕ)) (nodes : List (Node V)) → Level high rows nodes → Level high (valued ps rows) (renumbered ps nodes)
-  named_level [] high rows nodes l = l
-  named_level (p ∷ ps) high [] [] l = l
-  named_level (p ∷ ps) high [] (n ∷ ns) l = absurd l
-  named_level (p ∷ ps) high (r ∷ rest) [] l = absurd l
-  named_level (p ∷ ps) high (r ∷ rest) (n ∷ ns) l =
-      (refl, subst (λ k. Within r.key k n.rows) (valued_first ps rest high) l.1, named_level ps high rest ns l.2)
+  renumbered_level : (ps : List ℕ) (high : Option ℕ) (rows : List (Row ℕ)) (nodes : List (Node V)) → Level high rows nodes → Level high (valued ps rows) (renumbered ps nodes)
+  renumbered_level [] high rows nodes l = l
+  renumbered_level (p ∷ ps) high [] [] l = l
+  renumbered_level (p ∷ ps) high [] (n ∷ ns) l = absurd l
+  renumbered_level (p ∷ ps) high (r ∷ rest) [] l = absurd l
+  renumbered_level (p ∷ ps) high (r ∷ rest) (n ∷ ns) l =
+      (refl, subst (λ k. Within r.key k n.rows) (valued_first ps rest high) l.1, renumbered_level ps high rest ns l.2)
 
-  named_starts : (ps : List ℕ) (rows : List (Row ℕ)) (nodes : List (Node V)) → Starts rows nodes → Starts (valued ps rows) (renumbered ps nodes)
-  named_starts [] rows nodes s = s
-  named_starts (p ∷ ps) [] nodes s = tt
-  named_starts (p ∷ ps) (r ∷ rest) [] s = s
-  named_starts (p ∷ ps) (r ∷ rest) (n ∷ ns) s = (s.0, named_starts ps rest ns s.1)
+  renumbered_starts : (ps : List ℕ) (rows : List (Row ℕ)) (nodes : List (Node V)) → Starts rows nodes → Starts (valued ps rows) (renumbered ps nodes)
+  renumbered_starts [] rows nodes s = s
+  renumbered_starts (p ∷ ps) [] nodes s = tt
+  renumbered_starts (p ∷ ps) (r ∷ rest) [] s = s
+  renumbered_starts (p ∷ ps) (r ∷ rest) (n ∷ ns) s = (s.0, renumbered_starts ps rest ns s.1)
 
-  named_rows : (ps : List ℕ) (nodes : List (Node V)) → rows_of (renumbered ps nodes) ≡ rows_of nodes
-  named_rows [] nodes = refl
-  named_rows (p ∷ ps) [] = refl
-  named_rows (p ∷ ps) (n ∷ ns) = ap (λ l. n.rows ++ l) (named_rows ps ns)
+  renumbered_rows : (ps : List ℕ) (nodes : List (Node V)) → rows_of (renumbered ps nodes) ≡ rows_of nodes
+  renumbered_rows [] nodes = refl
+  renumbered_rows (p ∷ ps) [] = refl
+  renumbered_rows (p ∷ ps) (n ∷ ns) = ap (λ l. n.rows ++ l) (renumbered_rows ps ns)
 
-  named_pages : (ps : List ℕ) (nodes : List (Node V)) → length ps ≡ length nodes → pages_of (renumbered ps nodes) ≡ ps
-  named_pages [] [] same = refl
-  named_pages [] (n ∷ ns) same = absurd (omega (arith, same))
-  named_pages (p ∷ ps) [] same = absurd (omega (arith, same))
-  named_pages (p ∷ ps) (n ∷ ns) same = ap (λ l. p ∷ l) (named_pages ps ns (omega (arith, same)))
+  renumbered_pages : (ps : List ℕ) (nodes : List (Node V)) → length ps ≡ length nodes → pages_of (renumbered ps nodes) ≡ ps
+  renumbered_pages [] [] same = refl
+  renumbered_pages [] (n ∷ ns) same = absurd (omega (arith, same))
+  renumbered_pages (p ∷ ps) [] same = absurd (omega (arith, same))
+  renumbered_pages (p ∷ ps) (n ∷ ns) same = ap (λ l. p ∷ l) (renumbered_pages ps ns (omega (arith, same)))
 
   pub level_pages : (high : Option ℕ) (rows : List (Row ℕ)) (nodes : List (Node V)) → Level high rows nodes → pages_of nodes ≡ values rows
   level_pages high [] [] l = refl
@@ -67,28 +67,28 @@ pub record IsTopped (ps : List ℕ) (high : Option ℕ) (rows : List (Row ℕ)) 
   pub pages_are : (p : ℕ) → count p (all_pages t.above t.leaves) + count p (values rows) ≡ count p (all_pages above leaves) + count p ps
   pub height : length t.above ≡ length above
 
-pub topped_is : (ps : List ℕ) (high : Option ℕ) (rows : List (Row ℕ)) (above : List (List (Node ℕ))) (leaves : List (Node Payload)) → length ps ≡ length rows
+pub top_is : (ps : List ℕ) (high : Option ℕ) (rows : List (Row ℕ)) (above : List (List (Node ℕ))) (leaves : List (Node Payload)) → length ps ≡ length rows
     → Fits high rows above leaves → IsTopped ps high rows above leaves (top_renumbered ps above leaves)
-topped_is ps high rows [] leaves same fits = record {
-  fits = (linked_level 0 high (valued ps rows) (renumbered ps leaves) (named_level ps high rows leaves fits.0), linked_is 0 (renumbered ps leaves));
-  contents = linked_rows 0 (renumbered ps leaves) ∙ named_rows ps leaves;
+top_is ps high rows [] leaves same fits = record {
+  fits = (linked_level 0 high (valued ps rows) (renumbered ps leaves) (renumbered_level ps high rows leaves fits.0), linked_is 0 (renumbered ps leaves));
+  contents = linked_rows 0 (renumbered ps leaves) ∙ renumbered_rows ps leaves;
   pages_are = λ p.
-      let e = ap (count p) (linked_pages 0 (renumbered ps leaves) ∙ named_pages ps leaves (same ∙ level_length high rows leaves fits.0)) in
+      let e = ap (count p) (linked_pages 0 (renumbered ps leaves) ∙ renumbered_pages ps leaves (same ∙ level_length high rows leaves fits.0)) in
       let f = ap (count p) (level_pages high rows leaves fits.0) in omega (arith, e, f);
   height = refl;
 }
-topped_is ps high rows (nodes ∷ more) leaves same fits =
+top_is ps high rows (nodes ∷ more) leaves same fits =
     let new = linked 0 (renumbered ps nodes) in
     record {
       fits = (
-        linked_level 0 high (valued ps rows) (renumbered ps nodes) (named_level ps high rows nodes fits.0),
-        linked_starts 0 (valued ps rows) (renumbered ps nodes) (named_starts ps rows nodes fits.1),
+        linked_level 0 high (valued ps rows) (renumbered ps nodes) (renumbered_level ps high rows nodes fits.0),
+        linked_starts 0 (valued ps rows) (renumbered ps nodes) (renumbered_starts ps rows nodes fits.1),
         linked_is 0 (renumbered ps nodes),
-        subst (λ r. Fits high r more leaves) (sym (linked_rows 0 (renumbered ps nodes) ∙ named_rows ps nodes)) fits.3,
+        subst (λ r. Fits high r more leaves) (sym (linked_rows 0 (renumbered ps nodes) ∙ renumbered_rows ps nodes)) fits.3,
       );
       contents = refl;
       pages_are = λ p.
-          let e = ap (count p) (linked_pages 0 (renumbered ps nodes) ∙ named_pages ps nodes (same ∙ level_length high rows nodes fits.0)) in
+          let e = ap (count p) (linked_pages 0 (renumbered ps nodes) ∙ renumbered_pages ps nodes (same ∙ level_length high rows nodes fits.0)) in
           let f = ap (count p) (level_pages high rows nodes fits.0) in
           let g = count_append p (pages_of nodes) (all_pages more leaves) in
           let h = count_append p (pages_of new) (all_pages more leaves) in omega (arith, e, f, g, h);
@@ -129,7 +129,7 @@ raised_is root fresh x tree b (Some u) many h =
     let some : 0 < length b.fresh = omega (arith, many, h.enough) in
     let names : with_up (Some u) (root_rows root) ≡ root_row root ∷ u ∷ [] = with_more u (root_row root) [] h.separator.0 in
     let fits = subst (λ r. Fits None r b.above b.leaves) names h.fits in
-    let t = topped_is (u.value ∷ right ∷ []) None (root_row root ∷ u ∷ []) b.above b.leaves refl fits in
+    let t = top_is (u.value ∷ right ∷ []) None (root_row root ∷ u ∷ []) b.above b.leaves refl fits in
     record {
       fits = ((refl, (omega arith, tt, (h.separator.0, tt, tt)), tt), (refl, tt), (refl, refl, tt), t.fits);
       contents = t.contents ∙ h.contents;

@@ -3,12 +3,12 @@ use Rattle.std.proofs.Common.{◌≡◌, ℕ, suc, ◌≤◌, ◌==◌, Bool, tr
 use Rattle.std.specs.Prelude.{if◌then◌else◌}
 use Rattle.std.proofs.lemmas.Bool.{cases_eq, eqb-true}
 use Rattle.spec_levels.specs.Levels.{Payload, Row, Node, rows_of, pages_of, first_page, IsLinked, tree_pages}
-use Rattle.spec_ways.specs.Rows.{without, with_first_key, lowest_key}
+use Rattle.spec_ways.specs.Rows.{without, with_first_key, lowest_key, first_value}
 use Rattle.spec_ways.specs.Ways.{child_toward, key_toward, Way, through, ending_at, through_child, way_from}
 use Rattle.spec_ways.specs.Insert.{root_rows}
 use Rattle.spec_ways.specs.Sinks.{Loss, Goes, loss_of, gone_key_of, Sink}
 use Rattle.spec_ways.specs.Pages.{IndexPage, Pages, ShowsLevel, Shows}
-use Rattle.spec_ways.specs.DeleteWrites.{first_value, first_child, first_children, left_edge}
+use Rattle.spec_ways.specs.DeleteWrites.{first_child, first_children, left_edge}
 use Rattle.law_ways.specs.DeleteLaws.{edge_nexts, LeftEdgeIsNext}
 use Rattle.law_ways.proofs.Bounds.{Within, rows_behind}
 use Rattle.law_ways.proofs.Bridge.{fits_from, once}
@@ -41,7 +41,7 @@ record HasFirst (image : Pages) (page : ℕ) (right : List (Node ℕ)) : Type 0 
   starts : StartsAt low (rows_of right)
   child : first_child (image page) ≡ first_value (rows_of right)
 
-first_is : (low : ℕ) (rows more : List (Row ℕ)) → StartsAt low rows → first_value (rows ++ more) ≡ first_value rows
+pub first_is : (low : ℕ) (rows more : List (Row ℕ)) → StartsAt low rows → first_value (rows ++ more) ≡ first_value rows
 first_is low [] more at = absurd at
 first_is low (r ∷ rows) more at = refl
 

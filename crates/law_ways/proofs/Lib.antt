@@ -1,3 +1,4 @@
+pub mod WalkLaw
 pub mod WayAsks
 pub mod WayLaw
 pub mod Bounds

@@ -46,7 +46,8 @@ module _ {V : Type 0} (P : Room V) where
       by_test true later = left_room r.key n (change r.key n.rows) ns (keeps r.key n.rows h.0) h.1
       by_test false later = (h.0, later)
 
-  first_keys_room : ((key : ℕ) (rows : List (Row V)) → P rows → P (with_first_key key rows)) → (rows : List (Row ℕ)) (nodes : List (Node V)) → HaveRoom P nodes → HaveRoom P (with_first_keys rows nodes)
+  first_keys_room : ((key : ℕ) (rows : List (Row V)) → P rows → P (with_first_key key rows)) → (rows : List (Row ℕ)) (nodes : List (Node V)) → HaveRoom P nodes
+      → HaveRoom P (with_first_keys rows nodes)
   first_keys_room keeps [] nodes h = h
   first_keys_room keeps (r ∷ rest) [] h = h
   first_keys_room keeps (r ∷ rest) (n ∷ ns) h = (keeps r.key n.rows h.0, first_keys_room keeps rest ns h.1)

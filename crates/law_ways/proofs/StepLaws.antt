@@ -10,7 +10,7 @@ use Rattle.law_ways.proofs.Bounds.{Within}
 use Rattle.law_ways.proofs.Fits.{Level, StartsAt, Fits, count, all_pages}
 use Rattle.law_ways.proofs.GrowLaws.{rows_start, count_append, alike_front, alike_behind, alike_up, grown_is}
 use Rattle.law_ways.proofs.SlotLaws.{behind_at, climb_same}
-use Rattle.spec_ways.specs.Climbs.{climb_through, climb}
+use Rattle.spec_ways.specs.Climbs.{climb}
 use Rattle.law_ways.proofs.PathLaws.{onto, Spot, spot_at, spot_rows, spot_toward, spot_child}
 use Rattle.law_ways.proofs.PutLaws.{level_within, AreAlike}
 use Rattle.law_ways.proofs.ByKey.{climb_through_by_key, climb_by_key}

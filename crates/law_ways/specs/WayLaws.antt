@@ -3,6 +3,7 @@ use Rattle.std.specs.Prelude.{◌≡◌, ◌⊎◌, ◌<◌, ◌≤◌, ℕ, suc
 use Rattle.spec_levels.specs.Levels.{Row, Index, Leaf, Tree, keys_of, Rises, IsTree}
 use Rattle.spec_ways.specs.Rows.{contents, value_at, value_found}
 use Rattle.spec_ways.specs.Ways.{row_toward, Way, way_to, way_pages}
+use Rattle.spec_ways.specs.Walk.{first_leaf, leaves_from}
 use Rattle.spec_ways.specs.Pages.{LeafPage, IndexPage, Pages, Shows, read_way, asked_pages}
 
 -- the keys of a tree's rows rise from left to right
@@ -56,3 +57,12 @@ WaysAreRead = (root key : ℕ) (tree : Tree) (image : Pages) (way : Way) → IsT
 -- an image shows at most one tree with this root
 abbrev pub OneTree : Type 0
 OneTree = (root : ℕ) (tree other : Tree) (image : Pages) → IsTree root tree → IsTree root other → Shows image tree.above tree.leaves → Shows image other.above other.leaves → tree ≡ other
+
+-- where the pages of an image show a tree, the walk finds its first leaf, and from there all leaves in order
+pub record IsWalked (root limit : ℕ) (tree : Tree) (image : Pages) : Type 0 where
+  pub leaf : Leaf
+  pub first : first_leaf 15 image root ≡ Some leaf
+  pub leaves : leaves_from limit image leaf.page ≡ tree.leaves
+
+abbrev pub LeavesAreWalked : Type 0
+LeavesAreWalked = (root limit : ℕ) (tree : Tree) (image : Pages) → IsTree root tree → Shows image tree.above tree.leaves → length tree.leaves ≤ limit → IsWalked root limit tree image

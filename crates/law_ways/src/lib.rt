@@ -2,7 +2,7 @@
 //! or taken there.
 #![tactic(auto)]
 
-ghost use Rattle.law_ways.specs.WayLaws.{ContentsRise, RowsLead, WaysLead, WaysAreRead, OneTree};
+ghost use Rattle.law_ways.specs.WayLaws.{ContentsRise, RowsLead, WaysLead, WaysAreRead, OneTree, LeavesAreWalked};
 ghost use Rattle.law_ways.specs.InsertLaws.{InsertKeeps, UpdateReplaces, InsertClimbs, InsertIsWritten, InsertIsLocal, InsertKeepsOthers};
 ghost use Rattle.law_ways.specs.DeleteLaws.{DeleteKeeps, DeleteTakes, DeleteSinks, DeleteIsWritten, LeftEdgeIsNext, DeleteIsLocal, DeleteKeepsOthers};
 ghost use Rattle.law_ways.specs.RoomLaws.{InsertHasRoom, DeleteHasRoom};
@@ -16,6 +16,7 @@ pub fn way_laws()
     ensures lead { WaysLead }
     ensures read { WaysAreRead }
     ensures one { OneTree }
+    ensures walk { LeavesAreWalked }
 {}
 
 /// A tree into which a row was put is a tree, with the row at its place. The pages on the way tell which

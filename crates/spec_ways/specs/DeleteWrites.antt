@@ -1,7 +1,7 @@
 -- What a delete reads, writes and frees, told by its way and the losses of the way's pages.
 use Rattle.std.specs.Prelude.{ℕ, zero, suc, List, [], ◌∷◌, ◌++◌, length, Option, Some, None, ◌==◌, if◌then◌else◌}
 use Rattle.spec_levels.specs.Levels.{Payload, Row, Node, Index, Leaf}
-use Rattle.spec_ways.specs.Rows.{with_first_key}
+use Rattle.spec_ways.specs.Rows.{with_first_key, first_value}
 use Rattle.spec_ways.specs.Ways.{Way, way_pages}
 use Rattle.spec_ways.specs.Sinks.{Loss, Untouched, Keeps, Goes, Sink, edge_below, freed_below_root}
 use Rattle.spec_ways.specs.Pages.{Page, LeafPage, IndexPage, Pages, with_page}
@@ -80,11 +80,6 @@ abbrev pub all_neighbours : List Index → List (Loss ℕ) → List ℕ
 all_neighbours [] losses = []
 all_neighbours (node ∷ way) [] = []
 all_neighbours (node ∷ way) (lost ∷ losses) = all_neighbours way losses ++ neighbours lost node
-
--- the page that the first of an index page's rows names; 0 where there is none
-abbrev pub first_value : List (Row ℕ) → ℕ
-first_value [] = 0
-first_value (row ∷ rest) = row.value
 
 abbrev pub first_child : Page → ℕ
 first_child (LeafPage leaf) = 0

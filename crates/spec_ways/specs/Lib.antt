@@ -6,4 +6,5 @@ pub mod InsertWrites
 pub mod Pages
 pub mod Rows
 pub mod Sinks
+pub mod Walk
 pub mod Ways

@@ -27,6 +27,11 @@ abbrev pub lowest_key : {V : Type 0} → List (Row V) → ℕ
 lowest_key [] = 0
 lowest_key (row ∷ rest) = row.key
 
+-- the page that the first of an index page's rows names; 0 where there is none
+abbrev pub first_value : List (Row ℕ) → ℕ
+first_value [] = 0
+first_value (row ∷ rest) = row.value
+
 -- these rows, the first with this key
 abbrev pub with_first_key : {V : Type 0} → ℕ → List (Row V) → List (Row V)
 with_first_key key [] = []

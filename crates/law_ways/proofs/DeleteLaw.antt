@@ -1,9 +1,9 @@
 -- A tree without one of its rows is a tree.
-use Rattle.std.proofs.Common.{◌≡◌, ℕ, ◌+◌, ◌≤◌, Option, Some, None, List, ◌++◌, Contains, refl, sym, ap, ◌∙◌, subst, arith}
-use Rattle.spec_levels.specs.Levels.{Row, Node, Tree, IsTree, rows_of, tree_pages}
+use Rattle.std.proofs.Common.{◌≡◌, ◌↔◌, ℕ, ◌+◌, ◌≤◌, Option, Some, None, List, ◌++◌, Contains, refl, sym, ap, ◌∙◌, subst, arith}
+use Rattle.spec_levels.specs.Levels.{Row, Node, Tree, IsTree, AreDistinct, rows_of, tree_pages}
 use Rattle.spec_ways.specs.Rows.{without, value_at}
 use Rattle.spec_ways.specs.Delete.{shrunk, lowered, deleted}
-use Rattle.spec_ways.specs.DeleteWrites.{delete_written, collapsed_children, delete_frees}
+use Rattle.law_ways.proofs.ByNext.{delete_by_next, children_by_next, frees_by_next}
 use Rattle.spec_ways.specs.Insert.{root_rows}
 use Rattle.spec_ways.specs.Pages.{Pages, Shows}
 use Rattle.spec_ways.specs.Sinks.{Loss, Sink, sink_of, AreSunk, freed_below_root}
@@ -15,11 +15,11 @@ use Rattle.law_ways.proofs.Counts.{tree_counts, none_zero, no_count}
 use Rattle.law_ways.proofs.RowValues.{without_value, without_others, without_none}
 use Rattle.law_ways.proofs.WayLaw.{contents_within}
 use Rattle.law_ways.proofs.SinkLaws.{SunkCase, Sinks, sinks}
-use Rattle.law_ways.specs.DeleteLaws.{IsSunkTree, IsDeleteWritten, DeleteKeeps, DeleteTakes, DeleteSinks, DeleteIsWritten}
+use Rattle.law_ways.specs.DeleteLaws.{IsSunkTree, DeleteKeeps, DeleteTakes, DeleteSinks}
 use Rattle.law_ways.proofs.ShrinkLaws as shrink
 use Rattle.law_ways.proofs.ByKey.{sink_by_key}
 use Rattle.law_ways.proofs.WayReads.{some_is}
-use Rattle.spec_ways.specs.Ways.{Way}
+use Rattle.spec_ways.specs.Ways.{Way, way_to}
 
 pub delete_keeps : DeleteKeeps
 delete_keeps root k tree is =
@@ -75,19 +75,25 @@ delete_sinks root k tree way is along =
       ends = ap (lowered root b) h.gone_is;
     }))
 
--- what is written and freed, and which pages there are then
-written : (root : ℕ) (way : Way) (c : Sink) (image : Pages) (tree t : Tree) (o : Option ℕ) → o ≡ c.gone_key → IsTree root tree → Shows (delete_written root way c o image) t.above t.leaves
-    → ((p : ℕ) → (Contains (tree_pages tree) p → ⊥) → delete_written root way c o image p ≡ image p)
-    → ((p : ℕ) → count p (tree_pages t) + count p (freed_below_root way.above c.above way.leaf c.leaf ++ collapsed_children root way c image o) ≡ count p (tree_pages tree))
-    → IsDeleteWritten root way c image tree t
+-- what is written and freed, the left edge told by nexts
+pub record IsWrittenByNext (root : ℕ) (way : Way) (c : Sink) (image : Pages) (tree t : Tree) : Type 0 where
+  pub shows : Shows (delete_by_next root way c c.gone_key image) t.above t.leaves
+  pub same : (p : ℕ) → (Contains (tree_pages tree) p → ⊥) → delete_by_next root way c c.gone_key image p ≡ image p
+  pub pages_are : (p : ℕ) → Contains (tree_pages tree) p ↔ Contains (tree_pages t ++ frees_by_next root way c image) p
+  pub apart : AreDistinct (tree_pages t ++ frees_by_next root way c image)
+
+written : (root : ℕ) (way : Way) (c : Sink) (image : Pages) (tree t : Tree) (o : Option ℕ) → o ≡ c.gone_key → IsTree root tree → Shows (delete_by_next root way c o image) t.above t.leaves
+    → ((p : ℕ) → (Contains (tree_pages tree) p → ⊥) → delete_by_next root way c o image p ≡ image p)
+    → ((p : ℕ) → count p (tree_pages t) + count p (freed_below_root way.above c.above way.leaf c.leaf ++ children_by_next root way c image o) ≡ count p (tree_pages tree))
+    → IsWrittenByNext root way c image tree t
 written root way c image tree t o e is shows same counts =
-    let goes = delete_frees root way c image in
+    let goes = frees_by_next root way c image in
     let exact : (p : ℕ) → count p (tree_pages t ++ goes) ≡ count p (tree_pages tree) = λ p.
     let i = counts p in let m = count_append p (tree_pages t) goes in
-    let n = ap (λ o. count p (freed_below_root way.above c.above way.leaf c.leaf ++ collapsed_children root way c image o)) e in omega (arith, i, m, n) in
+    let n = ap (λ o. count p (freed_below_root way.above c.above way.leaf c.leaf ++ children_by_next root way c image o)) e in omega (arith, i, m, n) in
     record {
-      shows = subst (λ o. Shows (delete_written root way c o image) t.above t.leaves) e shows;
-      same = λ p none. subst (λ o. delete_written root way c o image p ≡ image p) e (same p none);
+      shows = subst (λ o. Shows (delete_by_next root way c o image) t.above t.leaves) e shows;
+      same = λ p none. subst (λ o. delete_by_next root way c o image p ≡ image p) e (same p none);
       pages_are = λ p. let e = exact p in (
         λ has. contains_from p (tree_pages t ++ goes) (let some = counted p (tree_pages tree) has in omega (arith, e, some)),
         λ has. contains_from p (tree_pages tree) (let some = counted p (tree_pages t ++ goes) has in omega (arith, e, some)),
@@ -95,8 +101,9 @@ written root way c image tree t o e is shows same counts =
       apart = distinct_from (tree_pages t ++ goes) (λ p. let e = exact p in let f = once p (tree_pages tree) is.distinct in omega (arith, e, f));
     }
 
-pub delete_is_written : DeleteIsWritten
-delete_is_written root k tree image way is s along =
+pub written_by_next : (root k : ℕ) (tree : Tree) (image : Pages) (way : Way) → IsTree root tree → Shows image tree.above tree.leaves → way_to root tree k ≡ Some way
+    → IsWrittenByNext root way (sink_of k way) image tree (deleted root k tree)
+written_by_next root k tree image way is s along =
     let b = shrunk k (root_rows root) tree.above tree.leaves in
     let f = fits_from (root_rows root) tree.above tree.leaves is.levels in
     let h = tree_sinks root k tree is in
@@ -106,7 +113,7 @@ delete_is_written root k tree image way is s along =
     (shrink.shrunk_is k 0 (root_rows root) tree.above tree.leaves refl (omega arith, tt, tt) f) s
     (λ p. let a = tree_counts tree p in let c = once p (tree_pages tree) is.distinct in omega (arith, a, c)) (tree_counts tree 0 ∙ none_zero (tree_pages tree) is.nonzero)
     (sink_top k h.way.above h.way.leaf ∙ sym h.gone_is) in
-    subst (λ (w : Way). IsDeleteWritten root w (sink_of k w) image tree t) (some_is h.way way (sym h.is ∙ along))
-    (subst (λ (c : Sink). IsDeleteWritten root h.way c image tree t) (sym (h.slots 0 refl))
+    subst (λ (w : Way). IsWrittenByNext root w (sink_of k w) image tree t) (some_is h.way way (sym h.is ∙ along))
+    (subst (λ (c : Sink). IsWrittenByNext root h.way c image tree t) (sym (h.slots 0 refl))
     (written root h.way c image tree t b.gone_key h.gone_is is r.shows (λ p none. r.same p (tree_counts tree p ∙ no_count (tree_pages tree) p none))
     (λ p. let i = r.exact p in let j = tree_counts t p in let l = tree_counts tree p in omega (arith, i, j, l))))

@@ -3,7 +3,8 @@ use Rattle.std.proofs.Common.{◌≡◌, ℕ, zero, suc, ◌+◌, ◌<◌, ◌�
 use Rattle.std.proofs.lemmas.Bool.{cases_Bool, cases_eq, eqb-true, eqb-false, eq-eqb, ne_eqb}
 use Rattle.spec_levels.specs.Levels.{Row, Node, Tree, rows_of, pages_of, Payload}
 use Rattle.spec_ways.specs.Delete.{collapsed, Shrunk, lowered}
-use Rattle.spec_ways.specs.DeleteWrites.{losses_written, only_value, only_child, last_from, last_only_child, only_children_from, only_children, collapsed_children, page_as_root, delete_written}
+use Rattle.spec_ways.specs.DeleteWrites.{only_value, only_child, last_from, last_only_child, only_children_from, only_children, page_as_root}
+use Rattle.law_ways.proofs.ByNext.{losses_by_next, children_by_next, delete_by_next}
 use Rattle.spec_ways.specs.Insert.{linked, renumbered, top_renumbered, root_rows}
 use Rattle.spec_ways.specs.Pages.{Page, LeafPage, IndexPage, Pages, ShowsLevel, Shows, with_page}
 use Rattle.spec_ways.specs.Rows.{without}
@@ -202,10 +203,10 @@ root_goes p g root leaves leaves' leaf loss st (n ∷ ns) (l ∷ losses) (nodes 
 pub delete_shows : (root k : ℕ) (way : Way) (c : Sink) (b : Shrunk) (tree : Tree) (image : Pages) (o : Option ℕ) → Fits None (root_rows root) tree.above tree.leaves
     → AreSunk None way.above c.above tree.above b.above → IsSunk way.leaf c.leaf None tree.leaves b.leaves → IsShrunk k (root_rows root) tree.above tree.leaves b o → Shows image tree.above tree.leaves
     → ((p : ℕ) → count p (all_pages tree.above tree.leaves) ≤ 1) → count 0 (all_pages tree.above tree.leaves) ≡ 0 → top_gone c.above c.leaf ≡ o
-    → EndShows image (delete_written root way c o image) tree (lowered root b o) (freed_below_root way.above c.above way.leaf c.leaf ++ collapsed_children root way c image o)
+    → EndShows image (delete_by_next root way c o image) tree (lowered root b o) (freed_below_root way.above c.above way.leaf c.leaf ++ children_by_next root way c image o)
 delete_shows root k way c b tree image None f h l shrinks s once nonzero at_top =
     let low = losses_show way.leaf c.leaf tree.leaves b.leaves l image None (root_rows root) way.above c.above tree.above b.above f h s once nonzero in
-    let one = losses_written None way.above c.above way.leaf c.leaf image in
+    let one = losses_by_next None way.above c.above way.leaf c.leaf image in
     let m = length way.above in
     let long = losses_long None way.above c.above tree.above b.above h in
     let u = bottomed m 0 root one b.above b.leaves (omega (arith, long.1)) shrinks.lower low.shows in
@@ -222,7 +223,7 @@ delete_shows root k way c b tree image None f h l shrinks s once nonzero at_top 
       same = λ p none. with_page_there root p (page_as_root root (one q)) one (other_page root p tree.above tree.leaves (root_counts root root tree.above tree.leaves f) none) ∙ low.same p none;
       exact = λ p.
           let i = u.exact p in let j = low.exact p in let v = tops.pages_are p in
-          let w = count_append p (freed_below_root way.above c.above way.leaf c.leaf) (collapsed_children root way c image None) in
+          let w = count_append p (freed_below_root way.above c.above way.leaf c.leaf) (children_by_next root way c image None) in
           let x = stays_below p way.above c.above way.leaf c.leaf (losses_match None way.above c.above tree.above b.above h) at_top in omega (arith, i, j, v, w, x);
     }
 delete_shows root k way c b tree image (Some g) f h l shrinks s once nonzero at_top =
@@ -234,6 +235,6 @@ delete_shows root k way c b tree image (Some g) f h l shrinks s once nonzero at_
           let low = losses_show way.leaf c.leaf tree.leaves b.leaves l image None (root_rows root) way.above c.above tree.above b.above f h s once nonzero in
           let i = low.exact p in
           let j = no_pages p b.above b.leaves (no_root g root b.above b.leaves shrinks.lower.has shrinks.lower.fits) in
-          let w = count_append p (freed_below_root way.above c.above way.leaf c.leaf) (collapsed_children root way c image (Some g)) in
+          let w = count_append p (freed_below_root way.above c.above way.leaf c.leaf) (children_by_next root way c image (Some g)) in
           let x = root_goes p g root tree.leaves b.leaves way.leaf c.leaf l way.above c.above tree.above b.above f h at_top in omega (arith, i, j, w, x);
     }

@@ -57,7 +57,8 @@ has_first level low image (q ∷ post) (m ∷ ms) at l st s = record {
 
 module _ (k low : ℕ) (rows : List (Row ℕ)) (nodes : List (Node ℕ)) (s : Spot k low rows nodes) (le : low ≤ k) (st : Starts rows nodes) where
   -- the rows behind the first of the way's page
-  behind_is : (r : Row ℕ) (rest : List (Row ℕ)) → s.node.rows ≡ r ∷ rest → key_toward k (rows_of nodes) ≡ r.key → rows_behind (key_toward k (rows_of nodes)) (rows_of nodes) ≡ rest ++ rows_of s.right
+  pub behind_is : (r : Row ℕ) (rest : List (Row ℕ)) → s.node.rows ≡ r ∷ rest → key_toward k (rows_of nodes) ≡ r.key
+      → rows_behind (key_toward k (rows_of nodes)) (rows_of nodes) ≡ rest ++ rows_of s.right
   behind_is r rest e same =
       let key = key_toward k (rows_of nodes) in
       let at : r.key ≡ s.key = subst (StartsAt s.key) e (s.starts st) in
@@ -67,7 +68,7 @@ module _ (k low : ℕ) (rows : List (Row ℕ)) (nodes : List (Node ℕ)) (s : Sp
       ∙ behind_same key r (rest ++ rows_of s.right) same
 
   -- rows that are taken from a page: it had one, or it keeps those behind its first
-  one_row : (g : ℕ) (xs : List (Row ℕ)) → StartsAt s.key xs → without g xs ≡ [] → (r : Row ℕ) × (xs ≡ r ∷ []) × (g ≡ r.key)
+  pub one_row : (g : ℕ) (xs : List (Row ℕ)) → StartsAt s.key xs → without g xs ≡ [] → (r : Row ℕ) × (xs ≡ r ∷ []) × (g ≡ r.key)
   one_row g [] at e = absurd at
   one_row g (r ∷ rest) at e = elim (cases_eq g r.key) [
     | inl same ↦ (r, ap (λ l. r ∷ l) (sym (without_same g r rest same) ∙ e), same)
@@ -90,11 +91,11 @@ module _ (k low : ℕ) (rows : List (Row ℕ)) (nodes : List (Node ℕ)) (s : Sp
       ∙ ap (λ l. s.node.next ∷ l)
       (ap (first_children (length ns) image) (h.child ∙ ap first_value (sym next_post)) ∙ below h.low (subst (StartsAt h.low) (sym next_post) h.starts))
 
-no_rows : (j : ℕ) (xs : List (Row ℕ)) → with_first_key j xs ≡ [] → xs ≡ []
+pub no_rows : (j : ℕ) (xs : List (Row ℕ)) → with_first_key j xs ≡ [] → xs ≡ []
 no_rows j [] e = refl
 no_rows j (x ∷ xs) e = absurd (cc)
 
-edge_is_first : (x g : ℕ) (xs : List (Row ℕ)) → edge_by_key x xs ≡ Some g → x ≡ lowest_key xs
+pub edge_is_first : (x g : ℕ) (xs : List (Row ℕ)) → edge_by_key x xs ≡ Some g → x ≡ lowest_key xs
 edge_is_first x g xs e = by_test (x == lowest_key xs) refl e
   where
     by_test : (b : Bool) → (x == lowest_key xs) ≡ b → (if b then Some x else None) ≡ Some g → x ≡ lowest_key xs
@@ -102,16 +103,16 @@ edge_is_first x g xs e = by_test (x == lowest_key xs) refl e
     by_test false other e = absurd (cc)
 
 -- a page that keeps the rows behind its first
-record KeepsRest (x : ℕ) (xs : List (Row ℕ)) (value : ℕ) : Type 0 where
-  row : Row ℕ
-  rest : List (Row ℕ)
-  low : ℕ
-  is : xs ≡ row ∷ rest
-  key : x ≡ row.key
-  starts : StartsAt low rest
-  first : value ≡ first_value rest
+pub record KeepsRest (x : ℕ) (xs : List (Row ℕ)) (value : ℕ) : Type 0 where
+  pub row : Row ℕ
+  pub rest : List (Row ℕ)
+  pub low : ℕ
+  pub is : xs ≡ row ∷ rest
+  pub key : x ≡ row.key
+  pub starts : StartsAt low rest
+  pub first : value ≡ first_value rest
 
-keeps_rest : (at x j : ℕ) (xs : List (Row ℕ)) (y : Row ℕ) (ys : List (Row ℕ)) → StartsAt at xs → x ≡ lowest_key xs → with_first_key j (without x xs) ≡ y ∷ ys → KeepsRest x xs y.value
+pub keeps_rest : (at x j : ℕ) (xs : List (Row ℕ)) (y : Row ℕ) (ys : List (Row ℕ)) → StartsAt at xs → x ≡ lowest_key xs → with_first_key j (without x xs) ≡ y ∷ ys → KeepsRest x xs y.value
 keeps_rest at x j [] y ys starts first e = absurd starts
 keeps_rest at x j (r ∷ []) y ys starts first e = let f = sym (ap (with_first_key j) (without_same x r [] first)) ∙ e in absurd (cc)
 keeps_rest at x j (r ∷ z ∷ zs) y ys starts first e = record {

@@ -4,8 +4,12 @@ pub mod WayLaw
 pub mod Bounds
 pub mod Bridge
 pub mod ByKey
+pub mod ByNext
 pub mod Counts
 pub mod DeleteLaw
+pub mod DeleteWritten
+pub mod EdgeNear
+pub mod EdgeWrites
 pub mod EndShows
 pub mod Fits
 pub mod GrowLaws

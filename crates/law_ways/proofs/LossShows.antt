@@ -4,7 +4,8 @@ use Rattle.std.specs.Prelude.{if◌then◌else◌}
 use Rattle.std.proofs.lemmas.Bool.{eq-eqb, ne_eqb}
 use Rattle.spec_levels.specs.Levels.{Row, Node, rows_of, pages_of, first_page, IsLinked, Payload}
 use Rattle.spec_ways.specs.Climbs.{with_first_prev}
-use Rattle.spec_ways.specs.DeleteWrites.{page_with_next, page_with_edge, next_written, behind_written, loss_written, losses_written}
+use Rattle.spec_ways.specs.DeleteWrites.{page_with_next, page_with_edge, next_written}
+use Rattle.law_ways.proofs.ByNext.{behind_by_next, loss_by_next, losses_by_next}
 use Rattle.spec_ways.specs.InsertWrites.{page_with_prev}
 use Rattle.spec_ways.specs.Pages.{Page, LeafPage, IndexPage, Pages, ShowsLevel, Shows, with_page}
 use Rattle.spec_ways.specs.Rows.{with_first_key}
@@ -91,20 +92,20 @@ module _ {V : Type 0} (shape : Node V → Page) (prev_shaped : (q : ℕ) (n : No
   behind_none q (Some g) image = tt
 
   behind_shows : (p q : ℕ) (edge : Option ℕ) (right : List (Node V)) (image : Pages) → p ≡ first_page right → count 0 (pages_of right) ≡ 0 → ((j : ℕ) → count j (pages_of right) ≤ 1)
-      → ShowsLevel shape image right → BehindShows q edge right image (behind_written p q edge image)
+      → ShowsLevel shape image right → BehindShows q edge right image (behind_by_next p q edge image)
   behind_shows p q edge [] image is nonzero once s =
       let e = eq-eqb p 0 is in
-      let f : behind_written p q edge image ≡ image = rw e refl in
-      record { shows = behind_none q edge (behind_written p q edge image); same = λ j none. ap (λ (i : Pages). i j) f }
+      let f : behind_by_next p q edge image ≡ image = rw e refl in
+      record { shows = behind_none q edge (behind_by_next p q edge image); same = λ j none. ap (λ (i : Pages). i j) f }
   behind_shows p q edge (m ∷ ms) image is nonzero once s =
       let e = ne_eqb p 0 (λ z. uncounted 0 m.page (pages_of ms) nonzero (sym z ∙ is)) in
       let now = page_with_prev q (page_with_edge edge (image m.page)) in
-      let f : behind_written p q edge image ≡ with_page m.page now image =
+      let f : behind_by_next p q edge image ≡ with_page m.page now image =
       ap (λ b. if b then image else with_page p (page_with_prev q (page_with_edge edge (image p))) image) e ∙ ap (λ j. with_page j (page_with_prev q (page_with_edge edge (image j))) image) is in
       let o = once m.page in
       let c = counts_self m.page (pages_of ms) in
       record {
-        shows = edges_page q edge m ms image (behind_written p q edge image) s.0 (ap (λ (i : Pages). i m.page) f ∙ with_page_here m.page now image)
+        shows = edges_page q edge m ms image (behind_by_next p q edge image) s.0 (ap (λ (i : Pages). i m.page) f ∙ with_page_here m.page now image)
             (subst (λ i. ShowsLevel shape i ms) (sym f) (shows_wrote shape m.page now image ms (omega (arith, o, c)) s.1));
         same = λ j none. ap (λ (i : Pages). i j) f ∙ with_page_there m.page j now image (uncounted j m.page (pages_of ms) none);
       }
@@ -116,7 +117,7 @@ module _ {V : Type 0} (shape : Node V → Page) (prev_shaped : (q : ℕ) (n : No
   loss_shows : (image : Pages) (left : List (Node V)) (n : Node V) (right : List (Node V)) (loss : Loss V) (edge : Option ℕ) → n.next ≡ first_page right → n.prev ≡ last_page left
       → count 0 (pages_of left) ≡ 0 → count 0 (pages_of right) ≡ 0 → ((p : ℕ) → count p (pages_of left) + (count p (n.page ∷ []) + count p (pages_of right)) ≤ 1)
       → ShowsLevel shape image (left ++ n ∷ right)
-      → LossShows image (loss_written shape n loss edge image) left n right loss edge
+      → LossShows image (loss_by_next shape n loss edge image) left n right loss edge
   loss_shows image left n right Untouched edge next prev zero_left zero_right once s = record { shows = s; same = λ p none. refl }
   loss_shows image left n right (Keeps rows below) edge next prev zero_left zero_right once s =
       let parts = shows_parts shape image left (n ∷ right) s in
@@ -130,7 +131,7 @@ module _ {V : Type 0} (shape : Node V → Page) (prev_shaped : (q : ℕ) (n : No
       }
   loss_shows image left n right Goes edge next prev zero_left zero_right once s =
       let parts = shows_parts shape image left (n ∷ right) s in
-      let one = behind_written n.next n.prev edge image in
+      let one = behind_by_next n.next n.prev edge image in
       let two = next_written n.prev n.next one in
       let h = behind_shows n.next n.prev edge right image next zero_right (λ j. let a = once j in omega (arith, a)) parts.1.1 in
       let left_one = shows_same shape image one left (λ p some. h.same p (let a = once p in omega (arith, a, some))) parts.0 in
@@ -161,7 +162,7 @@ level_lost : {V : Type 0} (shape : Node V → Page) → ((q : ℕ) (n : Node V) 
     → ((q : ℕ) (n : Node V) → page_with_next q (shape n) ≡ shape (record { page = n.page; prev = n.prev; next = q; rows = n.rows }))
     → ((g : ℕ) (n : Node V) → page_with_edge (Some g) (shape n) ≡ shape (record { page = n.page; prev = n.prev; next = n.next; rows = with_first_key g n.rows }))
     → (image : Pages) (n : Node V) (loss : Loss V) (edge : Option ℕ) (nodes nodes' : List (Node V)) → IsSunk n loss edge nodes nodes' → IsLinked 0 nodes → ShowsLevel shape image nodes
-    → ((p : ℕ) → count p (pages_of nodes) ≤ 1) → count 0 (pages_of nodes) ≡ 0 → LevelLost shape image (loss_written shape n loss edge image) n loss nodes nodes'
+    → ((p : ℕ) → count p (pages_of nodes) ≤ 1) → count 0 (pages_of nodes) ≡ 0 → LevelLost shape image (loss_by_next shape n loss edge image) n loss nodes nodes'
 level_lost shape a b c image n loss edge nodes nodes' st links s once nonzero =
     let counts : (p : ℕ) → count p (pages_of nodes) ≡ count p (pages_of st.left) + (count p (n.page ∷ []) + count p (pages_of st.right)) =
     λ p. let i = pages_join p st.left (n ∷ st.right) in let j = ap (λ l. count p (pages_of l)) st.was in omega (arith, i, j) in
@@ -170,7 +171,7 @@ level_lost shape a b c image n loss edge nodes nodes' st links s once nonzero =
     let h = loss_shows shape a b c image st.left n st.right loss edge (linked_at 0 st.left n st.right l) (prev_is_last st.left n.prev (prev_at 0 st.left n st.right l))
     (omega (arith, z, nonzero)) (omega (arith, z, nonzero)) (λ p. let i = counts p in let j = once p in omega (arith, i, j)) (subst (ShowsLevel shape image) st.was s) in
     record {
-      shows = subst (ShowsLevel shape (loss_written shape n loss edge image)) (sym st.is) h.shows;
+      shows = subst (ShowsLevel shape (loss_by_next shape n loss edge image)) (sym st.is) h.shows;
       same = λ p none. h.same p (let i = counts p in omega (arith, i, none));
       exact = λ p. let i = lost_pages loss edge st.left n st.right p in let j = ap (λ l. count p (pages_of l)) st.is in let k = counts p in omega (arith, i, j, k);
     }
@@ -195,7 +196,7 @@ pub record LossesShow (image image' : Pages) (above above' : List (List (Node �
 module _ (leaf : Node Payload) (loss : Loss Payload) (leaves leaves' : List (Node Payload)) (st : IsSunk leaf loss None leaves leaves') (image : Pages) where
   pub losses_show : (edge : Option ℕ) (rows : List (Row ℕ)) (ns : List (Node ℕ)) (losses : List (Loss ℕ)) (above above' : List (List (Node ℕ))) → Fits None rows above leaves
       → AreSunk edge ns losses above above' → Shows image above leaves → ((p : ℕ) → count p (all_pages above leaves) ≤ 1) → count 0 (all_pages above leaves) ≡ 0
-      → LossesShow image (losses_written edge ns losses leaf loss image) above above' leaves leaves' (freed_pages ns losses leaf loss)
+      → LossesShow image (losses_by_next edge ns losses leaf loss image) above above' leaves leaves' (freed_pages ns losses leaf loss)
   losses_show edge rows [] [] [] [] f h s once nonzero =
       let l = level_lost LeafPage (λ q n. refl) (λ q n. refl) (λ q n. refl) image leaf loss None leaves leaves' st f.1 s once nonzero in record { shows = l.shows; same = l.same; exact = l.exact }
   losses_show edge rows (n ∷ ns) (q ∷ losses) (nodes ∷ more) (nodes' ∷ more') f h s once nonzero =
@@ -204,13 +205,13 @@ module _ (leaf : Node Payload) (loss : Loss Payload) (leaves leaves' : List (Nod
       let long = losses_long (edge_below edge q) ns losses more more' h.1 in
       let low = losses_show (edge_below edge q) (rows_of nodes) ns losses more more' f.3 h.1 s.1 (λ p. let a = counts p in
       let b = once p in omega (arith, a, b)) (omega (arith, zero_counts, nonzero)) in
-      let image' = losses_written (edge_below edge q) ns losses leaf loss image in
+      let image' = losses_by_next (edge_below edge q) ns losses leaf loss image in
       let shape = IndexPage (suc (length ns)) in
       let here = shows_same shape image image' nodes (λ p some. low.same p (let a = counts p in let b = once p in omega (arith, a, b, some)))
       (subst (λ m. ShowsLevel (IndexPage (suc m)) image nodes) (sym long.0) s.0) in
       let l = level_lost shape (λ q n. refl) (λ q n. refl) (λ q n. refl) image' n q edge nodes nodes' h.0 f.2 here (λ p. let a = counts p in
       let b = once p in omega (arith, a, b)) (omega (arith, zero_counts, nonzero)) in
-      let image'' = loss_written shape n q edge image' in
+      let image'' = loss_by_next shape n q edge image' in
       record {
         shows = (
           subst (λ m. ShowsLevel (IndexPage (suc m)) image'' nodes') long.1 l.shows,

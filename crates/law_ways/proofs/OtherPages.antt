@@ -6,10 +6,10 @@ use Rattle.spec_levels.specs.Levels.{Payload, Row, Node, Index, Leaf}
 use Rattle.spec_ways.specs.Insert.{first_fresh}
 use Rattle.spec_ways.specs.Ways.{way_pages}
 use Rattle.spec_ways.specs.Climbs.{Step, Stays, Grows, Splits, new_page, new_pages, second_page, taken_pages}
-use Rattle.spec_ways.specs.Sinks.{Loss, Untouched, Keeps, Goes, edge_below}
+use Rattle.spec_ways.specs.Sinks.{Loss, Untouched, Keeps, Goes}
 use Rattle.spec_ways.specs.Pages.{Page, LeafPage, IndexPage, Pages, with_page}
-use Rattle.spec_ways.specs.InsertWrites.{page_with_prev, step_written, steps_written, halves_written, raise_written, insert_written, split_next, split_nexts, insert_reads}
-use Rattle.spec_ways.specs.DeleteWrites.{page_with_next, page_with_edge, behind_written, loss_written, losses_written, delete_written, neighbours, all_neighbours, left_edge, collapsed_children}
+use Rattle.spec_ways.specs.InsertWrites.{page_with_prev, prev_written, step_written, steps_written, halves_written, raise_written, insert_written, split_next, split_nexts, insert_reads}
+use Rattle.spec_ways.specs.DeleteWrites.{page_with_next, page_with_edge, loss_written, losses_written, left_edge, edge_key, edge_written, sink_written, delete_written, neighbours, all_neighbours, collapsed_children}
 use Rattle.law_ways.proofs.ShowLaws.{with_page_there}
 use Rattle.law_ways.specs.InsertLaws.{InsertKeepsOthers}
 use Rattle.law_ways.specs.DeleteLaws.{DeleteKeepsOthers}
@@ -55,14 +55,20 @@ module _ {V : Type 0} (kind : Node V → Page) (p : ℕ) where
       with_page_there root p _ (with_page right y (with_page left x image)) at_root
       ∙ with_page_there right p y (with_page left x image) at_right ∙ with_page_there left p x image (not_first left [] p new)
 
-  loss_there : (n : Node V) (loss : Loss V) (edge : Option ℕ) (image : Pages) → (p ≡ n.page → ⊥) → Not (neighbours loss n) p → loss_written kind n loss edge image p ≡ image p
-  loss_there n Untouched edge image other none = refl
-  loss_there n (Keeps rows below) edge image other none = with_page_there n.page p (kind (record { page = n.page; prev = n.prev; next = n.next; rows = rows })) image other
-  loss_there n Goes edge image other none =
+  loss_there : (n : Node V) (loss : Loss V) (image : Pages) → (p ≡ n.page → ⊥) → Not (neighbours loss n) p → loss_written kind n loss image p ≡ image p
+  loss_there n Untouched image other none = refl
+  loss_there n (Keeps rows below) image other none = with_page_there n.page p (kind (record { page = n.page; prev = n.prev; next = n.next; rows = rows })) image other
+  loss_there n Goes image other none =
       let prevs = if n.prev == 0 then [] else n.prev ∷ [] in
       let nexts = if n.next == 0 then [] else n.next ∷ [] in
-      changed_there (page_with_next n.next) n.prev p (behind_written n.next n.prev edge image) (not_left prevs nexts p none)
-      ∙ changed_there (λ x. page_with_prev n.prev (page_with_edge edge x)) n.next p image (not_right prevs nexts p none)
+      changed_there (page_with_next n.next) n.prev p (prev_written n.next n.prev image) (not_left prevs nexts p none)
+      ∙ changed_there (page_with_prev n.prev) n.next p image (not_right prevs nexts p none)
+
+edge_there : (p : ℕ) (key : Option ℕ) (ps : List ℕ) (image : Pages) → Not ps p → edge_written key ps image p ≡ image p
+edge_there p key [] image none = refl
+edge_there p key (q ∷ ps) image none =
+    edge_there p key ps (with_page q (page_with_edge key (image q)) image) (not_later q ps p none)
+    ∙ with_page_there q p (page_with_edge key (image q)) image (not_first q ps p none)
 
 abbrev pages : List Index → List ℕ
 pages ns = map (λ (n : Index). n.page) ns
@@ -83,14 +89,14 @@ module _ (p : ℕ) where
       ∙ steps_there ns steps leaf step image (not_later n.page (pages ns ++ leaf.page ∷ []) p way) low (not_left (split_nexts ns steps) (split_next st n) p high)
       (not_left (new_pages steps step) (new_page st) p new)
 
-  losses_there : (edge : Option ℕ) (ns : List Index) (losses : List (Loss ℕ)) (leaf : Leaf) (loss : Loss Payload) (image : Pages) → Not (pages ns ++ leaf.page ∷ []) p → Not (neighbours loss leaf) p
-      → Not (all_neighbours ns losses) p → losses_written edge ns losses leaf loss image p ≡ image p
-  losses_there edge [] losses leaf loss image way low high = loss_there LeafPage p leaf loss None image (not_first leaf.page [] p way) low
-  losses_there edge (n ∷ ns) [] leaf loss image way low high = refl
-  losses_there edge (n ∷ ns) (l ∷ losses) leaf loss image way low high =
-      loss_there (IndexPage (suc (length ns))) p n l edge (losses_written (edge_below edge l) ns losses leaf loss image) (not_first n.page (pages ns ++ leaf.page ∷ []) p way)
+  losses_there : (ns : List Index) (losses : List (Loss ℕ)) (leaf : Leaf) (loss : Loss Payload) (image : Pages) → Not (pages ns ++ leaf.page ∷ []) p → Not (neighbours loss leaf) p
+      → Not (all_neighbours ns losses) p → losses_written ns losses leaf loss image p ≡ image p
+  losses_there [] losses leaf loss image way low high = loss_there LeafPage p leaf loss image (not_first leaf.page [] p way) low
+  losses_there (n ∷ ns) [] leaf loss image way low high = refl
+  losses_there (n ∷ ns) (l ∷ losses) leaf loss image way low high =
+      loss_there (IndexPage (suc (length ns))) p n l (losses_written ns losses leaf loss image) (not_first n.page (pages ns ++ leaf.page ∷ []) p way)
       (not_right (all_neighbours ns losses) (neighbours l n) p high)
-      ∙ losses_there (edge_below edge l) ns losses leaf loss image (not_later n.page (pages ns ++ leaf.page ∷ []) p way) low (not_left (all_neighbours ns losses) (neighbours l n) p high)
+      ∙ losses_there ns losses leaf loss image (not_later n.page (pages ns ++ leaf.page ∷ []) p way) low (not_left (all_neighbours ns losses) (neighbours l n) p high)
 
 raise_there : (p root right : ℕ) (ns : List Index) (steps : List (Step ℕ)) (leaf : Leaf) (step : Step Payload) (image : Pages) → (p ≡ root → ⊥) → (p ≡ right → ⊥) → Not (pages ns ++ leaf.page ∷ []) p
     → Not (split_next step leaf) p → Not (split_nexts ns steps) p → Not (new_pages steps step) p → raise_written root right ns steps leaf step image p ≡ image p
@@ -128,12 +134,18 @@ pub delete_keeps_others : DeleteKeepsOthers
 delete_keeps_others root way c image on_way p none =
     let low = neighbours c.leaf way.leaf in
     let high = all_neighbours way.above c.above in
-    let rest = left_edge image way.above c.above ++ collapsed_children root way c image c.gone_key in
-    let along = not_left (way_pages way) (low ++ (high ++ rest)) p none in
-    let behind = not_right (way_pages way) (low ++ (high ++ rest)) p none in
-    by_root c.gone_key along (λ same. along (subst (Contains (way_pages way)) (sym same) on_way)) (not_left low (high ++ rest) p behind) (not_left high rest p (not_right low (high ++ rest) p behind))
+    let edge = left_edge image way.above c.above in
+    let children = collapsed_children root way c image c.gone_key in
+    let along = not_left (way_pages way) (low ++ (high ++ (edge ++ children))) p none in
+    let behind = not_right (way_pages way) (low ++ (high ++ (edge ++ children))) p none in
+    let rest = not_right low (high ++ (edge ++ children)) p behind in
+    by_root c.gone_key along (λ same. along (subst (Contains (way_pages way)) (sym same) on_way)) (not_left low (high ++ (edge ++ children)) p behind)
+    (not_left high (edge ++ children) p rest) (not_left edge children p (not_right high (edge ++ children) p rest))
   where
-    by_root : (o : Option ℕ) → Not (way_pages way) p → (p ≡ root → ⊥) → Not (neighbours c.leaf way.leaf) p → Not (all_neighbours way.above c.above) p → delete_written root way c o image p ≡ image p
-    by_root None along at_root low high =
-        with_page_there root p _ (losses_written None way.above c.above way.leaf c.leaf image) at_root ∙ losses_there p None way.above c.above way.leaf c.leaf image along low high
-    by_root (Some key) along at_root low high = with_page_there root p _ image at_root
+    by_root : (o : Option ℕ) → Not (way_pages way) p → (p ≡ root → ⊥) → Not (neighbours c.leaf way.leaf) p → Not (all_neighbours way.above c.above) p → Not (left_edge image way.above c.above) p
+        → delete_written root way c o image p ≡ image p
+    by_root None along at_root low high edge =
+        with_page_there root p _ (sink_written way c image) at_root
+        ∙ edge_there p (edge_key c.above) (left_edge image way.above c.above) (losses_written way.above c.above way.leaf c.leaf image) edge
+        ∙ losses_there p way.above c.above way.leaf c.leaf image along low high
+    by_root (Some key) along at_root low high edge = with_page_there root p _ image at_root

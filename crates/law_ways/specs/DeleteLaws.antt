@@ -57,8 +57,8 @@ edge_nexts edge (node ∷ way) [] = []
 edge_nexts None (node ∷ way) (lost ∷ losses) = edge_nexts (edge_below None lost) way losses
 edge_nexts (Some key) (node ∷ way) (lost ∷ losses) = node.next ∷ edge_nexts (edge_below (Some key) lost) way losses
 
--- the page that a new first row names is the next of the page that goes: so a delete finds the left edge by the first
--- rows of any image, and where the image shows a tree, these are the nexts
+-- the page that a new first row names is the next of the page that goes: a delete finds the left edge by first rows, on any
+-- image, and where the image shows a tree these are the nexts
 abbrev pub LeftEdgeIsNext : Type 0
 LeftEdgeIsNext = (root key : ℕ) (tree : Tree) (image : Pages) (way : Way) → IsTree root tree → Shows image tree.above tree.leaves → way_to root tree key ≡ Some way
     → left_edge image way.above (sink_of key way).above ≡ edge_nexts None way.above (sink_of key way).above

@@ -3,9 +3,9 @@ use Rattle.std.specs.Prelude.{ℕ, zero, suc, List, [], ◌∷◌, ◌++◌, len
 use Rattle.spec_levels.specs.Levels.{Payload, Row, Node, Index, Leaf}
 use Rattle.spec_ways.specs.Rows.{with_first_key, first_value}
 use Rattle.spec_ways.specs.Ways.{Way, way_pages}
-use Rattle.spec_ways.specs.Sinks.{Loss, Untouched, Keeps, Goes, Sink, edge_below, freed_below_root}
+use Rattle.spec_ways.specs.Sinks.{Loss, Untouched, Keeps, Goes, Sink, freed_below_root}
 use Rattle.spec_ways.specs.Pages.{Page, LeafPage, IndexPage, Pages, with_page}
-use Rattle.spec_ways.specs.InsertWrites.{page_with_prev}
+use Rattle.spec_ways.specs.InsertWrites.{prev_written}
 
 abbrev pub page_with_next : ℕ → Page → Page
 page_with_next next (LeafPage leaf) = LeafPage (record { page = leaf.page; prev = leaf.prev; next = next; rows = leaf.rows })
@@ -21,22 +21,59 @@ page_with_edge (Some key) (IndexPage level node) = IndexPage level (record { pag
 abbrev pub next_written : ℕ → ℕ → Pages → Pages
 next_written page next image = if page == 0 then image else with_page page (page_with_next next (image page)) image
 
--- this page has this prev, and takes its place on the left edge; page 0 is none
-abbrev pub behind_written : ℕ → ℕ → Option ℕ → Pages → Pages
-behind_written page prev edge image = if page == 0 then image else with_page page (page_with_prev prev (page_with_edge edge (image page))) image
-
 -- the prev and the next of a page that goes name each other
-abbrev pub loss_written : {V : Type 0} → (Node V → Page) → Node V → Loss V → Option ℕ → Pages → Pages
-loss_written kind node Untouched edge image = image
-loss_written kind node (Keeps rows below) edge image = with_page node.page (kind (record { page = node.page; prev = node.prev; next = node.next; rows = rows })) image
-loss_written kind node Goes edge image = next_written node.prev node.next (behind_written node.next node.prev edge image)
+abbrev pub loss_written : {V : Type 0} → (Node V → Page) → Node V → Loss V → Pages → Pages
+loss_written kind node Untouched image = image
+loss_written kind node (Keeps rows edge) image = with_page node.page (kind (record { page = node.page; prev = node.prev; next = node.next; rows = rows })) image
+loss_written kind node Goes image = next_written node.prev node.next (prev_written node.next node.prev image)
 
 -- from the leaf upwards
-abbrev pub losses_written : Option ℕ → List Index → List (Loss ℕ) → Leaf → Loss Payload → Pages → Pages
-losses_written edge [] losses leaf loss image = loss_written LeafPage leaf loss None image
-losses_written edge (node ∷ way) [] leaf loss image = image
-losses_written edge (node ∷ way) (lost ∷ losses) leaf loss image =
-    loss_written (IndexPage (suc (length way))) node lost edge (losses_written (edge_below edge lost) way losses leaf loss image)
+abbrev pub losses_written : List Index → List (Loss ℕ) → Leaf → Loss Payload → Pages → Pages
+losses_written [] losses leaf loss image = loss_written LeafPage leaf loss image
+losses_written (node ∷ way) [] leaf loss image = image
+losses_written (node ∷ way) (lost ∷ losses) leaf loss image = loss_written (IndexPage (suc (length way))) node lost (losses_written way losses leaf loss image)
+
+abbrev pub first_child : Page → ℕ
+first_child (LeafPage leaf) = 0
+first_child (IndexPage level node) = first_value node.rows
+
+-- so many index pages, from this one down along first rows
+abbrev pub first_children : ℕ → Pages → ℕ → List ℕ
+first_children zero image page = []
+first_children (suc levels) image page = page ∷ first_children levels image (first_child (image page))
+
+abbrev pub edge_from : ℕ → Pages → Loss ℕ → List ℕ → List ℕ
+edge_from levels image Untouched below = below
+edge_from levels image (Keeps rows None) below = below
+edge_from levels image (Keeps rows (Some key)) below = first_children levels image (first_value rows)
+edge_from levels image Goes below = below
+
+-- the left edge, from above: where a page of the way keeps rows and lost the first, the index pages below it from the one
+-- that its new first row names
+abbrev pub left_edge : Pages → List Index → List (Loss ℕ) → List ℕ
+left_edge image [] losses = []
+left_edge image (node ∷ way) [] = []
+left_edge image (node ∷ way) (lost ∷ losses) = edge_from (length way) image lost (left_edge image way losses)
+
+abbrev pub edge_key_from : Loss ℕ → Option ℕ → Option ℕ
+edge_key_from Untouched below = below
+edge_key_from (Keeps rows None) below = below
+edge_key_from (Keeps rows (Some key)) below = Some key
+edge_key_from Goes below = below
+
+-- the key that goes down it
+abbrev pub edge_key : List (Loss ℕ) → Option ℕ
+edge_key [] = None
+edge_key (lost ∷ losses) = edge_key_from lost (edge_key losses)
+
+-- each of these pages begins with the edge's key
+abbrev pub edge_written : Option ℕ → List ℕ → Pages → Pages
+edge_written key [] image = image
+edge_written key (page ∷ pages) image = edge_written key pages (with_page page (page_with_edge key (image page)) image)
+
+-- the image after the losses of a way, before a root collapses
+abbrev pub sink_written : Way → Sink → Pages → Pages
+sink_written way sink image = edge_written (edge_key sink.above) (left_edge image way.above sink.above) (losses_written way.above sink.above way.leaf sink.leaf image)
 
 -- the page that an index page names where it has one row
 abbrev pub only_value : List (Row ℕ) → Option ℕ
@@ -67,7 +104,7 @@ collapse_written limit root image = with_page root (page_as_root root (image (la
 
 -- the image after a delete along this way; a root that goes too is a leaf without rows
 abbrev pub delete_written : ℕ → Way → Sink → Option ℕ → Pages → Pages
-delete_written root way sink None image = collapse_written (length way.above) root (losses_written None way.above sink.above way.leaf sink.leaf image)
+delete_written root way sink None image = collapse_written (length way.above) root (sink_written way sink image)
 delete_written root way sink (Some key) image = with_page root (LeafPage (record { page = root; prev = 0; next = 0; rows = [] })) image
 
 -- prev and next of a page that goes, if it has them
@@ -81,28 +118,6 @@ all_neighbours [] losses = []
 all_neighbours (node ∷ way) [] = []
 all_neighbours (node ∷ way) (lost ∷ losses) = all_neighbours way losses ++ neighbours lost node
 
-abbrev pub first_child : Page → ℕ
-first_child (LeafPage leaf) = 0
-first_child (IndexPage level node) = first_value node.rows
-
--- so many index pages, from this one down along first rows
-abbrev pub first_children : ℕ → Pages → ℕ → List ℕ
-first_children zero image page = []
-first_children (suc levels) image page = page ∷ first_children levels image (first_child (image page))
-
-abbrev pub edge_from : ℕ → Pages → Loss ℕ → List ℕ → List ℕ
-edge_from levels image Untouched below = below
-edge_from levels image (Keeps rows None) below = below
-edge_from levels image (Keeps rows (Some key)) below = first_children levels image (first_value rows)
-edge_from levels image Goes below = below
-
--- the left edge, from above: where a page of the way keeps rows and lost the first, the index pages below it from the one
--- that its new first row names
-abbrev pub left_edge : Pages → List Index → List (Loss ℕ) → List ℕ
-left_edge image [] losses = []
-left_edge image (node ∷ way) [] = []
-left_edge image (node ∷ way) (lost ∷ losses) = edge_from (length way) image lost (left_edge image way losses)
-
 abbrev pub only_children_from : (ℕ → List ℕ) → Option ℕ → List ℕ
 only_children_from below None = []
 only_children_from below (Some child) = child ∷ below child
@@ -114,7 +129,7 @@ only_children (suc limit) image page = only_children_from (only_children limit i
 
 -- the pages from the child of the root down that go where the root collapses
 abbrev pub collapsed_children : ℕ → Way → Sink → Pages → Option ℕ → List ℕ
-collapsed_children root way sink image None = only_children (length way.above) (losses_written None way.above sink.above way.leaf sink.leaf image) root
+collapsed_children root way sink image None = only_children (length way.above) (sink_written way sink image) root
 collapsed_children root way sink image (Some key) = []
 
 -- a delete reads its way; from the leaf upwards prev and next of each page that goes; the left edge; and the children of a

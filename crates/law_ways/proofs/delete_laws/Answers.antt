@@ -1,4 +1,5 @@
-use Rattle.law_ways.proofs.DeleteLaw.{delete_keeps, delete_takes, delete_sinks, delete_is_written}
+use Rattle.law_ways.proofs.DeleteLaw.{delete_keeps, delete_takes, delete_sinks}
+use Rattle.law_ways.proofs.DeleteWritten.{delete_is_written}
 use Rattle.law_ways.proofs.LeftEdge.{left_edge_is_next}
 use Rattle.law_ways.proofs.LocalLaws.{delete_is_local}
 use Rattle.law_ways.proofs.RoomKept.{delete_has_room}

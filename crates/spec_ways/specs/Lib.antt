@@ -1,0 +1,10 @@
+pub mod Climbs
+pub mod Delete
+pub mod DeleteWrites
+pub mod Insert
+pub mod InsertWrites
+pub mod Pages
+pub mod Rows
+pub mod Sinks
+pub mod Walk
+pub mod Ways

@@ -4,12 +4,9 @@
 // An IAM page has its type at 1, its number at 4, its object at 8, the page before at 12, the next at 16, its
 // interval at 96, its sequence at 100, slot i at 104 + 4 * i and the marks from 136 on. The PFS byte of page p
 // is at 96 + p of page 1.
-use checkdb_top::Status;
-use rows_files::files::base;
-use rows_files::objects::{heap, iam_page, only, pfs};
-use rows_files::still::expect_report;
-use rows_files::trees::put_in;
-use std::alloc::Global;
+use rows_files::pieces::Piece::{Bytes, Chain, Heap, Pfs};
+use rows_files::pieces::{New, ONLY, Piece};
+use rows_files::rows::{Row, expect_rows};
 use std::test::Fail;
 
 const CLEAN: &str = "Msg 8989: 0 allocation errors, 0 consistency errors\n";
@@ -18,241 +15,305 @@ const ONE: &str = "Msg 8989: 1 allocation errors, 0 consistency errors\n";
 
 const NO_PAGES: &str = "Msg 2593: object 1, rows 0, pages 0\n";
 
-// Changes of pages, each by its page, where in it, and the bytes.
-type Bytes<'a> = &'a [(u16, u16, &'a [u8])];
+const SMALL: New = New::Small(16);
 
-// Changes, and the one error that they give.
-#[derive(Drop)]
-struct Wrong<'a> {
-    bytes: Bytes<'a>,
-    line: &'a str,
-}
+// A heap without pages. Page 8 may be none of its chain, so that it has no use, and its byte is to be 0.
+const UNREACHED: &[Piece] = &[Heap(1, b't', 8), Chain(8, ONLY)];
 
-// A heap without pages after changes. Its first IAM page has this PFS byte.
-fn empty_object(alloc: Global, byte: u8, bytes: Bytes<'_>) -> Result<Vec<u8>, Fail> {
-    let mut file = base(alloc, 16)?;
-    heap(&mut file, 1, b't', 8);
-    iam_page(&mut file, 8, &only(1));
-    pfs(&mut file, 8, byte);
-    for (p, at, new) in bytes.iter() {
-        put_in(&mut file, *p, *at, new);
-    }
-    Ok(file)
-}
+// The same with page 8 in the chain.
+const EMPTY: &[Piece] = &[Heap(1, b't', 8), Chain(8, ONLY), Pfs(8, 0x70)];
 
-// Page 8 is none of the chain's then, so it has no use, and its byte is to be 0.
-static ENDS: [Wrong<'static>; 11] = [
-    // A page that the file hasn't: the catalog, on page 9, holds its number.
-    Wrong {
-        bytes: &[(9, 120, &[16])],
-        line: "Msg 8968: object 1, page 9, other 16, slot 0, value 0\n",
+static ENDS: [Row; 11] = [
+    Row {
+        name: "the catalog names a page behind the file",
+        new: SMALL,
+        parts: &[UNREACHED, &[Bytes(9, 120, &[16])]],
+        errors: &["Msg 8968: object 1, page 9, other 16, slot 0, value 0\n"],
+        lines: &[NO_PAGES, ONE],
     },
-    Wrong {
-        bytes: &[(9, 120, &[99])],
-        line: "Msg 8968: object 1, page 9, other 99, slot 0, value 0\n",
+    Row {
+        name: "it names a page far behind",
+        new: SMALL,
+        parts: &[UNREACHED, &[Bytes(9, 120, &[99])]],
+        errors: &["Msg 8968: object 1, page 9, other 99, slot 0, value 0\n"],
+        lines: &[NO_PAGES, ONE],
     },
-    Wrong {
-        bytes: &[(9, 120, &[0])],
-        line: "Msg 8968: object 1, page 9, other 0, slot 0, value 0\n",
+    Row {
+        name: "it names page 0",
+        new: SMALL,
+        parts: &[UNREACHED, &[Bytes(9, 120, &[0])]],
+        errors: &["Msg 8968: object 1, page 9, other 0, slot 0, value 0\n"],
+        lines: &[NO_PAGES, ONE],
     },
-    // The boot page isn't ordinary.
-    Wrong {
-        bytes: &[(9, 120, &[9])],
-        line: "Msg 2575: object 1, page 9, other 9, slot 0, value 0\n",
+    Row {
+        name: "it names the boot page, which isn't ordinary",
+        new: SMALL,
+        parts: &[UNREACHED, &[Bytes(9, 120, &[9])]],
+        errors: &["Msg 2575: object 1, page 9, other 9, slot 0, value 0\n"],
+        lines: &[NO_PAGES, ONE],
     },
-    // A page of zeros, a heap page, and an IAM page with another page's number.
-    Wrong {
-        bytes: &[(9, 120, &[10])],
-        line: "Msg 2575: object 1, page 10, other 9, slot 0, value 0\n",
+    Row {
+        name: "it names a page of zeros",
+        new: SMALL,
+        parts: &[UNREACHED, &[Bytes(9, 120, &[10])]],
+        errors: &["Msg 2575: object 1, page 10, other 9, slot 0, value 0\n"],
+        lines: &[NO_PAGES, ONE],
     },
-    Wrong {
-        bytes: &[(8, 1, &[1])],
-        line: "Msg 2575: object 1, page 8, other 9, slot 0, value 0\n",
+    Row {
+        name: "it names a heap page",
+        new: SMALL,
+        parts: &[UNREACHED, &[Bytes(8, 1, &[1])]],
+        errors: &["Msg 2575: object 1, page 8, other 9, slot 0, value 0\n"],
+        lines: &[NO_PAGES, ONE],
     },
-    Wrong {
-        bytes: &[(8, 4, &[10])],
-        line: "Msg 2575: object 1, page 8, other 9, slot 0, value 0\n",
+    Row {
+        name: "it names an IAM page with another page's number",
+        new: SMALL,
+        parts: &[UNREACHED, &[Bytes(8, 4, &[10])]],
+        errors: &["Msg 2575: object 1, page 8, other 9, slot 0, value 0\n"],
+        lines: &[NO_PAGES, ONE],
     },
-    Wrong {
-        bytes: &[(8, 8, &[2])],
-        line: "Msg 8959: object 1, page 8, other 9, slot 0, value 2\n",
+    Row {
+        name: "it names another object's IAM page",
+        new: SMALL,
+        parts: &[UNREACHED, &[Bytes(8, 8, &[2])]],
+        errors: &["Msg 8959: object 1, page 8, other 9, slot 0, value 2\n"],
+        lines: &[NO_PAGES, ONE],
     },
-    // The two extents of the file are in interval 0.
-    Wrong {
-        bytes: &[(8, 96, &[1])],
-        line: "Msg 8968: object 1, page 8, other 0, slot 0, value 1\n",
+    Row {
+        name: "the two extents of the file are in interval 0",
+        new: SMALL,
+        parts: &[UNREACHED, &[Bytes(8, 96, &[1])]],
+        errors: &["Msg 8968: object 1, page 8, other 0, slot 0, value 1\n"],
+        lines: &[NO_PAGES, ONE],
     },
-    Wrong {
-        bytes: &[(8, 96, &[5])],
-        line: "Msg 8968: object 1, page 8, other 0, slot 0, value 5\n",
+    Row {
+        name: "an interval far behind the file",
+        new: SMALL,
+        parts: &[UNREACHED, &[Bytes(8, 96, &[5])]],
+        errors: &["Msg 8968: object 1, page 8, other 0, slot 0, value 5\n"],
+        lines: &[NO_PAGES, ONE],
     },
-    // The object is asked before the interval.
-    Wrong {
-        bytes: &[(8, 8, &[2]), (8, 96, &[5])],
-        line: "Msg 8959: object 1, page 8, other 9, slot 0, value 2\n",
+    Row {
+        name: "the object is asked before the interval",
+        new: SMALL,
+        parts: &[UNREACHED, &[Bytes(8, 8, &[2]), Bytes(8, 96, &[5])]],
+        errors: &["Msg 8959: object 1, page 8, other 9, slot 0, value 2\n"],
+        lines: &[NO_PAGES, ONE],
     },
 ];
 
-#[test]
-fn where_a_chain_ends(rt: HostRuntime) -> Result<(), Fail> {
-    let alloc = rt.alloc();
-    for end in ENDS.iter() {
-        let file = empty_object(alloc, 0, end.bytes)?;
-        expect_report(alloc, file, Status::Errors, &[end.line, NO_PAGES, ONE])?;
-    }
-    Ok(())
-}
-
-// Page 8 is in the chain.
-static WRONGS: [Wrong<'static>; 9] = [
-    Wrong {
-        bytes: &[(8, 12, &[3])],
-        line: "Msg 8969: object 1, page 8, other 3, slot 0, value 1\n",
+static SAID_WRONG: [Row; 9] = [
+    Row {
+        name: "the first page has one before it",
+        new: SMALL,
+        parts: &[EMPTY, &[Bytes(8, 12, &[3])]],
+        errors: &["Msg 8969: object 1, page 8, other 3, slot 0, value 1\n"],
+        lines: &[NO_PAGES, ONE],
     },
-    Wrong {
-        bytes: &[(8, 16, &[99])],
-        line: "Msg 8968: object 1, page 8, other 99, slot 0, value 0\n",
+    Row {
+        name: "the next is behind the file",
+        new: SMALL,
+        parts: &[EMPTY, &[Bytes(8, 16, &[99])]],
+        errors: &["Msg 8968: object 1, page 8, other 99, slot 0, value 0\n"],
+        lines: &[NO_PAGES, ONE],
     },
-    Wrong {
-        bytes: &[(8, 16, &[8])],
-        line: "Msg 8969: object 1, page 8, other 8, slot 0, value 0\n",
+    Row {
+        name: "the next is the page itself",
+        new: SMALL,
+        parts: &[EMPTY, &[Bytes(8, 16, &[8])]],
+        errors: &["Msg 8969: object 1, page 8, other 8, slot 0, value 0\n"],
+        lines: &[NO_PAGES, ONE],
     },
-    Wrong {
-        bytes: &[(8, 16, &[9])],
-        line: "Msg 2575: object 1, page 9, other 8, slot 0, value 0\n",
+    Row {
+        name: "the next is the boot page",
+        new: SMALL,
+        parts: &[EMPTY, &[Bytes(8, 16, &[9])]],
+        errors: &["Msg 2575: object 1, page 9, other 8, slot 0, value 0\n"],
+        lines: &[NO_PAGES, ONE],
     },
-    Wrong {
-        bytes: &[(8, 100, &[4])],
-        line: "Msg 2577: object 1, page 8, other 0, slot 0, value 4\n",
+    Row {
+        name: "a wrong sequence",
+        new: SMALL,
+        parts: &[EMPTY, &[Bytes(8, 100, &[4])]],
+        errors: &["Msg 2577: object 1, page 8, other 0, slot 0, value 4\n"],
+        lines: &[NO_PAGES, ONE],
     },
-    Wrong {
-        bytes: &[(8, 116, &[16])],
-        line: "Msg 8968: object 1, page 8, other 16, slot 3, value 0\n",
+    Row {
+        name: "a slot holds a page behind the file",
+        new: SMALL,
+        parts: &[EMPTY, &[Bytes(8, 116, &[16])]],
+        errors: &["Msg 8968: object 1, page 8, other 16, slot 3, value 0\n"],
+        lines: &[NO_PAGES, ONE],
     },
-    Wrong {
-        bytes: &[(8, 132, &[255, 255, 255, 255])],
-        line: "Msg 8968: object 1, page 8, other 4294967295, slot 7, value 0\n",
+    Row {
+        name: "the last slot holds the last number",
+        new: SMALL,
+        parts: &[EMPTY, &[Bytes(8, 132, &[255, 255, 255, 255])]],
+        errors: &["Msg 8968: object 1, page 8, other 4294967295, slot 7, value 0\n"],
+        lines: &[NO_PAGES, ONE],
     },
-    // Extents 2 and 63, of an interval of 64, in a file of two.
-    Wrong {
-        bytes: &[(8, 136, &[0b100])],
-        line: "Msg 2579: object 1, page 8, other 0, slot 0, value 2\n",
+    Row {
+        name: "extent 2 is marked, in a file of two",
+        new: SMALL,
+        parts: &[EMPTY, &[Bytes(8, 136, &[0b100])]],
+        errors: &["Msg 2579: object 1, page 8, other 0, slot 0, value 2\n"],
+        lines: &[NO_PAGES, ONE],
     },
-    Wrong {
-        bytes: &[(8, 143, &[0x80])],
-        line: "Msg 2579: object 1, page 8, other 0, slot 0, value 63\n",
+    Row {
+        name: "extent 63 is marked, the last of an interval of 64",
+        new: SMALL,
+        parts: &[EMPTY, &[Bytes(8, 143, &[0x80])]],
+        errors: &["Msg 2579: object 1, page 8, other 0, slot 0, value 63\n"],
+        lines: &[NO_PAGES, ONE],
     },
 ];
-
-#[test]
-fn what_a_page_of_a_chain_says_wrong(rt: HostRuntime) -> Result<(), Fail> {
-    let alloc = rt.alloc();
-    for wrong in WRONGS.iter() {
-        let file = empty_object(alloc, 0x70, wrong.bytes)?;
-        expect_report(alloc, file, Status::Errors, &[wrong.line, NO_PAGES, ONE])?;
-    }
-    Ok(())
-}
 
 // Page 10 is the second page of the chain, of sequence 1, and page 8 names it and is before it. Its byte is that of
 // a page of a chain.
-const SECOND: Bytes<'static> = &[
-    (8, 16, &[10]),
-    (10, 0, &[1, 10, 0, 0, 10, 0, 0, 0, 1, 0, 0, 0, 8]),
-    (10, 100, &[1]),
-    (1, 106, &[0x70]),
+const SECOND: &[Piece] = &[
+    Bytes(8, 16, &[10]),
+    Bytes(10, 0, &[1, 10, 0, 0, 10, 0, 0, 0, 1, 0, 0, 0, 8]),
+    Bytes(10, 100, &[1]),
+    Bytes(1, 106, &[0x70]),
 ];
 
 const SECOND_OF_INTERVAL: &str = "Msg 8947: object 1, page 10, other 8, slot 0, value 0\n";
 
-#[test]
-fn two_pages_of_one_interval(rt: HostRuntime) -> Result<(), Fail> {
-    let alloc = rt.alloc();
-    let file = empty_object(alloc, 0x70, SECOND)?;
-    let lines = [SECOND_OF_INTERVAL, NO_PAGES, ONE];
-    expect_report(alloc, file, Status::Errors, &lines)
-}
-
-static TURNED_BACK: [&str; 6] = [
-    "Msg 2577: object 1, page 10, other 0, slot 0, value 0\n",
-    SECOND_OF_INTERVAL,
-    "Msg 8969: object 1, page 8, other 10, slot 0, value 0\n",
-    "Msg 8969: object 1, page 10, other 0, slot 0, value 1\n",
-    NO_PAGES,
-    "Msg 8989: 4 allocation errors, 0 consistency errors\n",
-];
-
-// The second page is of sequence 0, has no page before it, and the chain comes back to page 8. The slots of the first
-// page count alone.
-#[test]
-fn a_chain_that_comes_back(rt: HostRuntime) -> Result<(), Fail> {
-    let alloc = rt.alloc();
-    let mut file = empty_object(alloc, 0x70, SECOND)?;
-    for (at, byte) in [(100, 0), (12, 0), (16, 8), (104, 16)] {
-        put_in(&mut file, 10, at, &[byte]);
-    }
-    expect_report(alloc, file, Status::Errors, &TURNED_BACK)
-}
-
-const WRONG_BYTES: Bytes<'static> = &[
-    (8, 12, &[3, 0, 0, 0, 99]),
-    (8, 100, &[4]),
-    (8, 104, &[16]),
-    (8, 116, &[16]),
-    (8, 136, &[0b100]),
-];
-
-static ALL_WRONG: [&str; 8] = [
-    "Msg 2577: object 1, page 8, other 0, slot 0, value 4\n",
-    "Msg 2579: object 1, page 8, other 0, slot 0, value 2\n",
-    "Msg 8968: object 1, page 8, other 16, slot 0, value 0\n",
-    "Msg 8968: object 1, page 8, other 16, slot 3, value 0\n",
-    "Msg 8968: object 1, page 8, other 99, slot 0, value 0\n",
-    "Msg 8969: object 1, page 8, other 3, slot 0, value 1\n",
-    NO_PAGES,
-    "Msg 8989: 6 allocation errors, 0 consistency errors\n",
-];
-
-// Errors of one number stand by object, page, other, slot and value.
-#[test]
-fn all_that_a_page_of_a_chain_says_is_wrong(rt: HostRuntime) -> Result<(), Fail> {
-    let alloc = rt.alloc();
-    let file = empty_object(alloc, 0x70, WRONG_BYTES)?;
-    expect_report(alloc, file, Status::Errors, &ALL_WRONG)
-}
-
-static NOT_REACHED: [&str; 4] = [
-    "Msg 8906: object 0, page 8, other 0, slot 0, value 112\n",
-    "Msg 8959: object 1, page 8, other 9, slot 0, value 2\n",
-    NO_PAGES,
-    "Msg 8989: 2 allocation errors, 0 consistency errors\n",
-];
-
-// A page that is allocated and has no use is told by its byte, 0x70.
-#[test]
-fn a_page_that_its_chain_does_not_reach(rt: HostRuntime) -> Result<(), Fail> {
-    let alloc = rt.alloc();
-    let file = empty_object(alloc, 0x70, &[(8, 8, &[2])])?;
-    expect_report(alloc, file, Status::Errors, &NOT_REACHED)
-}
-
-static FREE_BYTES: [(u16, u8); 7] = [
-    (144, 1),
-    (8191, 1),
-    (0, 2),
-    (2, 1),
-    (3, 7),
-    (20, 9),
-    (28, 1),
+static LONGER: [Row; 4] = [
+    Row {
+        name: "two pages of one interval",
+        new: SMALL,
+        parts: &[EMPTY, SECOND],
+        errors: &[SECOND_OF_INTERVAL],
+        lines: &[NO_PAGES, ONE],
+    },
+    // The second page is of sequence 0, has no page before it, and the chain comes back to page 8. The slots of the
+    // first page count alone.
+    Row {
+        name: "a chain that comes back",
+        new: SMALL,
+        parts: &[
+            EMPTY,
+            SECOND,
+            &[
+                Bytes(10, 100, &[0]),
+                Bytes(10, 12, &[0]),
+                Bytes(10, 16, &[8]),
+                Bytes(10, 104, &[16]),
+            ],
+        ],
+        errors: &[
+            "Msg 2577: object 1, page 10, other 0, slot 0, value 0\n",
+            SECOND_OF_INTERVAL,
+            "Msg 8969: object 1, page 8, other 10, slot 0, value 0\n",
+            "Msg 8969: object 1, page 10, other 0, slot 0, value 1\n",
+        ],
+        lines: &[
+            NO_PAGES,
+            "Msg 8989: 4 allocation errors, 0 consistency errors\n",
+        ],
+    },
+    // Errors of one number stand by object, page, other, slot and value.
+    Row {
+        name: "all that a page of a chain says is wrong",
+        new: SMALL,
+        parts: &[
+            EMPTY,
+            &[
+                Bytes(8, 12, &[3, 0, 0, 0, 99]),
+                Bytes(8, 100, &[4]),
+                Bytes(8, 104, &[16]),
+                Bytes(8, 116, &[16]),
+                Bytes(8, 136, &[0b100]),
+            ],
+        ],
+        errors: &[
+            "Msg 2577: object 1, page 8, other 0, slot 0, value 4\n",
+            "Msg 2579: object 1, page 8, other 0, slot 0, value 2\n",
+            "Msg 8968: object 1, page 8, other 16, slot 0, value 0\n",
+            "Msg 8968: object 1, page 8, other 16, slot 3, value 0\n",
+            "Msg 8968: object 1, page 8, other 99, slot 0, value 0\n",
+            "Msg 8969: object 1, page 8, other 3, slot 0, value 1\n",
+        ],
+        lines: &[
+            NO_PAGES,
+            "Msg 8989: 6 allocation errors, 0 consistency errors\n",
+        ],
+    },
+    // A page that is allocated and has no use is told by its byte, 0x70.
+    Row {
+        name: "a page that its chain doesn't reach",
+        new: SMALL,
+        parts: &[EMPTY, &[Bytes(8, 8, &[2])]],
+        errors: &[
+            "Msg 8906: object 0, page 8, other 0, slot 0, value 112\n",
+            "Msg 8959: object 1, page 8, other 9, slot 0, value 2\n",
+        ],
+        lines: &[
+            NO_PAGES,
+            "Msg 8989: 2 allocation errors, 0 consistency errors\n",
+        ],
+    },
 ];
 
 // An interval has 64 extents: what stands behind their marks says nothing, nor does the rest of the header.
+static NOT_ASKED: [Row; 7] = [
+    Row {
+        name: "behind the marks",
+        new: SMALL,
+        parts: &[EMPTY, &[Bytes(8, 144, &[1])]],
+        errors: &[],
+        lines: &[NO_PAGES, CLEAN],
+    },
+    Row {
+        name: "the last byte",
+        new: SMALL,
+        parts: &[EMPTY, &[Bytes(8, 8191, &[1])]],
+        errors: &[],
+        lines: &[NO_PAGES, CLEAN],
+    },
+    Row {
+        name: "byte 0",
+        new: SMALL,
+        parts: &[EMPTY, &[Bytes(8, 0, &[2])]],
+        errors: &[],
+        lines: &[NO_PAGES, CLEAN],
+    },
+    Row {
+        name: "the level",
+        new: SMALL,
+        parts: &[EMPTY, &[Bytes(8, 2, &[1])]],
+        errors: &[],
+        lines: &[NO_PAGES, CLEAN],
+    },
+    Row {
+        name: "byte 3",
+        new: SMALL,
+        parts: &[EMPTY, &[Bytes(8, 3, &[7])]],
+        errors: &[],
+        lines: &[NO_PAGES, CLEAN],
+    },
+    Row {
+        name: "the slots of a page",
+        new: SMALL,
+        parts: &[EMPTY, &[Bytes(8, 20, &[9])]],
+        errors: &[],
+        lines: &[NO_PAGES, CLEAN],
+    },
+    Row {
+        name: "behind the header's fields",
+        new: SMALL,
+        parts: &[EMPTY, &[Bytes(8, 28, &[1])]],
+        errors: &[],
+        lines: &[NO_PAGES, CLEAN],
+    },
+];
+
 #[test]
-fn what_no_rule_asks_of_an_iam_page(rt: HostRuntime) -> Result<(), Fail> {
-    let alloc = rt.alloc();
-    for (at, byte) in FREE_BYTES.iter() {
-        let file = empty_object(alloc, 0x70, &[(8, *at, &[*byte])])?;
-        expect_report(alloc, file, Status::Clean, &[NO_PAGES, CLEAN])?;
-    }
-    Ok(())
+fn where_a_chain_ends_and_what_its_pages_say_wrong(rt: HostRuntime) -> Result<(), Fail> {
+    expect_rows(rt.alloc(), &ENDS)?;
+    expect_rows(rt.alloc(), &SAID_WRONG)?;
+    expect_rows(rt.alloc(), &LONGER)?;
+    expect_rows(rt.alloc(), &NOT_ASKED)
 }

@@ -1,138 +1,367 @@
 // The tests of a file, the words of `check`, and devices that fail.
 use checkdb_top::{Device, FileWhy, Status};
-use rows_files::files::{PAGE, base, put};
-use rows_files::still::{check, expect_end, failing_read, run};
-use rows_files::trees::empty_heap;
+use rows_files::pieces::Piece::{Bytes, Chain, Heap, HeapPage, Pfs, Slots};
+use rows_files::pieces::{New, ONLY, Piece};
+use rows_files::rows::{Run, expect_runs};
 use std::test::Fail;
 
-#[test]
-fn a_file_of_a_wrong_size_is_refused(rt: HostRuntime) -> Result<(), Fail> {
-    let alloc = rt.alloc();
-    for size in [5, 65_536, 131_073, 139_264] {
-        let ended = check(alloc, vec![in alloc; 0u8; size]?)?;
-        expect_end(&ended, Status::File(FileWhy::Size), b"")?;
-    }
-    Ok(())
-}
+const SMALL: New = New::Small(16);
 
-// Changes of a new file of 16 pages, and the test that it then fails first.
-#[derive(Drop)]
-struct Refusal<'a> {
-    changes: &'a [(usize, &'a [u8])],
-    why: FileWhy,
-}
+static SIZES: [Run; 4] = [
+    Run {
+        name: "5 bytes",
+        words: &["check", "d"],
+        new: New::Zeros(5),
+        parts: &[],
+        unread: None,
+        unwritten: None,
+        status: Status::File(FileWhy::Size),
+        lines: &[],
+    },
+    Run {
+        name: "65,536 bytes",
+        words: &["check", "d"],
+        new: New::Zeros(65_536),
+        parts: &[],
+        unread: None,
+        unwritten: None,
+        status: Status::File(FileWhy::Size),
+        lines: &[],
+    },
+    Run {
+        name: "131,073 bytes",
+        words: &["check", "d"],
+        new: New::Zeros(131_073),
+        parts: &[],
+        unread: None,
+        unwritten: None,
+        status: Status::File(FileWhy::Size),
+        lines: &[],
+    },
+    Run {
+        name: "139,264 bytes",
+        words: &["check", "d"],
+        new: New::Zeros(139_264),
+        parts: &[],
+        unread: None,
+        unwritten: None,
+        status: Status::File(FileWhy::Size),
+        lines: &[],
+    },
+];
 
-static REFUSALS: [Refusal<'static>; 10] = [
-    Refusal {
-        changes: &[(0, &[2])],
-        why: FileWhy::Header,
+// The first test of page 0 that fails is named.
+static REFUSALS: [Run; 10] = [
+    Run {
+        name: "another header version",
+        words: &["check", "d"],
+        new: SMALL,
+        parts: &[&[Bytes(0, 0, &[2])]],
+        unread: None,
+        unwritten: None,
+        status: Status::File(FileWhy::Header),
+        lines: &[],
     },
-    Refusal {
-        changes: &[(1, &[14]), (104, &[9])],
-        why: FileWhy::Header,
+    Run {
+        name: "the header is asked before the version",
+        words: &["check", "d"],
+        new: SMALL,
+        parts: &[&[Bytes(0, 1, &[14]), Bytes(0, 104, &[9])]],
+        unread: None,
+        unwritten: None,
+        status: Status::File(FileWhy::Header),
+        lines: &[],
     },
-    Refusal {
-        changes: &[(4, &[1])],
-        why: FileWhy::Header,
+    Run {
+        name: "another number",
+        words: &["check", "d"],
+        new: SMALL,
+        parts: &[&[Bytes(0, 4, &[1])]],
+        unread: None,
+        unwritten: None,
+        status: Status::File(FileWhy::Header),
+        lines: &[],
     },
-    Refusal {
-        changes: &[(103, b"2")],
-        why: FileWhy::Header,
+    Run {
+        name: "another signature",
+        words: &["check", "d"],
+        new: SMALL,
+        parts: &[&[Bytes(0, 103, b"2")]],
+        unread: None,
+        unwritten: None,
+        status: Status::File(FileWhy::Header),
+        lines: &[],
     },
-    Refusal {
-        changes: &[(104, &[9]), (106, &[3])],
-        why: FileWhy::Version,
+    Run {
+        name: "the version is asked before the geometry",
+        words: &["check", "d"],
+        new: SMALL,
+        parts: &[&[Bytes(0, 104, &[9]), Bytes(0, 106, &[3])]],
+        unread: None,
+        unwritten: None,
+        status: Status::File(FileWhy::Version),
+        lines: &[],
     },
-    Refusal {
-        changes: &[(105, &[1])],
-        why: FileWhy::Version,
+    Run {
+        name: "the high byte of the version",
+        words: &["check", "d"],
+        new: SMALL,
+        parts: &[&[Bytes(0, 105, &[1])]],
+        unread: None,
+        unwritten: None,
+        status: Status::File(FileWhy::Version),
+        lines: &[],
     },
-    Refusal {
-        changes: &[(106, &[0]), (108, &[17])],
-        why: FileWhy::Geometry,
+    Run {
+        name: "the geometry is asked before the count",
+        words: &["check", "d"],
+        new: SMALL,
+        parts: &[&[Bytes(0, 106, &[0]), Bytes(0, 108, &[17])]],
+        unread: None,
+        unwritten: None,
+        status: Status::File(FileWhy::Geometry),
+        lines: &[],
     },
-    Refusal {
-        changes: &[(106, &[3])],
-        why: FileWhy::Geometry,
+    Run {
+        name: "no geometry has number 3",
+        words: &["check", "d"],
+        new: SMALL,
+        parts: &[&[Bytes(0, 106, &[3])]],
+        unread: None,
+        unwritten: None,
+        status: Status::File(FileWhy::Geometry),
+        lines: &[],
     },
-    Refusal {
-        changes: &[(108, &[17])],
-        why: FileWhy::Count,
+    Run {
+        name: "a count that is not the size",
+        words: &["check", "d"],
+        new: SMALL,
+        parts: &[&[Bytes(0, 108, &[17])]],
+        unread: None,
+        unwritten: None,
+        status: Status::File(FileWhy::Count),
+        lines: &[],
     },
-    Refusal {
-        changes: &[(106, &[1]), (108, &[24])],
-        why: FileWhy::Count,
+    Run {
+        name: "a count that is not the size, of the standard geometry",
+        words: &["check", "d"],
+        new: SMALL,
+        parts: &[&[Bytes(0, 106, &[1]), Bytes(0, 108, &[24])]],
+        unread: None,
+        unwritten: None,
+        status: Status::File(FileWhy::Count),
+        lines: &[],
+    },
+];
+
+// The first wrong word is named.
+static WORDS: [Run; 6] = [
+    Run {
+        name: "no word",
+        words: &[],
+        new: SMALL,
+        parts: &[],
+        unread: None,
+        unwritten: None,
+        status: Status::Words { at: 1 },
+        lines: &[],
+    },
+    Run {
+        name: "no command",
+        words: &["repair", "d"],
+        new: SMALL,
+        parts: &[],
+        unread: None,
+        unwritten: None,
+        status: Status::Words { at: 1 },
+        lines: &[],
+    },
+    Run {
+        name: "no file",
+        words: &["check"],
+        new: SMALL,
+        parts: &[],
+        unread: None,
+        unwritten: None,
+        status: Status::Words { at: 2 },
+        lines: &[],
+    },
+    Run {
+        name: "a hyphen first",
+        words: &["check", "-d"],
+        new: SMALL,
+        parts: &[],
+        unread: None,
+        unwritten: None,
+        status: Status::Words { at: 2 },
+        lines: &[],
+    },
+    Run {
+        name: "an empty name",
+        words: &["check", ""],
+        new: SMALL,
+        parts: &[],
+        unread: None,
+        unwritten: None,
+        status: Status::Words { at: 2 },
+        lines: &[],
+    },
+    Run {
+        name: "a word too many",
+        words: &["check", "d", "e"],
+        new: SMALL,
+        parts: &[],
+        unread: None,
+        unwritten: None,
+        status: Status::Words { at: 3 },
+        lines: &[],
+    },
+];
+
+// A heap with one page.
+const HEAP: &[Piece] = &[
+    Heap(1, b't', 8),
+    Chain(8, ONLY),
+    Slots(8, &[10]),
+    HeapPage(10, 1),
+    Pfs(8, 0x70),
+    Pfs(10, 0x60),
+];
+
+// The pages that a check reads of a file with a heap.
+static READS: [Run; 8] = [
+    Run {
+        name: "the file's page fails",
+        words: &["check", "d"],
+        new: SMALL,
+        parts: &[HEAP],
+        unread: Some(0),
+        unwritten: None,
+        status: Status::Device {
+            which: Device::Volume,
+        },
+        lines: &[],
+    },
+    Run {
+        name: "the PFS page fails",
+        words: &["check", "d"],
+        new: SMALL,
+        parts: &[HEAP],
+        unread: Some(1),
+        unwritten: None,
+        status: Status::Device {
+            which: Device::Volume,
+        },
+        lines: &[],
+    },
+    Run {
+        name: "the GAM page fails",
+        words: &["check", "d"],
+        new: SMALL,
+        parts: &[HEAP],
+        unread: Some(2),
+        unwritten: None,
+        status: Status::Device {
+            which: Device::Volume,
+        },
+        lines: &[],
+    },
+    Run {
+        name: "the SGAM page fails",
+        words: &["check", "d"],
+        new: SMALL,
+        parts: &[HEAP],
+        unread: Some(3),
+        unwritten: None,
+        status: Status::Device {
+            which: Device::Volume,
+        },
+        lines: &[],
+    },
+    Run {
+        name: "the heap's chain fails",
+        words: &["check", "d"],
+        new: SMALL,
+        parts: &[HEAP],
+        unread: Some(8),
+        unwritten: None,
+        status: Status::Device {
+            which: Device::Volume,
+        },
+        lines: &[],
+    },
+    Run {
+        name: "the catalog fails",
+        words: &["check", "d"],
+        new: SMALL,
+        parts: &[HEAP],
+        unread: Some(9),
+        unwritten: None,
+        status: Status::Device {
+            which: Device::Volume,
+        },
+        lines: &[],
+    },
+    Run {
+        name: "the heap's page fails",
+        words: &["check", "d"],
+        new: SMALL,
+        parts: &[HEAP],
+        unread: Some(10),
+        unwritten: None,
+        status: Status::Device {
+            which: Device::Volume,
+        },
+        lines: &[],
+    },
+    Run {
+        name: "a refused file is read no further",
+        words: &["check", "d"],
+        new: SMALL,
+        parts: &[&[Bytes(0, 104, &[9])]],
+        unread: Some(9),
+        unwritten: None,
+        status: Status::File(FileWhy::Version),
+        lines: &[],
+    },
+];
+
+// Extent 3 is of no use, and isn't free.
+const LOST: &[Piece] = &[Bytes(3, 96, &[0b1010])];
+
+// A failing write leaves a front of the report.
+static WRITES: [Run; 2] = [
+    Run {
+        name: "the first call fails",
+        words: &["check", "d"],
+        new: New::Small(32),
+        parts: &[LOST],
+        unread: None,
+        unwritten: Some(1),
+        status: Status::Device {
+            which: Device::Sink,
+        },
+        lines: &[],
+    },
+    Run {
+        name: "the second call fails",
+        words: &["check", "d"],
+        new: New::Small(32),
+        parts: &[LOST],
+        unread: None,
+        unwritten: Some(2),
+        status: Status::Device {
+            which: Device::Sink,
+        },
+        lines: &["Msg 8903: object 0, page 24, other 0, slot 0, value 0\n"],
     },
 ];
 
 #[test]
-fn the_first_test_that_fails_is_named(rt: HostRuntime) -> Result<(), Fail> {
-    let alloc = rt.alloc();
-    for refusal in REFUSALS.iter() {
-        let mut file = base(alloc, 16)?;
-        for (at, bytes) in refusal.changes.iter() {
-            put(&mut file, *at, bytes);
-        }
-        expect_end(&check(alloc, file)?, Status::File(refusal.why), b"")?;
-    }
-    Ok(())
-}
-
-static WRONG_WORDS: [(&[&str], u32); 6] = [
-    (&[], 1),
-    (&["repair", "d"], 1),
-    (&["check"], 2),
-    (&["check", "-d"], 2),
-    (&["check", ""], 2),
-    (&["check", "d", "e"], 3),
-];
-
-#[test]
-fn the_first_wrong_word_is_named(rt: HostRuntime) -> Result<(), Fail> {
-    let alloc = rt.alloc();
-    for (words, at) in WRONG_WORDS.iter() {
-        let ended = run(alloc, words, base(alloc, 16)?, Vec::new(alloc), None)?;
-        expect_end(&ended, Status::Words { at: *at }, b"")?;
-    }
-    Ok(())
-}
-
-// The pages that a check reads of a file with a heap: the file's, those of its maps, the heap's chain, the
-// catalog and the heap's page.
-#[test]
-fn a_failing_read_names_the_volume(rt: HostRuntime) -> Result<(), Fail> {
-    let alloc = rt.alloc();
-    let which = Device::Volume;
-    for page in [0, 1, 2, 3, 8, 9, 10] {
-        let file = empty_heap(alloc, 0x60)?;
-        let failing = failing_read(alloc, page)?;
-        let ended = run(alloc, &["check", "d"], file, failing, None)?;
-        expect_end(&ended, Status::Device { which }, b"")?;
-    }
-    Ok(())
-}
-
-// A test of page 0 needs no other page.
-#[test]
-fn a_refused_file_is_read_no_further(rt: HostRuntime) -> Result<(), Fail> {
-    let alloc = rt.alloc();
-    let failing = failing_read(alloc, 9)?;
-    let mut file = base(alloc, 16)?;
-    put(&mut file, 104, &[9]);
-    let ended = run(alloc, &["check", "d"], file, failing, None)?;
-    expect_end(&ended, Status::File(FileWhy::Version), b"")
-}
-
-#[test]
-fn a_failing_write_leaves_a_front_of_the_report(rt: HostRuntime) -> Result<(), Fail> {
-    let alloc = rt.alloc();
-    let first_line = "Msg 8903: object 0, page 24, other 0, slot 0, value 0\n";
-    let which = Device::Sink;
-    for (call, front) in [(1, ""), (2, first_line)] {
-        let mut file = base(alloc, 32)?;
-        put(&mut file, 3 * PAGE + 96, &[0b1010]);
-        let ended = run(alloc, &["check", "d"], file, Vec::new(alloc), Some(call))?;
-        expect_end(&ended, Status::Device { which }, front.as_bytes())?;
-    }
-    Ok(())
+fn words_files_and_devices(rt: HostRuntime) -> Result<(), Fail> {
+    expect_runs(rt.alloc(), &SIZES)?;
+    expect_runs(rt.alloc(), &REFUSALS)?;
+    expect_runs(rt.alloc(), &WORDS)?;
+    expect_runs(rt.alloc(), &READS)?;
+    expect_runs(rt.alloc(), &WRITES)
 }

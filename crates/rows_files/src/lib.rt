@@ -3,6 +3,8 @@
 
 pub mod files;
 pub mod objects;
+pub mod pieces;
 pub mod replays;
+pub mod rows;
 pub mod still;
 pub mod trees;

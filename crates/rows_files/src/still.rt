@@ -5,14 +5,17 @@ use std::alloc::{AllocError, Global};
 use std::test::Fail;
 use vol_dev::{FailAt, MemLog, MemSink, MemSource, MemVolume};
 
-/// A read of a page that fails the first time.
-pub fn failing_read(alloc: Global, page: u32) -> Result<Vec<FailAt>, Fail> {
-    let read = FailAt {
-        page: PageNo(page),
-        write: false,
-        nth: 1,
-    };
-    Ok(vec![in alloc; read]?)
+/// A read of this page, if any, that fails the first time.
+pub fn reads_that_fail(alloc: Global, page: Option<u32>) -> Result<Vec<FailAt>, AllocError> {
+    let mut failing = Vec::new(alloc);
+    if let Some(page) = page {
+        failing.push(FailAt {
+            page: PageNo(page),
+            write: false,
+            nth: 1,
+        })?;
+    }
+    Ok(failing)
 }
 
 fn words_of(alloc: Global, texts: &[&str]) -> Result<Words, Fail> {
@@ -65,25 +68,13 @@ pub fn expect_end(ended: &(Status, Vec<u8>), status: Status, text: &[u8]) -> Res
     if *found == status && written.as_slice() == text {
         return Ok(());
     }
-    Err(differs(*found, written.as_slice()))
+    Err(differs("a run", *found, written.as_slice()))
 }
 
-// How a run ended that was to end otherwise, and the front of what it wrote.
-fn differs(found: Status, written: &[u8]) -> Fail {
+/// How a run of this name ended that was to end otherwise, and what it wrote.
+pub fn differs(name: &str, found: Status, written: &[u8]) -> Fail {
     match str::from_utf8(written) {
-        Ok(text) => Fail::new(format_args!("{found:?}: {text}")),
-        Err(_) => Fail::new(format_args!("{found:?}, and no text")),
+        Ok(text) => Fail::new(format_args!("{name}: {found:?}: {text}")),
+        Err(_) => Fail::new(format_args!("{name}: {found:?}, and no text")),
     }
-}
-
-/// Fails where the check of the file ends otherwise than so, or its report has other lines than these, one after
-/// another.
-pub fn expect_report(
-    alloc: Global,
-    file: Vec<u8>,
-    status: Status,
-    lines: &[&str],
-) -> Result<(), Fail> {
-    let wanted = joined(alloc, lines)?;
-    expect_end(&check(alloc, file)?, status, wanted.as_slice())
 }

@@ -1,6 +1,6 @@
-// Pages with rows, and tables made of them.
+// Pages with rows, and a heap of one page.
 use crate::files::{PAGE, base, put};
-use crate::objects::{heap, heap_page, iam_page, number, only, pfs, place, slot, slots};
+use crate::objects::{heap, heap_page, iam_page, number, only, pfs, place, slot};
 use std::alloc::{AllocError, Global};
 
 /// Puts bytes into page p, from its byte `at` on.
@@ -57,16 +57,6 @@ pub struct Node {
     pub next: u16,
 }
 
-/// A leaf of object 1 between these pages.
-pub fn between(prev: u16, next: u16) -> Node {
-    Node {
-        object: 1,
-        level: 0,
-        prev,
-        next,
-    }
-}
-
 // A page without rows.
 fn empty_node(file: &mut Vec<u8>, p: u16, page_type: u8, it: &Node) {
     place(file, p, page_type);
@@ -105,22 +95,6 @@ pub fn clustered(file: &mut Vec<u8>, id: u8, name: u8, first_iam: u16, root: u16
     put(file, at + 28, &number(root));
 }
 
-/// A new file with clustered table 1, whose root is page 10. Its IAM page is page 8, with these pages in
-/// its slots.
-pub fn table_of(alloc: Global, pages: u8, owned: &[u8]) -> Result<Vec<u8>, AllocError> {
-    let mut file = base(alloc, pages)?;
-    clustered(&mut file, 1, b't', 8, 10);
-    iam_page(&mut file, 8, &only(1));
-    pfs(&mut file, 8, 0x70);
-    let mut held = Vec::new(alloc);
-    for p in owned {
-        held.push(u16::from(*p))?;
-        pfs(&mut file, *p, 0x60);
-    }
-    slots(&mut file, 8, &held);
-    Ok(file)
-}
-
 /// A new file of 16 pages with heap 1, whose one page is page 10. It has no rows.
 pub fn empty_heap(alloc: Global, byte: u8) -> Result<Vec<u8>, AllocError> {
     let mut file = base(alloc, 16)?;
@@ -131,69 +105,4 @@ pub fn empty_heap(alloc: Global, byte: u8) -> Result<Vec<u8>, AllocError> {
     pfs(&mut file, 8, 0x70);
     pfs(&mut file, 10, byte);
     Ok(file)
-}
-
-/// A new file of 16 pages with clustered table 1, whose root is leaf 10 with these keys.
-pub fn one_leaf(alloc: Global, keys: &[u8]) -> Result<Vec<u8>, AllocError> {
-    let mut file = table_of(alloc, 16, &[10])?;
-    leaf(&mut file, 10, &between(0, 0), keys);
-    Ok(file)
-}
-
-/// A new file of 16 pages with a sound tree of three levels: root 10 over 11 and 12, those over leaves 13 to
-/// 15, whose keys are 1, 60 and 100.
-pub fn tall_tree(alloc: Global) -> Result<Vec<u8>, AllocError> {
-    let mut file = table_of(alloc, 16, &[10, 11, 12, 13, 14, 15])?;
-    let root = Node {
-        level: 2,
-        ..between(0, 0)
-    };
-    let left = Node {
-        level: 1,
-        ..between(0, 12)
-    };
-    let right = Node {
-        level: 1,
-        ..between(11, 0)
-    };
-    index_page(&mut file, 10, &root, &[(0, 11), (100, 12)]);
-    index_page(&mut file, 11, &left, &[(0, 13), (50, 14)]);
-    index_page(&mut file, 12, &right, &[(100, 15)]);
-    leaf(&mut file, 13, &between(0, 14), &[1]);
-    leaf(&mut file, 14, &between(13, 15), &[60]);
-    leaf(&mut file, 15, &between(14, 0), &[100]);
-    Ok(file)
-}
-
-/// Puts root 10 with these rows, of a key and a leaf, into a file.
-pub fn low_root(file: &mut Vec<u8>, rows: &[(u8, u16)]) {
-    let root = Node {
-        level: 1,
-        ..between(0, 0)
-    };
-    index_page(file, 10, &root, rows);
-}
-
-/// A new file of 16 pages with a table that has these pages, and a sound tree of two levels: root 10 over
-/// leaves 11 and 12, whose keys are 1 and 60.
-pub fn low_tree(alloc: Global, owned: &[u8]) -> Result<Vec<u8>, AllocError> {
-    let mut file = table_of(alloc, 16, owned)?;
-    low_root(&mut file, &[(0, 11), (50, 12)]);
-    leaf(&mut file, 11, &between(0, 12), &[1]);
-    leaf(&mut file, 12, &between(11, 0), &[60]);
-    Ok(file)
-}
-
-/// Changes of pages, each by its page, where in it, and the bytes; and the errors that they give.
-#[derive(Drop)]
-pub struct Change<'a> {
-    pub bytes: &'a [(u16, u16, &'a [u8])],
-    pub errors: &'a [&'a str],
-}
-
-/// Makes the changes.
-pub fn changed(file: &mut Vec<u8>, change: &Change<'_>) {
-    for (p, at, bytes) in change.bytes.iter() {
-        put_in(file, *p, *at, bytes);
-    }
 }

@@ -10,6 +10,10 @@ mod page_rule_tests;
 #[cfg(test)]
 mod page_tests;
 #[cfg(test)]
+mod part_tests;
+#[cfg(test)]
 mod tree_tests;
+#[cfg(test)]
+mod trees;
 #[cfg(test)]
 mod width_tests;

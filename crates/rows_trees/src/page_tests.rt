@@ -1,85 +1,370 @@
 // The header and the slots of one page of a still file.
 use checkdb_top::{Device, FileWhy, Status};
-use rows_files::files::{PAGE, base, put};
-use rows_files::objects::{heap_page, place};
-use rows_files::still::{expect_end, failing_read, run};
-use rows_files::trees::{add_row, offset, put_in};
-use std::alloc::Global;
+use rows_files::files::base;
+use rows_files::objects::place;
+use rows_files::pieces::Piece::{Bytes, HeapPage, Rows};
+use rows_files::pieces::{New, Piece};
+use rows_files::rows::{Run, expect_runs};
+use rows_files::still::run;
+use rows_files::trees::put_in;
 use std::test::Fail;
 
-// Shows page 10.
-const SHOW: [&str; 3] = ["page", "d", "10"];
+const SMALL: New = New::Small(16);
 
 const HEAP_HEAD: &str =
     "page 10\ntype 1 level 0 object 1\nprev 0 next 0\nslots 1 free 8082 freedata 108 ghosts 0\n";
 
-// A new file of 16 pages whose page 10 is a heap page with a row that has a payload of one byte.
-fn with_row(alloc: Global) -> Result<Vec<u8>, Fail> {
-    let mut file = base(alloc, 16)?;
-    heap_page(&mut file, 10, 1);
-    let row = [0x10, 12, 0, 1, 0, 0, 0, 0, 0, 0, 0, b'a'];
-    add_row(&mut file, 10, 12, &row);
-    Ok(file)
-}
-
-fn show(alloc: Global, file: Vec<u8>, p: &str) -> Result<(Status, Vec<u8>), Fail> {
-    run(alloc, &["page", "d", p], file, Vec::new(alloc), None)
-}
-
-// A page, and what is shown of it.
-#[derive(Drop)]
-struct Shown<'a> {
-    page: &'a str,
-    text: &'a str,
-}
+// Page 10 is a heap page with a row that has a payload of one byte.
+const ROW: &[Piece] = &[HeapPage(10, 1), Rows(10, &[(1, 12)]), Bytes(10, 107, b"a")];
 
 // A GAM page of a wrong type and number, and page 12, whose links and counts no page should have.
-const ODD: [u8; 28] = [
-    1, 2, 3, 0, 12, 0, 0, 0, 0, 1, 0, 0, 11, 0, 0, 0, 255, 255, 255, 255, 2, 0, 0xff, 0xff, 0,
-    0x20, 1, 0,
+const ODD: &[Piece] = &[
+    Bytes(2, 1, &[0, 0, 0, 7]),
+    Bytes(12, 0, &[1, 2, 3, 0, 12, 0, 0, 0, 0, 1, 0, 0]),
+    Bytes(12, 12, &[11, 0, 0, 0, 255, 255, 255, 255]),
+    Bytes(12, 20, &[2, 0, 0xff, 0xff, 0, 0x20, 1, 0]),
+    Bytes(12, 8188, &[96, 0, 109, 0]),
 ];
 
-fn with_odd_pages(alloc: Global) -> Result<Vec<u8>, Fail> {
-    let mut file = with_row(alloc)?;
-    put(&mut file, 2 * PAGE + 1, &[0, 0, 0, 7]);
-    put_in(&mut file, 12, 0, &ODD);
-    offset(&mut file, 12, 0, 109);
-    offset(&mut file, 12, 1, 96);
-    Ok(file)
-}
+// Each page is shown as it is.
+static SHOWN: [Run; 5] = [
+    Run {
+        name: "a page of a wrong type and number",
+        words: &["page", "d", "2"],
+        new: SMALL,
+        parts: &[ROW, ODD],
+        unread: None,
+        unwritten: None,
+        status: Status::Clean,
+        lines: &[
+            "page 2\ntype 0 level 0 object 0\nprev 0 next 0\nslots 0 free 0 freedata 0 ghosts 0\n",
+        ],
+    },
+    Run {
+        name: "the catalog",
+        words: &["page", "d", "9"],
+        new: SMALL,
+        parts: &[ROW, ODD],
+        unread: None,
+        unwritten: None,
+        status: Status::Clean,
+        lines: &[
+            "page 9\ntype 13 level 0 object 0\nprev 0 next 0\nslots 0 free 0 freedata 0 ghosts 0\n",
+        ],
+    },
+    Run {
+        name: "a heap page",
+        words: &["page", "d", "10"],
+        new: SMALL,
+        parts: &[ROW, ODD],
+        unread: None,
+        unwritten: None,
+        status: Status::Clean,
+        lines: &[HEAP_HEAD, "slot 0 offset 96\n"],
+    },
+    Run {
+        name: "a page that no page should be",
+        words: &["page", "d", "12"],
+        new: SMALL,
+        parts: &[ROW, ODD],
+        unread: None,
+        unwritten: None,
+        status: Status::Clean,
+        lines: &[
+            "page 12\ntype 2 level 3 object 256\nprev 11 next 4294967295\n",
+            "slots 2 free 65535 freedata 8192 ghosts 1\nslot 0 offset 109\nslot 1 offset 96\n",
+        ],
+    },
+    Run {
+        name: "the last page",
+        words: &["page", "d", "15"],
+        new: SMALL,
+        parts: &[ROW, ODD],
+        unread: None,
+        unwritten: None,
+        status: Status::Clean,
+        lines: &[
+            "page 15\ntype 0 level 0 object 0\nprev 0 next 0\nslots 0 free 0 freedata 0 ghosts 0\n",
+        ],
+    },
+];
 
-static SHOWN_PAGES: [Shown<'static>; 5] = [
-    Shown {
-        page: "2",
-        text: "page 2\ntype 0 level 0 object 0\nprev 0 next 0\nslots 0 free 0 freedata 0 ghosts 0\n",
+// The file has pages 0 to 15.
+static WORDS: [Run; 9] = [
+    Run {
+        name: "a page behind the file",
+        words: &["page", "d", "16"],
+        new: SMALL,
+        parts: &[],
+        unread: None,
+        unwritten: None,
+        status: Status::Words { at: 3 },
+        lines: &[],
     },
-    Shown {
-        page: "9",
-        text: "page 9\ntype 13 level 0 object 0\nprev 0 next 0\nslots 0 free 0 freedata 0 ghosts 0\n",
+    Run {
+        name: "a page further behind",
+        words: &["page", "d", "17"],
+        new: SMALL,
+        parts: &[],
+        unread: None,
+        unwritten: None,
+        status: Status::Words { at: 3 },
+        lines: &[],
     },
-    Shown {
-        page: "10",
-        text: "page 10\ntype 1 level 0 object 1\nprev 0 next 0\nslots 1 free 8082 freedata 108 ghosts 0\nslot 0 offset 96\n",
+    Run {
+        name: "the last number",
+        words: &["page", "d", "4294967295"],
+        new: SMALL,
+        parts: &[],
+        unread: None,
+        unwritten: None,
+        status: Status::Words { at: 3 },
+        lines: &[],
     },
-    Shown {
-        page: "12",
-        text: "page 12\ntype 2 level 3 object 256\nprev 11 next 4294967295\nslots 2 free 65535 freedata 8192 ghosts 1\nslot 0 offset 109\nslot 1 offset 96\n",
+    Run {
+        name: "no file",
+        words: &["page"],
+        new: SMALL,
+        parts: &[],
+        unread: None,
+        unwritten: None,
+        status: Status::Words { at: 2 },
+        lines: &[],
     },
-    Shown {
-        page: "15",
-        text: "page 15\ntype 0 level 0 object 0\nprev 0 next 0\nslots 0 free 0 freedata 0 ghosts 0\n",
+    Run {
+        name: "no page",
+        words: &["page", "d"],
+        new: SMALL,
+        parts: &[],
+        unread: None,
+        unwritten: None,
+        status: Status::Words { at: 3 },
+        lines: &[],
+    },
+    Run {
+        name: "a leading zero",
+        words: &["page", "d", "09"],
+        new: SMALL,
+        parts: &[],
+        unread: None,
+        unwritten: None,
+        status: Status::Words { at: 3 },
+        lines: &[],
+    },
+    Run {
+        name: "a negative number",
+        words: &["page", "d", "-9"],
+        new: SMALL,
+        parts: &[],
+        unread: None,
+        unwritten: None,
+        status: Status::Words { at: 3 },
+        lines: &[],
+    },
+    Run {
+        name: "a number of five bytes",
+        words: &["page", "d", "4294967296"],
+        new: SMALL,
+        parts: &[],
+        unread: None,
+        unwritten: None,
+        status: Status::Words { at: 3 },
+        lines: &[],
+    },
+    Run {
+        name: "a word too many",
+        words: &["page", "d", "9", "9"],
+        new: SMALL,
+        parts: &[],
+        unread: None,
+        unwritten: None,
+        status: Status::Words { at: 4 },
+        lines: &[],
+    },
+];
+
+// The file's tests come before the number of the page.
+static FILES: [Run; 8] = [
+    Run {
+        name: "5 bytes, page 0",
+        words: &["page", "d", "0"],
+        new: New::Zeros(5),
+        parts: &[],
+        unread: None,
+        unwritten: None,
+        status: Status::File(FileWhy::Size),
+        lines: &[],
+    },
+    Run {
+        name: "65,536 bytes, page 0",
+        words: &["page", "d", "0"],
+        new: New::Zeros(65_536),
+        parts: &[],
+        unread: None,
+        unwritten: None,
+        status: Status::File(FileWhy::Size),
+        lines: &[],
+    },
+    Run {
+        name: "131,073 bytes, page 0",
+        words: &["page", "d", "0"],
+        new: New::Zeros(131_073),
+        parts: &[],
+        unread: None,
+        unwritten: None,
+        status: Status::File(FileWhy::Size),
+        lines: &[],
+    },
+    Run {
+        name: "5 bytes, page 16",
+        words: &["page", "d", "16"],
+        new: New::Zeros(5),
+        parts: &[],
+        unread: None,
+        unwritten: None,
+        status: Status::File(FileWhy::Size),
+        lines: &[],
+    },
+    Run {
+        name: "65,536 bytes, page 16",
+        words: &["page", "d", "16"],
+        new: New::Zeros(65_536),
+        parts: &[],
+        unread: None,
+        unwritten: None,
+        status: Status::File(FileWhy::Size),
+        lines: &[],
+    },
+    Run {
+        name: "131,073 bytes, page 16",
+        words: &["page", "d", "16"],
+        new: New::Zeros(131_073),
+        parts: &[],
+        unread: None,
+        unwritten: None,
+        status: Status::File(FileWhy::Size),
+        lines: &[],
+    },
+    Run {
+        name: "another version, page 0",
+        words: &["page", "d", "0"],
+        new: SMALL,
+        parts: &[&[Bytes(0, 104, &[9])]],
+        unread: None,
+        unwritten: None,
+        status: Status::File(FileWhy::Version),
+        lines: &[],
+    },
+    Run {
+        name: "another version, page 16",
+        words: &["page", "d", "16"],
+        new: SMALL,
+        parts: &[&[Bytes(0, 104, &[9])]],
+        unread: None,
+        unwritten: None,
+        status: Status::File(FileWhy::Version),
+        lines: &[],
+    },
+];
+
+// Page 0 and the page itself are all that is read. A failing write leaves a front of the page.
+static DEVICES: [Run; 8] = [
+    Run {
+        name: "page 0 can not be read",
+        words: &["page", "d", "10"],
+        new: SMALL,
+        parts: &[ROW],
+        unread: Some(0),
+        unwritten: None,
+        status: Status::Device {
+            which: Device::Volume,
+        },
+        lines: &[],
+    },
+    Run {
+        name: "page 10 can not be read",
+        words: &["page", "d", "10"],
+        new: SMALL,
+        parts: &[ROW],
+        unread: Some(10),
+        unwritten: None,
+        status: Status::Device {
+            which: Device::Volume,
+        },
+        lines: &[],
+    },
+    Run {
+        name: "page 1 is not read",
+        words: &["page", "d", "10"],
+        new: SMALL,
+        parts: &[ROW],
+        unread: Some(1),
+        unwritten: None,
+        status: Status::Clean,
+        lines: &[HEAP_HEAD, "slot 0 offset 96\n"],
+    },
+    Run {
+        name: "page 2 is not read",
+        words: &["page", "d", "10"],
+        new: SMALL,
+        parts: &[ROW],
+        unread: Some(2),
+        unwritten: None,
+        status: Status::Clean,
+        lines: &[HEAP_HEAD, "slot 0 offset 96\n"],
+    },
+    Run {
+        name: "page 9 is not read",
+        words: &["page", "d", "10"],
+        new: SMALL,
+        parts: &[ROW],
+        unread: Some(9),
+        unwritten: None,
+        status: Status::Clean,
+        lines: &[HEAP_HEAD, "slot 0 offset 96\n"],
+    },
+    Run {
+        name: "page 11 is not read",
+        words: &["page", "d", "10"],
+        new: SMALL,
+        parts: &[ROW],
+        unread: Some(11),
+        unwritten: None,
+        status: Status::Clean,
+        lines: &[HEAP_HEAD, "slot 0 offset 96\n"],
+    },
+    Run {
+        name: "the first call of the output fails",
+        words: &["page", "d", "10"],
+        new: SMALL,
+        parts: &[ROW],
+        unread: None,
+        unwritten: Some(1),
+        status: Status::Device {
+            which: Device::Sink,
+        },
+        lines: &[],
+    },
+    Run {
+        name: "the second call of the output fails",
+        words: &["page", "d", "10"],
+        new: SMALL,
+        parts: &[ROW],
+        unread: None,
+        unwritten: Some(2),
+        status: Status::Device {
+            which: Device::Sink,
+        },
+        lines: &[HEAP_HEAD],
     },
 ];
 
 #[test]
-fn each_page_is_shown_as_it_is(rt: HostRuntime) -> Result<(), Fail> {
-    let alloc = rt.alloc();
-    let file = with_odd_pages(alloc)?;
-    for shown in SHOWN_PAGES.iter() {
-        let ended = show(alloc, Vec::from_slice(alloc, &file)?, shown.page)?;
-        expect_end(&ended, Status::Clean, shown.text.as_bytes())?;
-    }
-    Ok(())
+fn a_page_is_shown_as_it_is(rt: HostRuntime) -> Result<(), Fail> {
+    expect_runs(rt.alloc(), &SHOWN)?;
+    expect_runs(rt.alloc(), &WORDS)?;
+    expect_runs(rt.alloc(), &FILES)?;
+    expect_runs(rt.alloc(), &DEVICES)
 }
 
 const MANY_HEAD: &str =
@@ -95,95 +380,12 @@ fn no_more_slots_are_shown_than_a_page_has(rt: HostRuntime) -> Result<(), Fail> 
     let mut file = base(alloc, 16)?;
     place(&mut file, 12, 1);
     put_in(&mut file, 12, 20, &[0xff, 0xff]);
-    let (status, text) = show(alloc, file, "12")?;
+    let words = ["page", "d", "12"];
+    let (status, text) = run(alloc, &words, file, Vec::new(alloc), None)?;
     let is_right = status == Status::Clean
         && text.len() == MANY_HEAD.len() + MANY_BYTES
         && text.as_slice().starts_with(MANY_HEAD.as_bytes())
         && text.as_slice().ends_with(b"\nslot 4047 offset 0\n");
     assert!(rt; is_right);
-    Ok(())
-}
-
-// The file has pages 0 to 15.
-static WRONG_WORDS: [(&[&str], u32); 9] = [
-    (&["page", "d", "16"], 3),
-    (&["page", "d", "17"], 3),
-    (&["page", "d", "4294967295"], 3),
-    (&["page"], 2),
-    (&["page", "d"], 3),
-    (&["page", "d", "09"], 3),
-    (&["page", "d", "-9"], 3),
-    (&["page", "d", "4294967296"], 3),
-    (&["page", "d", "9", "9"], 4),
-];
-
-#[test]
-fn a_wrong_number_of_a_page_is_a_wrong_word(rt: HostRuntime) -> Result<(), Fail> {
-    let alloc = rt.alloc();
-    for (words, at) in WRONG_WORDS.iter() {
-        let ended = run(alloc, words, base(alloc, 16)?, Vec::new(alloc), None)?;
-        expect_end(&ended, Status::Words { at: *at }, b"")?;
-    }
-    Ok(())
-}
-
-// The file's tests come before the number of the page.
-#[test]
-fn a_file_of_a_wrong_size_shows_no_page(rt: HostRuntime) -> Result<(), Fail> {
-    let alloc = rt.alloc();
-    for p in ["0", "16"] {
-        for size in [5, 65_536, 131_073] {
-            let ended = show(alloc, vec![in alloc; 0u8; size]?, p)?;
-            expect_end(&ended, Status::File(FileWhy::Size), b"")?;
-        }
-    }
-    Ok(())
-}
-
-#[test]
-fn a_file_of_another_version_shows_no_page(rt: HostRuntime) -> Result<(), Fail> {
-    let alloc = rt.alloc();
-    for p in ["0", "16"] {
-        let mut file = base(alloc, 16)?;
-        put(&mut file, 104, &[9]);
-        let ended = show(alloc, file, p)?;
-        expect_end(&ended, Status::File(FileWhy::Version), b"")?;
-    }
-    Ok(())
-}
-
-// Page 0 and the page itself are all that is read.
-#[test]
-fn a_failing_read_of_the_page_names_the_volume(rt: HostRuntime) -> Result<(), Fail> {
-    let alloc = rt.alloc();
-    let which = Device::Volume;
-    for page in [0, 10] {
-        let fails = failing_read(alloc, page)?;
-        let ended = run(alloc, &SHOW, with_row(alloc)?, fails, None)?;
-        expect_end(&ended, Status::Device { which }, b"")?;
-    }
-    Ok(())
-}
-
-#[test]
-fn no_read_of_another_page_fails(rt: HostRuntime) -> Result<(), Fail> {
-    let alloc = rt.alloc();
-    for page in [1, 2, 9, 11] {
-        let fails = failing_read(alloc, page)?;
-        let (status, text) = run(alloc, &SHOW, with_row(alloc)?, fails, None)?;
-        let is_shown = text.as_slice().starts_with(HEAP_HEAD.as_bytes());
-        assert!(rt; status == Status::Clean && is_shown);
-    }
-    Ok(())
-}
-
-#[test]
-fn a_failing_write_leaves_a_front_of_the_page(rt: HostRuntime) -> Result<(), Fail> {
-    let alloc = rt.alloc();
-    let which = Device::Sink;
-    for (call, front) in [(1, ""), (2, HEAP_HEAD)] {
-        let ended = run(alloc, &SHOW, with_row(alloc)?, Vec::new(alloc), Some(call))?;
-        expect_end(&ended, Status::Device { which }, front.as_bytes())?;
-    }
     Ok(())
 }

@@ -1,0 +1,4 @@
+pub mod CatalogIds
+pub mod ObjectTrees
+pub mod KnownParts
+pub mod CleanParts

@@ -1,6 +1,5 @@
 -- All parts of a clean file together are a check without errors.
-use Rattle.std.proofs.Common.{◌≡◌, ◌⊎◌, ◌↔◌, ℕ, ◌/◌, ◌%◌, ◌<◌, List, [], ◌∷◌, length, Contains, refl, sym, subst, inl, inr, ⊎_elim, arith}
-use Rattle.std.specs.List.Sorted.{IsStrictlySortedBy}
+use Rattle.std.proofs.Common.{◌≡◌, ℕ, ◌/◌, ◌<◌, List, [], ◌∷◌, length, Contains, refl, sym, subst, inl, inr, arith}
 use Rattle.spec_file.specs.declared.geometry.Geometry.{Geometry}
 use Rattle.spec_file.specs.declared.data.Resource.TheVariants.{Catalog, Table, Extent, Byte, Page}
 use Rattle.spec_file.specs.Image.{Image, page}
@@ -12,13 +11,13 @@ use Rattle.spec_chain.specs.Marks.{IsMarker}
 use Rattle.spec_chain.specs.Uses.{IsUseBy}
 use Rattle.spec_chain.proofs.Pointers.{inside_below, goes_good}
 use Rattle.spec_check.specs.declared.report.CheckError.{CheckError}
-use Rattle.spec_check.specs.System.{wrong_page, IsSystemError, IsSystemSound}
+use Rattle.spec_check.specs.System.{wrong_page, IsSystemSound}
 use Rattle.spec_check.proofs.Members.{nothing_there, cons_here}
-use Rattle.spec_tables.specs.Written.{Stands, IsCheckOf}
+use Rattle.spec_tables.specs.Written.{Stands}
 use Rattle.spec_extents.specs.Extents.{extent_of, IsGoodExtent, AreGoodExtents}
 use Rattle.spec_clean.specs.CleanExtents.{IsCleanExtent}
 use Rattle.spec_clean.specs.CleanTables.{IsCleanTable}
-use Rattle.spec_clean.specs.CleanFiles.{IsClean, IsCleanPart, HasCleanMaps}
+use Rattle.spec_clean.specs.CleanFiles.{IsClean, HasCleanMaps}
 use Rattle.law_extents.proofs.WholeFile.{good_from, no_error_from}
 use Rattle.law_clean.specs.Laws.{CleanHasNoErrors, CleanHasEmptyReport}
 use Rattle.law_clean.proofs.KnownParts.{tree_in, trees_from}

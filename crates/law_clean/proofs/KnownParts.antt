@@ -1,5 +1,5 @@
 -- What is known of one object alone is a part of what is known of an image.
-use Rattle.std.proofs.Common.{◌≡◌, ◌↔◌, ℕ, ◌<◌, true, length, eqb-true, inr, refl, sym, ap, subst, ◌∙◌}
+use Rattle.std.proofs.Common.{◌≡◌, ◌↔◌, ◌<◌, true, length, eqb-true, inr, refl, sym, ap, subst, ◌∙◌}
 use Rattle.spec_file.specs.declared.geometry.Geometry.{Geometry}
 use Rattle.spec_file.specs.Image.{Image, page}
 use Rattle.spec_file.specs.Header.{header_of}
@@ -14,11 +14,10 @@ use Rattle.spec_tree.specs.declared.known.Root.{Root}
 use Rattle.spec_tree.specs.declared.known.PageHead.{PageHead}
 use Rattle.spec_tree.specs.declared.known.Link.{Link}
 use Rattle.spec_tree.specs.declared.known.IndexRow.{IndexRow}
-use Rattle.spec_tree.specs.Known.{IsPage}
 use Rattle.spec_tree.specs.Trees.{IsTreeError}
 use Rattle.spec_tables.specs.Seen.{IsSeen}
 use Rattle.spec_tables.specs.Heads.{head_of, index_row}
-use Rattle.spec_tables.specs.KnownPages.{root_of, IsRootIn, IsHeadIn, IsLinkIn, IsIndexRowIn, known_of_image}
+use Rattle.spec_tables.specs.KnownPages.{root_of, IsHeadIn, known_of_image}
 use Rattle.spec_clean.specs.KnownOfObject.{IsHeadOf, known_of_object}
 use Rattle.law_clean.proofs.CatalogIds.{one_row}
 use Rattle.law_clean.proofs.ObjectTrees.{AgreesOf, IsPartOf, shows, into_part, out_of_part, agrees_back, table_of}

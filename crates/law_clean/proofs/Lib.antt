@@ -2,3 +2,4 @@ pub mod CatalogIds
 pub mod ObjectTrees
 pub mod KnownParts
 pub mod CleanParts
+pub mod NamedPages

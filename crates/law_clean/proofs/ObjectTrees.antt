@@ -1,6 +1,6 @@
 -- The rules of trees speak of one object each. Where two agree on what is known of an object, the same rules stand
 -- for it, but for those that ask of whom else a page is seen.
-use Rattle.std.proofs.Common.{◌≡◌, ◌≢◌, ◌⊎◌, ◌↔◌, ℕ, zero, suc, ◌<◌, List, refl, sym, ap, subst, ◌∙◌, inl, inr, ⊎_elim, arith}
+use Rattle.std.proofs.Common.{◌≡◌, ◌≢◌, ◌↔◌, ℕ, zero, suc, ◌<◌, List, refl, sym, ap, subst, ◌∙◌, inl, inr, ⊎_elim, arith}
 use Rattle.std.proofs.lemmas.Bool.{cases_eq}
 use Rattle.spec_check.specs.declared.report.CheckError.{CheckError}
 use Rattle.spec_tree.specs.declared.known.Root.{Root}
@@ -10,10 +10,9 @@ use Rattle.spec_tree.specs.declared.known.IndexRow.{IndexRow}
 use Rattle.spec_tree.specs.declared.known.RowPlace.{RowPlace}
 use Rattle.spec_tree.specs.Known.{Known, IsTable, IsPage, IsLink, IsRow, IsUnseenOf, IsUnseen, HasNoLink, HasNoRow, IsSeenElsewhere, IsIndexPage}
 use Rattle.spec_tree.specs.Parents.{ArePlaces, HasNoParent, HasParent, High, Before}
-use Rattle.spec_tree.specs.ParentRules.{tree_error, row_error, IsParentOf, IsRootOf, HasWrongFirstKey, HasWrongPrev}
+use Rattle.spec_tree.specs.ParentRules.{IsParentOf, IsRootOf, HasWrongFirstKey, HasWrongPrev}
 use Rattle.spec_tree.specs.NeighbourRules.{HasNoPrev, HasNoPlace, LeadsTo, NamesChild, IsChildNowhere}
 use Rattle.spec_tree.specs.Trees.{StandsAt}
-use Rattle.law_extents.proofs.Listed.{decided}
 
 -- the same is known of object o
 pub record AgreesOf (K L : Known) (o : ℕ) : Type 0 where
@@ -190,11 +189,11 @@ shows K L o k x a others at (StandsAt.ChildNowhere (IsChildNowhere.Alone c n u p
     others.child_nowhere c n (sym (ap (λ (y : CheckError). y.object) e) ∙ at) u none
 
 -- a page that isn't seen is named wrongly: by a link, and by an index row
-wrong_child : (K : Known) (k : ℕ) (c : IndexRow) → NamesChild K c k → IsUnseen K k → ((x : CheckError) → StandsAt K k x → ⊥) → ⊥
+pub wrong_child : (K : Known) (k : ℕ) (c : IndexRow) → NamesChild K c k → IsUnseen K k → ((x : CheckError) → StandsAt K k x → ⊥) → ⊥
 wrong_child K k c n unseen none = none _ (StandsAt.ChildNowhere (IsChildNowhere.Alone c n unseen
     (λ l is. none _ (StandsAt.ChildNowhere (IsChildNowhere.Linked c l n unseen is refl))) refl))
 
-wrong_next : (K : Known) (k : ℕ) (l : Link) → LeadsTo K l k → k ≢ 0 → IsUnseen K k → ((x : CheckError) → StandsAt K k x → ⊥) → ⊥
+pub wrong_next : (K : Known) (k : ℕ) (l : Link) → LeadsTo K l k → k ≢ 0 → IsUnseen K k → ((x : CheckError) → StandsAt K k x → ⊥) → ⊥
 wrong_next K k l h some unseen none = none _ (StandsAt.NextNowhere (record {
   link = l;
   leads = h;

@@ -7,7 +7,7 @@ use Rattle.spec_file.specs.Places.{is_free, extent_count}
 use Rattle.spec_file.specs.Roles.{is_ordinary}
 use Rattle.spec_file.specs.Catalog.{entry_at}
 use Rattle.spec_file.specs.CatalogRows.{CatalogRow, row_of_entry}
-use Rattle.spec_chain.specs.Chains.{IsObject, IsInChain}
+use Rattle.spec_chain.specs.Chains.{IsInChain}
 use Rattle.spec_chain.specs.Marks.{IsMarked}
 use Rattle.spec_chain.specs.Uses.{IsUseBy, IsAllocatedTo, pfs_byte}
 use Rattle.spec_steps.specs.AtMost.{Changed, AtMost, page_of, either, maps_of}

@@ -1,0 +1,4 @@
+pub mod SameChain
+pub mod ChainRules
+pub mod Held
+pub mod OtherObjects

@@ -1,0 +1,3 @@
+pub mod MapPages
+pub mod WordsAtMost
+pub mod Puts

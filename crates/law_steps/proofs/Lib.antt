@@ -1,0 +1,4 @@
+pub mod Owners
+pub mod OneObject
+pub mod InChain
+pub mod MarkedPages

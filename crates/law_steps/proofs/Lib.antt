@@ -2,3 +2,5 @@ pub mod Owners
 pub mod OneObject
 pub mod InChain
 pub mod MarkedPages
+pub mod FilledSlots
+pub mod FreedSlots

@@ -1,5 +1,9 @@
+use Rattle.law_steps.proofs.FilledSlots.{slot_clean}
 use Rattle.law_steps.proofs.MarkedPages.{marked_page_clean}
 use Rattle.law_steps.proofs.taking_laws.Goals as goal
 
 pub returns : goal.returns
-returns c = record { marked = λ g image image' row p shape clean sets. marked_page_clean g image image' row p (record { shape = shape; clean = clean }) sets }
+returns c = record {
+  slot = λ g image image' row slot p shape clean puts. slot_clean g image image' row slot p (record { shape = shape; clean = clean }) puts;
+  marked = λ g image image' row p shape clean sets. marked_page_clean g image image' row p (record { shape = shape; clean = clean }) sets;
+}

@@ -4,3 +4,5 @@ pub mod InChain
 pub mod MarkedPages
 pub mod FilledSlots
 pub mod FreedSlots
+pub mod MarkedExtents
+pub mod FreedExtents

@@ -1,16 +1,18 @@
 //! Laws of the steps of allocation: each is on its object alone, and leaves clean maps and chains clean.
 #![tactic(auto)]
 
-ghost use Rattle.law_steps.specs.Laws.{SlotStaysClean, MarkedPageStaysClean, FreedSingleStaysClean};
+ghost use Rattle.law_steps.specs.Laws.{SlotStaysClean, MarkedPageStaysClean, MarkStaysClean, FreedSingleStaysClean, FreedLastStaysClean};
 
-/// Taking
+/// Pages that are taken leave clean maps clean: a single page for a slot, a page of an extent that is marked, and the
+/// first of one that gets a mark.
 pub fn taking_laws()
     ensures slot { SlotStaysClean }
     ensures marked { MarkedPageStaysClean }
+    ensures mark { MarkStaysClean }
 {}
 
-/// Freeing
+/// So do pages that are freed: a single page, and the last of a marked extent.
 pub fn freeing_laws()
     ensures single { FreedSingleStaysClean }
-    ensures same { SlotStaysClean }
+    ensures last { FreedLastStaysClean }
 {}

@@ -6,3 +6,4 @@ pub mod FilledSlots
 pub mod FreedSlots
 pub mod MarkedExtents
 pub mod FreedExtents
+pub mod GrownChains

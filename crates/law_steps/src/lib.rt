@@ -1,14 +1,15 @@
 //! Laws of the steps of allocation: each is on its object alone, and leaves clean maps and chains clean.
 #![tactic(auto)]
 
-ghost use Rattle.law_steps.specs.Laws.{SlotStaysClean, MarkedPageStaysClean, MarkStaysClean, FreedSingleStaysClean, FreedLastStaysClean};
+ghost use Rattle.law_steps.specs.Laws.{SlotStaysClean, MarkedPageStaysClean, MarkStaysClean, GrowthStaysClean, FreedSingleStaysClean, FreedLastStaysClean};
 
-/// Pages that are taken leave clean maps clean: a single page for a slot, a page of an extent that is marked, and the
-/// first of one that gets a mark.
+/// Pages that are taken leave clean maps clean: a single page for a slot or for the chain, a page of an extent that is
+/// marked, and one of an extent that gets its mark.
 pub fn taking_laws()
     ensures slot { SlotStaysClean }
     ensures marked { MarkedPageStaysClean }
     ensures mark { MarkStaysClean }
+    ensures growth { GrowthStaysClean }
 {}
 
 /// So do pages that are freed: a single page, and the last of a marked extent.

@@ -1,6 +1,7 @@
 use Rattle.law_steps.proofs.FilledSlots.{slot_clean}
 use Rattle.law_steps.proofs.MarkedPages.{marked_page_clean}
 use Rattle.law_steps.proofs.MarkedExtents.{mark_clean}
+use Rattle.law_steps.proofs.GrownChains.{growth_clean}
 use Rattle.law_steps.proofs.taking_laws.Goals as goal
 
 pub returns : goal.returns
@@ -8,4 +9,5 @@ returns c = record {
   slot = λ g image image' row slot p shape clean puts. slot_clean g image image' row slot p (record { shape = shape; clean = clean }) puts;
   marked = λ g image image' row p shape clean sets. marked_page_clean g image image' row p (record { shape = shape; clean = clean }) sets;
   mark = λ g image image' row k e p shape clean marks. mark_clean g image image' row k e p (record { shape = shape; clean = clean }) marks;
+  growth = λ g image image' row last p shape clean grows. growth_clean g image image' row last p (record { shape = shape; clean = clean }) grows;
 }

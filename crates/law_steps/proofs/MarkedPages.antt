@@ -1,17 +1,15 @@
 -- A page of a marked extent that is taken, freed or filled leaves clean maps clean.
-use Rattle.std.proofs.Common.{◌≡◌, ◌≢◌, ◌⊎◌, ℕ, ◌/◌, ◌<◌, true, List, length, refl, sym, ap, subst, inl, inr, ⊎_elim}
-use Rattle.std.proofs.lemmas.Bool.{cases_eq}
+use Rattle.std.proofs.Common.{◌≡◌, ◌≢◌, ℕ, ◌/◌, ◌<◌, true, List, length, refl, sym, ap, subst, inl, inr, ⊎_elim}
 use Rattle.spec_file.specs.declared.geometry.Geometry.{Geometry}
 use Rattle.spec_file.specs.Image.{Image, page}
 use Rattle.spec_file.specs.CatalogRows.{CatalogRow}
 use Rattle.spec_file.specs.Places.{is_free, is_mixed, extent_count}
 use Rattle.spec_file.specs.Roles.{is_ordinary}
 use Rattle.spec_chain.specs.Chains.{pointer, IsChainPage, IsObject}
-use Rattle.spec_chain.specs.Marks.{IsMarker, IsMarked}
+use Rattle.spec_chain.specs.Marks.{IsMarked}
 use Rattle.spec_chain.specs.Uses.{Use, pfs_byte}
 use Rattle.spec_file.specs.Iam.{single_slot_count}
 use Rattle.spec_extents.specs.Extents.{extent_of}
-use Rattle.spec_clean.specs.CleanFiles.{HasCleanMaps}
 use Rattle.spec_steps.specs.AtMost.{Changed, byte_of, page_of, either}
 use Rattle.spec_steps.specs.IamPages.{SameLinks, SameMarks, SameSlots, OnChain}
 use Rattle.spec_steps.specs.Taking.{ChangesMarkedPage}

@@ -5,7 +5,7 @@ use Rattle.spec_file.specs.declared.geometry.Geometry.{Geometry}
 use Rattle.spec_file.specs.Image.{Image, page}
 use Rattle.spec_file.specs.Header.{says}
 use Rattle.spec_file.specs.Places.{extent_count, is_free, is_mixed}
-use Rattle.spec_file.specs.Roles.{role_of, system_type, is_ordinary}
+use Rattle.spec_file.specs.Roles.{is_ordinary}
 use Rattle.spec_file.specs.Catalog.{PassesCatalog}
 use Rattle.spec_file.specs.CatalogRows.{CatalogRow}
 use Rattle.spec_chain.specs.Chains.{IsObject}

@@ -1,16 +1,17 @@
 -- Who owns a page, where the maps are clean: at most one object, and none a page that can be taken.
-use Rattle.std.proofs.Common.{◌≡◌, ◌⊎◌, ℕ, ◌/◌, ◌<◌, true, false, IsTrue, length, refl, ap, subst, inl, inr, ⊎_elim}
+use Rattle.std.proofs.Common.{◌≡◌, ℕ, ◌*◌, ◌/◌, ◌<◌, true, length, refl, sym, ap, subst, inl, inr, ⊎_elim, arith}
 use Rattle.std.proofs.lemmas.Bool.{both_ways, false_from_ne_true}
 use Rattle.spec_file.specs.declared.geometry.Geometry.{Geometry}
 use Rattle.spec_file.specs.Image.{Image}
 use Rattle.spec_file.specs.CatalogRows.{CatalogRow}
-use Rattle.spec_file.specs.Places.{is_free}
-use Rattle.spec_file.specs.Roles.{is_ordinary}
+use Rattle.spec_file.specs.Pfs.{is_allocated_byte}
+use Rattle.spec_file.specs.Places.{is_free, extent_count}
 use Rattle.spec_chain.specs.Chains.{IsObject}
 use Rattle.spec_chain.specs.Uses.{Use, is_allocated, pfs_byte}
+use Rattle.spec_extents.specs.Extents.{extent_of}
 use Rattle.spec_steps.specs.Acts.{Owns}
 use Rattle.spec_steps.specs.Taking.{IsTakeable}
-use Rattle.law_extents.proofs.GoodKinds.{used_allocated}
+use Rattle.law_extents.proofs.GoodKinds.{used_allocated, free_kind, all_ordinary}
 use Rattle.law_frames.proofs.Held.{IsStart, goods, extent_below}
 
 abbrev pub NobodyOwns : Geometry → Image → ℕ → Type 0
@@ -46,3 +47,15 @@ module _ (g : Geometry) (image : Image) (start : IsStart g image) where
       (used_allocated (pfs_byte g image p) u.0 ((good.pages p refl).used takeable.ordinary (use_at row.id u.0) (row, object, refl, u.1))))
       (λ m. ⊎_elim (λ mixed. good.mixed_marked (inr (mixed, false_from_ne_true (is_free g image (p / 8)) (λ free. good.one_map free mixed))) (row.id, (row, object, refl, m)))
       (λ free. good.free_marked free (row.id, (row, object, refl, m))) takeable.extent) owns
+
+  -- the first page of a free extent can be taken
+  pub free_is_takeable : (e : ℕ) → e < extent_count image → is_free g image e ≡ true → IsTakeable g image (8 * e)
+  free_is_takeable e inside free =
+      let at : 8 * e / 8 ≡ e = omega arith in
+      let kind = free_kind g e (extent_of g image e) (goods g image start e inside) free in
+      let ordinary = all_ordinary g e (8 * e) at kind.system kind.boot in record {
+        inside = omega (arith, inside);
+        ordinary = ordinary;
+        unallocated = ap is_allocated_byte (kind.bytes (8 * e) at ordinary);
+        extent = inr (subst (λ f. is_free g image f ≡ true) (sym at) free);
+      }

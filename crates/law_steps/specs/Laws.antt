@@ -1,18 +1,23 @@
 -- Each step of allocation is on its object alone, and leaves clean maps and chains clean.
-use Rattle.std.specs.Prelude.{ℕ, length}
+use Rattle.std.specs.Prelude.{◌≡◌, ℕ, ◌*◌, ◌<◌, true, length}
 use Rattle.spec_file.specs.declared.geometry.Geometry.{Geometry}
 use Rattle.spec_file.specs.Image.{Image}
 use Rattle.spec_file.specs.CatalogRows.{CatalogRow}
-use Rattle.spec_file.specs.Places.{HasShape}
+use Rattle.spec_file.specs.Places.{HasShape, is_free, extent_count}
 use Rattle.spec_clean.specs.CleanFiles.{HasCleanMaps}
 use Rattle.spec_steps.specs.Acts.{Acts}
-use Rattle.spec_steps.specs.Taking.{PutsIntoSlot, ChangesMarkedPage, MarksExtent, GrowsChain}
+use Rattle.spec_steps.specs.Taking.{IsTakeable, PutsIntoSlot, ChangesMarkedPage, MarksExtent, GrowsChain}
 use Rattle.spec_steps.specs.Freeing.{FreesSingle, FreesLast}
 
 -- the step leaves other objects theirs, and the maps and chains clean
 pub record StaysClean (g : Geometry) (image image' : Image) (o : ℕ) : Type 0 where
   pub acts : Acts g image image' o
   pub maps : HasCleanMaps g image'
+
+-- the first page of a free extent can be taken as a single page
+abbrev pub FreeIsTakeable : Type 0
+FreeIsTakeable = (g : Geometry) (image : Image) (e : ℕ) → HasShape g (length image) → HasCleanMaps g image → e < extent_count image
+    → is_free g image e ≡ true → IsTakeable g image (8 * e)
 
 -- a single page is put into a slot
 abbrev pub SlotStaysClean : Type 0

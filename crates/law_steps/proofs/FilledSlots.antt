@@ -17,7 +17,7 @@ use Rattle.spec_steps.specs.Taking.{PutsIntoSlot}
 use Rattle.law_frames.proofs.ChainRules.{HasSlotsInside, FirstSlotsInside}
 use Rattle.law_frames.proofs.SameChain.{SameChain, slot_from, in_chain_kept}
 use Rattle.law_frames.proofs.Held.{IsStart, goods, held}
-use Rattle.law_steps.specs.Laws.{StaysClean}
+use Rattle.spec_steps.specs.Acts.{StaysClean}
 use Rattle.spec_steps.specs.Acts.{Owns}
 use Rattle.law_steps.proofs.Owners.{NobodyOwns, takeable_is_nobodys}
 use Rattle.law_steps.proofs.OneObject.{HasNoMaps, single_maps, single_bytes, taken_extents}

@@ -22,7 +22,7 @@ use Rattle.law_extents.proofs.Locality.{unused_zero}
 use Rattle.law_frames.proofs.ChainRules.{HasMarksInside}
 use Rattle.law_frames.proofs.SameChain.{SameChain, at_page}
 use Rattle.law_frames.proofs.Held.{IsStart, goods, held, extent_below}
-use Rattle.law_steps.specs.Laws.{StaysClean}
+use Rattle.spec_steps.specs.Acts.{StaysClean}
 use Rattle.law_steps.proofs.OneObject.{one_extent, below}
 use Rattle.law_steps.proofs.InChain.{StepsInChain, chain_owns, acts, own_kept, mark_from, mark_in, same_uses, chain_keeps_clean, same_slots_inside}
 use Rattle.law_steps.proofs.MarkedExtents.{same_extent}

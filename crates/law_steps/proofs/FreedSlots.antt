@@ -20,7 +20,7 @@ use Rattle.law_extents.proofs.GoodChanges.{singles_freed}
 use Rattle.law_frames.proofs.ChainRules.{HasSlotsInside, FirstSlotsInside}
 use Rattle.law_frames.proofs.SameChain.{SameChain, slot_from, in_chain_kept}
 use Rattle.law_frames.proofs.Held.{IsStart, goods, held, extent_below}
-use Rattle.law_steps.specs.Laws.{StaysClean}
+use Rattle.spec_steps.specs.Acts.{StaysClean}
 use Rattle.law_steps.proofs.OneObject.{HasNoMaps, single_maps, single_bytes, one_extent, below}
 use Rattle.law_steps.proofs.InChain.{StepsInChain, chain_owns, acts, own_kept, use_from, use_in, same_markers, chain_keeps_clean, unchanged, same_links, same_marks_inside}
 

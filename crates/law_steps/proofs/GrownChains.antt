@@ -25,7 +25,7 @@ use Rattle.spec_steps.specs.Acts.{Owns, Acts}
 use Rattle.spec_steps.specs.IamPages.{IsNextSet, SameMarks, SameSlots}
 use Rattle.spec_steps.specs.Taking.{GrowsChain}
 use Rattle.law_words.proofs.MapPages.{boot_not, differs}
-use Rattle.law_steps.specs.Laws.{StaysClean}
+use Rattle.spec_steps.specs.Acts.{StaysClean}
 use Rattle.law_steps.proofs.Owners.{NobodyOwns, one_owner, takeable_is_nobodys}
 use Rattle.law_steps.proofs.OneObject.{IsNotOthers, HasNoMaps, TakesOne, acts_from, other_uses, other_marks, clean_after, single_maps, single_bytes, taken_extents}
 use Rattle.law_steps.proofs.InChain.{chain_owns, unchanged}

@@ -20,7 +20,7 @@ use Rattle.law_extents.proofs.GoodChanges.{extent_taken}
 use Rattle.law_frames.proofs.ChainRules.{HasMarksInside}
 use Rattle.law_frames.proofs.SameChain.{SameChain, at_page}
 use Rattle.law_frames.proofs.Held.{IsStart, goods, held}
-use Rattle.law_steps.specs.Laws.{StaysClean}
+use Rattle.spec_steps.specs.Acts.{StaysClean}
 use Rattle.law_steps.proofs.Owners.{NobodyOwns, free_is_nobodys}
 use Rattle.law_steps.proofs.OneObject.{one_extent, below}
 use Rattle.law_steps.proofs.InChain.{StepsInChain, one_place, chain_owns, acts, onto, own_kept, mark_from, mark_in, same_uses, chain_keeps_clean, unchanged, same_links, same_slots_inside}

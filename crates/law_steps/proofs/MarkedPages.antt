@@ -15,7 +15,7 @@ use Rattle.spec_steps.specs.IamPages.{SameLinks, SameMarks, SameSlots, OnChain}
 use Rattle.spec_steps.specs.Taking.{ChangesMarkedPage}
 use Rattle.law_extents.proofs.GoodChanges.{byte_set}
 use Rattle.law_frames.proofs.Held.{IsStart, goods, held, extent_below}
-use Rattle.law_steps.specs.Laws.{StaysClean}
+use Rattle.spec_steps.specs.Acts.{StaysClean}
 use Rattle.law_steps.proofs.OneObject.{one_extent, below}
 use Rattle.law_steps.proofs.InChain.{StepsInChain, acts, same_uses, same_markers, chain_keeps_clean, unchanged, same_links, same_marks_inside, same_slots_inside}
 

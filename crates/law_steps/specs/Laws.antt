@@ -5,14 +5,9 @@ use Rattle.spec_file.specs.Image.{Image}
 use Rattle.spec_file.specs.CatalogRows.{CatalogRow}
 use Rattle.spec_file.specs.Places.{HasShape, is_free, extent_count}
 use Rattle.spec_clean.specs.CleanFiles.{HasCleanMaps}
-use Rattle.spec_steps.specs.Acts.{Acts}
+use Rattle.spec_steps.specs.Acts.{StaysClean}
 use Rattle.spec_steps.specs.Taking.{IsTakeable, PutsIntoSlot, ChangesMarkedPage, MarksExtent, GrowsChain}
 use Rattle.spec_steps.specs.Freeing.{FreesSingle, FreesLast}
-
--- the step leaves other objects theirs, and the maps and chains clean
-pub record StaysClean (g : Geometry) (image image' : Image) (o : ℕ) : Type 0 where
-  pub acts : Acts g image image' o
-  pub maps : HasCleanMaps g image'
 
 -- the first page of a free extent can be taken as a single page
 abbrev pub FreeIsTakeable : Type 0

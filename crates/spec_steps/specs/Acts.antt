@@ -12,6 +12,7 @@ use Rattle.spec_chain.specs.Uses.{IsUseBy, IsAllocatedTo, pfs_byte}
 use Rattle.spec_check.specs.declared.report.CheckError.{CheckError}
 use Rattle.spec_tables.specs.Seen.{IsSeen}
 use Rattle.spec_tables.specs.PageRules.{IsErrorOf}
+use Rattle.spec_clean.specs.CleanFiles.{HasCleanMaps}
 
 -- the object uses the page, or marks its extent
 abbrev pub Owns : Geometry → Image → CatalogRow → ℕ → Type 0
@@ -39,3 +40,8 @@ pub record IsKept (g : Geometry) (image image' : Image) (row : CatalogRow) : Typ
   pub allocated : (p : ℕ) → IsAllocatedTo g image' row p ↔ IsAllocatedTo g image row p
   pub seen : (p : ℕ) → IsSeen g image' row p ↔ IsSeen g image row p
   pub errors : (p : ℕ) (x : CheckError) → IsAllocatedTo g image row p → IsErrorOf g image' row p x ↔ IsErrorOf g image row p x
+
+-- a step on object o leaves the others theirs, and the maps and chains clean
+pub record StaysClean (g : Geometry) (image image' : Image) (o : ℕ) : Type 0 where
+  pub acts : Acts g image image' o
+  pub maps : HasCleanMaps g image'

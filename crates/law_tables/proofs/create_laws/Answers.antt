@@ -1,0 +1,10 @@
+use Rattle.law_clean.proofs.CleanParts.{clean_maps}
+use Rattle.law_tables.proofs.CreatedObjects.{create_maps, create_clean}
+use Rattle.law_tables.proofs.create_laws.Goals as goal
+
+pub returns : goal.returns
+returns c = record {
+  maps = λ g image image' row p shape clean creates. create_maps g image image' row p (record { shape = shape; clean = clean }) creates;
+  clean = λ g image image' row p shape clean creates heap.
+      create_clean g image image' row p (record { shape = shape; clean = clean_maps g image shape clean }) creates clean heap;
+}

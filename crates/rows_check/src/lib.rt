@@ -11,4 +11,6 @@ mod interval_tests;
 #[cfg(test)]
 mod map_tests;
 #[cfg(test)]
+mod part_tests;
+#[cfg(test)]
 mod use_tests;

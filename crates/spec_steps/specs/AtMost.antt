@@ -19,7 +19,7 @@ pub record Changed : Type 1 where
 abbrev pub IsWhole : Geometry → ℕ → Type 0
 IsWhole g q = (q ≡ 9) ⊎ IsTrue (is_ordinary g q)
 
--- all else is the same; of the pages with maps only the header is asked for
+-- all else that a check reads is the same: of pages with maps the other bits and bytes and the header
 pub record AtMost (g : Geometry) (changed : Changed) (image image' : Image) : Type 0 where
   pub size : length image' ≡ length image
   pub free : (e : ℕ) → e < extent_count image → (changed.free e → ⊥) → is_free g image' e ≡ is_free g image e

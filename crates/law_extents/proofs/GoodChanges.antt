@@ -9,7 +9,7 @@ use Rattle.spec_chain.specs.Uses.{Use}
 use Rattle.spec_check.specs.Pages.{kind_of_role}
 use Rattle.spec_extents.specs.Extents.{Extent, IsUsed, IsMarked, HoldsUse, IsMixed, Fits, FitsUse, FitsMark, IsGoodExtent}
 use Rattle.spec_extents.specs.Kinds.{AreRolesGood}
-use Rattle.spec_extents.specs.Changes.{ShowsSame, TakesSingle, ChangesByte, TakesExtent, FreesSingles, FreesExtent}
+use Rattle.spec_extents.specs.Changes.{ShowsSame, TakesSingle, FillsSingle, ChangesByte, TakesExtent, FreesSingles, FreesExtent}
 use Rattle.law_extents.proofs.Listed.{decided}
 use Rattle.law_extents.proofs.Locality.{zero_unused}
 use Rattle.law_extents.proofs.GoodKinds.{used_allocated, boot_allocated, zero_not, no_role, boot_role, all_ordinary, free_kind, shared_kind, owned_kind, free_good, shared_good, owned_good}
@@ -103,6 +103,25 @@ single_taken g e p u x y good take =
           (λ same. absurd (none (u, subst (λ r. y.uses r u) (sym same) new)))
           (λ other. take.bytes q at other ∙ is.unused q at ordinary (λ h. none (h.0, (take.uses q at h.0).1 (inl h.1)))) (cases_eq q p);
       unmarked = λ m. is.unmarked (m.0, take.marks m.0 m.1);
+    })
+
+pub single_filled : (g : Geometry) (e p : ℕ) (u : Use) (x y : Extent) → IsGoodExtent g e x → FillsSingle g e p u x y → IsGoodExtent g e y
+single_filled g e p u x y good fills =
+    let is = shared_kind g e x good (inl (inl (p, fills.at, (u, fills.from)))) in
+    shared_good g e y (record {
+      free = fills.free ∙ is.free;
+      system = is.system;
+      claimed = inr (inl (p, fills.at, (u, (fills.uses p fills.at u).1 fills.from)));
+      roles = kept_roles g e x y (λ q at other. fills.bytes q at (other_page g p q fills.ordinary other)) is.roles;
+      one = λ q at v w a b. is.one q at v w ((fills.uses q at v).0 a) ((fills.uses q at w).0 b);
+      used = λ q at ordinary v a. ⊎_elim
+          (λ same. let only : v ≡ u = is.one p fills.at v u (subst (λ r. x.uses r v) same ((fills.uses q at v).0 a)) fills.from in
+          rw (ap y.byte same, ap (λ (w : Use). w.place) only) fills.byte)
+          (λ other. subst (λ b. FitsUse b v.place) (sym (fills.bytes q at other)) (is.used q at ordinary v ((fills.uses q at v).0 a))) (cases_eq q p);
+      unused = λ q at ordinary none. ⊎_elim
+          (λ same. absurd (none (u, (fills.uses q at u).1 (subst (λ r. x.uses r u) (sym same) fills.from))))
+          (λ other. fills.bytes q at other ∙ is.unused q at ordinary (λ h. none (h.0, (fills.uses q at h.0).1 h.1))) (cases_eq q p);
+      unmarked = λ m. is.unmarked (m.0, (fills.marks m.0).0 m.1);
     })
 
 pub byte_set : (g : Geometry) (e p : ℕ) (x y : Extent) → IsGoodExtent g e x → ChangesByte g e p x y → IsGoodExtent g e y

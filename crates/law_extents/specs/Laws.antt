@@ -11,7 +11,7 @@ use Rattle.spec_check.specs.declared.report.CheckError.{CheckError}
 use Rattle.spec_check.specs.Allocation.{IsExtentError, IsUseError}
 use Rattle.spec_extents.specs.Extents.{extent_of, IsMixed, IsGoodExtent, AreGoodExtents}
 use Rattle.spec_extents.specs.Kinds.{IsFree, IsShared, IsOwned}
-use Rattle.spec_extents.specs.Changes.{ShowsSame, TakesSingle, ChangesByte, TakesExtent, FreesSingles, FreesExtent}
+use Rattle.spec_extents.specs.Changes.{ShowsSame, TakesSingle, FillsSingle, ChangesByte, TakesExtent, FreesSingles, FreesExtent}
 
 -- an error of the rules of extents and of pages; each names a page
 abbrev pub IsMapError : Geometry → Image → CheckError → Type 0
@@ -63,6 +63,10 @@ SameKeepsGood = (g : Geometry) (image image' : Image) (e : ℕ) → IsGoodAt g i
 abbrev pub SingleKeepsGood : Type 0
 SingleKeepsGood = (g : Geometry) (image image' : Image) (e p : ℕ) (u : Use) → IsGoodAt g image e
     → TakesSingle g e p u (extent_of g image e) (extent_of g image' e) → IsGoodAt g image' e
+
+abbrev pub FillingKeepsGood : Type 0
+FillingKeepsGood = (g : Geometry) (image image' : Image) (e p : ℕ) (u : Use) → IsGoodAt g image e
+    → FillsSingle g e p u (extent_of g image e) (extent_of g image' e) → IsGoodAt g image' e
 
 abbrev pub ByteKeepsGood : Type 0
 ByteKeepsGood = (g : Geometry) (image image' : Image) (e p : ℕ) → IsGoodAt g image e

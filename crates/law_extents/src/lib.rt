@@ -2,7 +2,7 @@
 //! good; a good extent is of a kind; and what statements do to extents keeps them good.
 #![tactic(auto)]
 
-ghost use Rattle.law_extents.specs.Laws.{ExtentIsLocal, ExtentsAreAll, FreeIsKind, SharedIsKind, OwnedIsKind, GoodHasKind, SameKeepsGood, SingleKeepsGood, ByteKeepsGood, ExtentKeepsGood, FreeingKeepsGood, UnmarkingKeepsGood};
+ghost use Rattle.law_extents.specs.Laws.{ExtentIsLocal, ExtentsAreAll, FreeIsKind, SharedIsKind, OwnedIsKind, GoodHasKind, SameKeepsGood, SingleKeepsGood, FillingKeepsGood, ByteKeepsGood, ExtentKeepsGood, FreeingKeepsGood, UnmarkingKeepsGood};
 
 /// No error of extents and pages stands at an extent exactly where what it shows is good, and none in a file of
 /// whole extents exactly where all are good.
@@ -20,11 +20,12 @@ pub fn kind_laws()
     ensures some { GoodHasKind }
 {}
 
-/// An extent stays good where it shows the same; where a single page, a page of a marked extent or a free extent is
-/// taken; and where single pages or a marked extent are freed.
+/// An extent stays good where it shows the same; where a single page is taken or filled, a page of a marked extent
+/// changes its byte, or a free extent is taken; and where single pages or a marked extent are freed.
 pub fn change_laws()
     ensures same { SameKeepsGood }
     ensures single { SingleKeepsGood }
+    ensures filling { FillingKeepsGood }
     ensures byte { ByteKeepsGood }
     ensures extent { ExtentKeepsGood }
     ensures freeing { FreeingKeepsGood }

@@ -1,5 +1,5 @@
 -- The last page of a marked extent that is freed leaves clean maps clean.
-use Rattle.std.proofs.Common.{◌≡◌, ◌≢◌, ◌↔◌, ℕ, ◌/◌, ◌%◌, ◌<◌, true, false, length, refl, sym, ap, subst, ◌∙◌, inl, inr, ⊎_elim}
+use Rattle.std.proofs.Common.{◌≡◌, ◌≢◌, ◌⊎◌, ◌↔◌, ℕ, ◌/◌, ◌%◌, ◌<◌, true, false, length, refl, sym, ap, subst, ◌∙◌, inl, inr, ⊎_elim}
 use Rattle.std.proofs.lemmas.Bool.{cases_eq, both_ways, false_from_ne_true}
 use Rattle.spec_file.specs.declared.geometry.Geometry.{Geometry}
 use Rattle.spec_file.specs.Image.{Image, page}
@@ -12,7 +12,7 @@ use Rattle.spec_chain.specs.Chains.{pointer, IsChainPage, IsInChain}
 use Rattle.spec_chain.specs.Marks.{IsMarker, IsMarked}
 use Rattle.spec_chain.specs.Uses.{pfs_byte, is_allocated}
 use Rattle.spec_extents.specs.Extents.{extent_of}
-use Rattle.spec_steps.specs.AtMost.{Changed, free_bit, byte_of, either}
+use Rattle.spec_steps.specs.AtMost.{Changed, free_bit, byte_of, page_of, either}
 use Rattle.spec_steps.specs.Acts.{Owns}
 use Rattle.spec_steps.specs.IamPages.{SameSlots, OnChain}
 use Rattle.spec_steps.specs.Freeing.{FreesLast, chain_pages}
@@ -32,23 +32,25 @@ module _ (g : Geometry) (image image' : Image) (row : CatalogRow) (p : ℕ) (sta
   e = p / 8
 
   abbrev changed : Changed
-  changed = either (free_bit e) (either (byte_of p) (chain_pages g image row))
+  changed = either (free_bit e) (either (byte_of p) (either (page_of p) (chain_pages g image row)))
 
   inside : e < extent_count image
   inside = extent_below g image p start frees.inside
 
-  page_is : (q : ℕ) → changed.pages q → IsInChain g image row q
-  page_is q c = ⊎_elim (λ x. absurd x) (λ a. ⊎_elim (λ x. absurd x) (λ b. b) a) c
+  pages_are : (q : ℕ) → changed.pages q → (q ≡ p) ⊎ IsInChain g image row q
+  pages_are q c = ⊎_elim (λ x. absurd x) (λ a. ⊎_elim (λ x. absurd x) (λ b. b) a) c
 
   byte_is : (q : ℕ) → changed.bytes q → q ≡ p
-  byte_is q c = ⊎_elim (λ x. absurd x) (λ a. ⊎_elim (λ same. same) (λ x. absurd x) a) c
+  byte_is q c = ⊎_elim (λ x. absurd x) (λ a. ⊎_elim (λ same. same) (λ b. absurd (⊎_elim (λ x. x) (λ x. x) b)) a) c
 
   step : StepsInChain g image image' row changed
   step = record {
     object = frees.object;
     most = frees.most;
-    ordinary = λ q c. let h = page_is q c in subst (λ r. is_ordinary g r ≡ true) h.2 (held g image row h.0 start frees.object h.1).ordinary;
-    pages = λ q c. let h = page_is q c in inl (subst (Owns g image row) h.2 (chain_owns g image row h.0 h.1));
+    ordinary = λ q c. ⊎_elim (λ same. subst (λ r. is_ordinary g r ≡ true) (sym same) frees.ordinary)
+        (λ h. subst (λ r. is_ordinary g r ≡ true) h.2 (held g image row h.0 start frees.object h.1).ordinary) (pages_are q c);
+    pages = λ q c. ⊎_elim (λ same. inl (inr (subst (λ r. IsMarked g image row (r / 8)) (sym same) frees.marked)))
+        (λ h. inl (subst (Owns g image row) h.2 (chain_owns g image row h.0 h.1))) (pages_are q c);
     bytes = λ q c. inl (inr (subst (λ r. IsMarked g image row (r / 8)) (sym (byte_is q c)) frees.marked));
     links = λ k is. (frees.cleared k is).links;
   }
@@ -108,13 +110,13 @@ module _ (g : Geometry) (image image' : Image) (row : CatalogRow) (p : ℕ) (sta
       let mark : IsMarker g image e row.id = (row, frees.object, refl, frees.marked) in
       let owned = owned_kind g e (extent_of g image e) row.id good mark in
       let uses = same_uses g image image' row changed start step slots in
-      let mixed = λ (f : ℕ) (low : f < extent_count image). let w : is_mixed g image' f ≡ is_mixed g image f = frees.most.mixed f low (λ c. ⊎_elim (λ x. x) (λ a. ⊎_elim (λ x. x) (λ x. x) a) c) in w in
+      let mixed = λ (f : ℕ) (low : f < extent_count image). let w : is_mixed g image' f ≡ is_mixed g image f = frees.most.mixed f low (λ c. ⊎_elim (λ x. x) (λ a. ⊎_elim (λ x. x) (λ b. ⊎_elim (λ x. x) (λ x. x) b) a) c) in w in
       let bytes = λ (q : ℕ) (low : q < length image) (other : q ≢ p). let w : pfs_byte g image' q ≡ pfs_byte g image q = frees.most.bytes q low (λ c. other (byte_is q c)) in w in record {
         acts = acts g image image' row changed start step;
         maps = chain_keeps_clean g image image' row changed start step fewer_marks (same_slots_inside g image image' row slots)
             (one_extent g image image' e (goods g image start) frees.most.size
             (record {
-              free = λ f low other. frees.most.free f low (λ c. ⊎_elim other (λ a. ⊎_elim (λ x. x) (λ x. x) a) c);
+              free = λ f low other. frees.most.free f low (λ c. ⊎_elim other (λ a. ⊎_elim (λ x. x) (λ b. ⊎_elim (λ x. x) (λ x. x) b) a) c);
               mixed = λ f low other. mixed f low;
               bytes = λ q low other. bytes q low (λ same. other (ap (λ n. n / 8) same));
             })

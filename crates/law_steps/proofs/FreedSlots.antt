@@ -22,6 +22,7 @@ use Rattle.law_frames.proofs.SameChain.{SameChain, slot_from, in_chain_kept}
 use Rattle.law_frames.proofs.Held.{IsStart, goods, held, extent_below}
 use Rattle.spec_steps.specs.Acts.{StaysClean}
 use Rattle.law_steps.proofs.OneObject.{HasNoMaps, single_maps, single_bytes, one_extent, below}
+use Rattle.law_steps.proofs.OwnPages.{slot_apart}
 use Rattle.law_steps.proofs.InChain.{StepsInChain, chain_owns, acts, own_kept, use_from, use_in, same_markers, chain_keeps_clean, unchanged, same_links, same_marks_inside}
 
 -- the bits of such an extent tell whether a page is left
@@ -41,16 +42,16 @@ freed_bits g image e maps = ⊎_elim
 
 module _ (g : Geometry) (image image' : Image) (row : CatalogRow) (p : ℕ) (start : IsStart g image) (frees : FreesSingle g image image' row p) where
   abbrev rest : Changed
-  rest = page_of row.first_iam
+  rest = either (page_of p) (page_of row.first_iam)
 
   abbrev changed : Changed
   changed = either (maps_of p) rest
 
   no_maps : HasNoMaps rest
-  no_maps = record { free = λ e c. c; mixed = λ e c. c; bytes = λ q c. c }
+  no_maps = record { free = λ e c. ⊎_elim (λ x. x) (λ x. x) c; mixed = λ e c. ⊎_elim (λ x. x) (λ x. x) c; bytes = λ q c. ⊎_elim (λ x. x) (λ x. x) c }
 
-  page_is : (q : ℕ) → changed.pages q → q ≡ row.first_iam
-  page_is q c = ⊎_elim (λ a. absurd (⊎_elim (λ x. x) (λ b. ⊎_elim (λ x. x) (λ x. x) b) a)) (λ b. b) c
+  pages_are : (q : ℕ) → changed.pages q → (q ≡ p) ⊎ (q ≡ row.first_iam)
+  pages_are q c = ⊎_elim (λ a. absurd (⊎_elim (λ x. x) (λ b. ⊎_elim (λ x. x) (λ x. x) b) a)) (λ b. b) c
 
   first : IsChainPage g image row zero
   first = frees.holds.0.1
@@ -62,15 +63,17 @@ module _ (g : Geometry) (image image' : Image) (row : CatalogRow) (p : ℕ) (sta
   on_chain P same here k is = ⊎_elim
       (λ at. subst (λ q. P (page image q) (page image' q)) (sym at) here)
       (λ other. subst (P (page image (pointer image row k))) (sym (unchanged g image image' row changed k start frees.object frees.most is
-      (λ c. other (page_is (pointer image row k) c)))) (same (page image (pointer image row k)))) (cases_eq (pointer image row k) row.first_iam)
+      (λ c. ⊎_elim (slot_apart g image row frees.slot p k start frees.object frees.holds is) other (pages_are (pointer image row k) c)))) (same (page image (pointer image row k)))) (cases_eq (pointer image row k) row.first_iam)
 
   step : StepsInChain g image image' row changed
   step = record {
     object = frees.object;
     most = frees.most;
-    ordinary = λ q c. subst (λ r. is_ordinary g r ≡ true) (sym (page_is q c)) (held g image row zero start frees.object first).ordinary;
-    pages = λ q c. inl (subst (Owns g image row) (sym (page_is q c)) (chain_owns g image row zero first));
-    bytes = λ q c. inl (subst (Owns g image row) (sym (⊎_elim (λ a. ⊎_elim (λ x. absurd x) (λ b. ⊎_elim (λ x. absurd x) (λ same. same) b) a) (λ b. absurd b) c)) (inl (frees.slot, inl frees.holds)));
+    ordinary = λ q c. ⊎_elim (λ same. subst (λ r. is_ordinary g r ≡ true) (sym same) frees.ordinary)
+        (λ same. subst (λ r. is_ordinary g r ≡ true) (sym same) (held g image row zero start frees.object first).ordinary) (pages_are q c);
+    pages = λ q c. ⊎_elim (λ same. inl (subst (Owns g image row) (sym same) (inl (frees.slot, inl frees.holds))))
+        (λ same. inl (subst (Owns g image row) (sym same) (chain_owns g image row zero first))) (pages_are q c);
+    bytes = λ q c. inl (subst (Owns g image row) (sym (⊎_elim (λ a. ⊎_elim (λ x. absurd x) (λ b. ⊎_elim (λ x. absurd x) (λ same. same) b) a) (λ b. absurd (⊎_elim (λ x. x) (λ x. x) b)) c)) (inl (frees.slot, inl frees.holds)));
     links = on_chain SameLinks same_links frees.out.links;
   }
 

@@ -1,7 +1,7 @@
 pub mod Owners
 pub mod OneObject
 pub mod InChain
-pub mod MarkedPages
+pub mod OwnPages
 pub mod FilledSlots
 pub mod FreedSlots
 pub mod MarkedExtents

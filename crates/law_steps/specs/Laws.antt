@@ -6,7 +6,7 @@ use Rattle.spec_file.specs.CatalogRows.{CatalogRow}
 use Rattle.spec_file.specs.Places.{HasShape, is_free, extent_count}
 use Rattle.spec_clean.specs.CleanFiles.{HasCleanMaps}
 use Rattle.spec_steps.specs.Acts.{StaysClean}
-use Rattle.spec_steps.specs.Taking.{IsTakeable, PutsIntoSlot, ChangesMarkedPage, MarksExtent, GrowsChain}
+use Rattle.spec_steps.specs.Taking.{IsTakeable, PutsIntoSlot, ChangesSinglePage, ChangesMarkedPage, MarksExtent, GrowsChain}
 use Rattle.spec_steps.specs.Freeing.{FreesSingle, FreesLast}
 
 -- the first page of a free extent can be taken as a single page
@@ -18,6 +18,11 @@ FreeIsTakeable = (g : Geometry) (image : Image) (e : ℕ) → HasShape g (length
 abbrev pub SlotStaysClean : Type 0
 SlotStaysClean = (g : Geometry) (image image' : Image) (row : CatalogRow) (slot p : ℕ) → HasShape g (length image) → HasCleanMaps g image
     → PutsIntoSlot g image image' row slot p → StaysClean g image image' row.id
+
+-- a page in a slot is filled
+abbrev pub SinglePageStaysClean : Type 0
+SinglePageStaysClean = (g : Geometry) (image image' : Image) (row : CatalogRow) (p : ℕ) → HasShape g (length image) → HasCleanMaps g image
+    → ChangesSinglePage g image image' row p → StaysClean g image image' row.id
 
 -- a page of a marked extent is taken, freed or filled
 abbrev pub MarkedPageStaysClean : Type 0

@@ -1,19 +1,24 @@
 //! Laws of the steps of allocation: each is on its object alone, and leaves clean maps and chains clean.
 #![tactic(auto)]
 
-ghost use Rattle.law_steps.specs.Laws.{FreeIsTakeable, SlotStaysClean, MarkedPageStaysClean, MarkStaysClean, GrowthStaysClean, FreedSingleStaysClean, FreedLastStaysClean};
+ghost use Rattle.law_steps.specs.Laws.{FreeIsTakeable, SlotStaysClean, SinglePageStaysClean, MarkedPageStaysClean, MarkStaysClean, GrowthStaysClean, FreedSingleStaysClean, FreedLastStaysClean};
 
-/// A free extent has a page to take, and pages that are taken leave clean maps clean: a single page for a slot or for the chain, a page of an extent that is
-/// marked, and one of an extent that gets its mark.
+/// The first page of a free extent can be taken as a single page. Where a single page is put into a slot, an extent is
+/// marked or a chain grows, clean maps stay clean.
 pub fn taking_laws()
     ensures free { FreeIsTakeable }
     ensures slot { SlotStaysClean }
-    ensures marked { MarkedPageStaysClean }
     ensures mark { MarkStaysClean }
     ensures growth { GrowthStaysClean }
 {}
 
-/// So do pages that are freed: a single page, and the last of a marked extent.
+/// So do they where a page in a slot is filled, or a page of a marked extent is taken, freed or filled.
+pub fn page_laws()
+    ensures single { SinglePageStaysClean }
+    ensures marked { MarkedPageStaysClean }
+{}
+
+/// And so where a single page, or the last page of a marked extent, is freed.
 pub fn freeing_laws()
     ensures single { FreedSingleStaysClean }
     ensures last { FreedLastStaysClean }

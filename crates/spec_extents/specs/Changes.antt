@@ -28,6 +28,18 @@ pub record TakesSingle (g : Geometry) (e p : ℕ) (u : Use) (old new : Extent) :
   pub uses : (q : ℕ) → q / 8 ≡ e → (v : Use) → new.uses q v ↔ (old.uses q v ⊎ ((q ≡ p) × (v ≡ u)))
   pub marks : (o : ℕ) → new.marks o → old.marks o
 
+-- page p, which has the use u, gets another byte that fits it: it is filled
+pub record FillsSingle (g : Geometry) (e p : ℕ) (u : Use) (old new : Extent) : Type 0 where
+  pub from : old.uses p u
+  pub at : p / 8 ≡ e
+  pub ordinary : IsTrue (is_ordinary g p)
+  pub free : new.free ≡ old.free
+  pub mixed : new.mixed ≡ old.mixed
+  pub byte : FitsUse (new.byte p) u.place
+  pub bytes : (q : ℕ) → q / 8 ≡ e → q ≢ p → new.byte q ≡ old.byte q
+  pub uses : (q : ℕ) → q / 8 ≡ e → (v : Use) → new.uses q v ↔ old.uses q v
+  pub marks : (o : ℕ) → new.marks o ↔ old.marks o
+
 -- page p of a marked extent gets another byte: it is taken, freed or filled
 pub record ChangesByte (g : Geometry) (e p : ℕ) (old new : Extent) : Type 0 where
   pub from : IsMarked old

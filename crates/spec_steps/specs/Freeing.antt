@@ -27,7 +27,7 @@ pub record FreesSingle (g : Geometry) (image image' : Image) (row : CatalogRow) 
   pub slot : ℕ
   pub holds : HoldsPage g image row slot p
   pub ordinary : IsTrue (is_ordinary g p)
-  pub most : AtMost g (either (maps_of p) (page_of row.first_iam)) image image'
+  pub most : AtMost g (either (maps_of p) (either (page_of p) (page_of row.first_iam))) image image'
   pub byte : pfs_byte g image' p ≡ 0
   pub maps : IsFreedShared g image' (p / 8)
   pub out : IsOutOfSlots p (page image row.first_iam) (page image' row.first_iam)
@@ -42,7 +42,7 @@ pub record FreesLast (g : Geometry) (image image' : Image) (row : CatalogRow) (p
   pub inside : p < length image
   pub ordinary : IsTrue (is_ordinary g p)
   pub marked : IsMarked g image row (p / 8)
-  pub most : AtMost g (either (free_bit (p / 8)) (either (byte_of p) (chain_pages g image row))) image image'
+  pub most : AtMost g (either (free_bit (p / 8)) (either (byte_of p) (either (page_of p) (chain_pages g image row)))) image image'
   pub byte : pfs_byte g image' p ≡ 0
   pub last : HasAllocated g image' (p / 8) → ⊥
   pub free : is_free g image' (p / 8) ≡ true

@@ -10,7 +10,7 @@ use Rattle.spec_file.specs.CatalogRows.{CatalogRow}
 use Rattle.spec_file.specs.Iam.{single_slot_count, iam_interval, iam_slot}
 use Rattle.spec_chain.specs.Chains.{IsObject, pointer, IsChainPage, HasLength}
 use Rattle.spec_chain.specs.Marks.{IsMarked}
-use Rattle.spec_chain.specs.Uses.{pfs_byte, is_allocated}
+use Rattle.spec_chain.specs.Uses.{HoldsPage, pfs_byte, is_allocated}
 use Rattle.spec_extents.specs.Extents.{Fits, FitsMark}
 use Rattle.spec_steps.specs.AtMost.{AtMost, free_bit, byte_of, page_of, either, maps_of}
 use Rattle.spec_steps.specs.IamPages.{IsSlotSet, IsMarkSet, IsNextSet, IsLastIam}
@@ -43,6 +43,15 @@ pub record PutsIntoSlot (g : Geometry) (image image' : Image) (row : CatalogRow)
   pub most : AtMost g (either (maps_of p) (either (page_of p) (page_of row.first_iam))) image image'
   pub taken : IsTakenAs g image' p Single
   pub put : IsSlotSet slot p (page image row.first_iam) (page image' row.first_iam)
+
+-- a page in a slot of the object is filled: only its PFS byte and its own bytes change
+pub record ChangesSinglePage (g : Geometry) (image image' : Image) (row : CatalogRow) (p : ℕ) : Type 0 where
+  pub object : IsObject image row
+  pub slot : ℕ
+  pub holds : HoldsPage g image row slot p
+  pub ordinary : IsTrue (is_ordinary g p)
+  pub most : AtMost g (either (byte_of p) (page_of p)) image image'
+  pub byte : Fits (pfs_byte g image' p) Single
 
 -- a page of an extent that the object marks is taken, freed or filled: only its PFS byte and its own bytes change
 pub record ChangesMarkedPage (g : Geometry) (image image' : Image) (row : CatalogRow) (p : ℕ) : Type 0 where

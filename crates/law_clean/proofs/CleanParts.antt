@@ -87,8 +87,10 @@ module _ (g : Geometry) (image : Image) (shape : HasShape g (length image)) wher
       used = λ p place ordinary is.
           ((goods (p / 8) (below p (used_inside g image row p place is))).pages p refl).used ordinary (record { object = row.id; place = place }) (row, object, refl, is);
       marked = λ p inside ordinary is. ((goods (p / 8) (below p inside)).pages p refl).marked ordinary (row.id, (row, object, refl, is));
-      pages = λ p x allocated is. none x (inr (sound_from, inr (inl (record { row = row; number = p; object = object; allocated = allocated; is = is }))));
-      tree = tree_in g image row boot_inside sound_from object (λ x error_. none x (inr (sound_from, inr (inr error_))));
+      pages = record {
+        alone = λ p x allocated is. none x (inr (sound_from, inr (inl (record { row = row; number = p; object = object; allocated = allocated; is = is }))));
+        tree = tree_in g image row boot_inside sound_from object (λ x error_. none x (inr (sound_from, inr (inr error_))));
+      };
     }
 
     pub clean_from : IsClean g image
@@ -110,8 +112,8 @@ module _ (g : Geometry) (image : Image) (shape : HasShape g (length image)) wher
     no_error x (inl (p, inside, wrong, _)) = clean Catalog p inside wrong
     no_error x (inr (sound, inl (inl (row, object, error_)))) = (clean_table row object).chain x error_
     no_error x (inr (sound, inl (inr stands))) = no_error_from g image shape.whole clean_goods x stands
-    no_error x (inr (sound, inr (inl error_))) = (clean_table error_.row error_.object).pages error_.number x error_.allocated error_.is
-    no_error x (inr (sound, inr (inr error_))) = trees_from g image boot_inside sound (λ row object. (clean_table row object).tree) x error_
+    no_error x (inr (sound, inr (inl error_))) = (clean_table error_.row error_.object).pages.alone error_.number x error_.allocated error_.is
+    no_error x (inr (sound, inr (inr error_))) = trees_from g image boot_inside sound (λ row object. (clean_table row object).pages.tree) x error_
 
     pub clean_maps : HasCleanMaps g image
     clean_maps = record { system = clean Catalog; none = λ x error_. no_error x (inr (clean Catalog, inl error_)) }

@@ -29,7 +29,7 @@ next_is_seen g image row p clean clustered seen some unseen =
       table = own_table g image row clustered;
       link = record { known = record { head = head; known = record { number = p; seen = seen; is = refl }; is = refl }; object = refl; next = refl };
     })
-    some (not_seen g image row head.next.0 unseen) (λ x stands. clean.tree x (head.next.0, stands))
+    some (not_seen g image row head.next.0 unseen) (λ x stands. clean.pages.tree x (head.next.0, stands))
 
 pub child_is_seen : ChildIsSeen
 child_is_seen g image row p slot clean clustered seen there unseen =
@@ -40,4 +40,4 @@ child_is_seen g image row p slot clean clustered seen there unseen =
       table = own_table g image row clustered;
       row = record { known = record { number = p; slot = slot; seen = seen; stands = there; is = refl }; object = refl; child = refl };
     })
-    (not_seen g image row index.child.0 unseen) (λ x stands. clean.tree x (index.child.0, stands))
+    (not_seen g image row index.child.0 unseen) (λ x stands. clean.pages.tree x (index.child.0, stands))

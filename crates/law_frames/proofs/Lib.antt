@@ -2,3 +2,4 @@ pub mod SameChain
 pub mod ChainRules
 pub mod Held
 pub mod OtherObjects
+pub mod WholeFiles

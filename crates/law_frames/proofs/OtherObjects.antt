@@ -174,8 +174,10 @@ others_stay_clean g image image' o row acts object other clean =
           let old = (marks (p / 8)).0 is in
           let low = subst (λ n. p < n) acts.size inside in
           subst FitsMark (sym (acts.bytes row p object other (inr old) low)) (clean.marked p low ordinary old);
-      pages = λ p x allocated is.
-          let old = (same_allocated g image image' o row acts object other clean.chain p).0 allocated in
-          clean.pages p x old ((same_errors g image image' o row acts object other clean.chain p x old).0 is);
-      tree = λ x error_. clean.tree x (error_.0, same_trees g image image' o row acts object other clean.chain x error_.0 error_.1);
+      pages = record {
+        alone = λ p x allocated is.
+            let old = (same_allocated g image image' o row acts object other clean.chain p).0 allocated in
+            clean.pages.alone p x old ((same_errors g image image' o row acts object other clean.chain p x old).0 is);
+        tree = λ x error_. clean.pages.tree x (error_.0, same_trees g image image' o row acts object other clean.chain x error_.0 error_.1);
+      };
     }

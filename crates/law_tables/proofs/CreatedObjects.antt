@@ -12,7 +12,7 @@ use Rattle.spec_file.specs.Roles.{is_ordinary}
 use Rattle.spec_chain.specs.Chains.{IsObject}
 use Rattle.spec_chain.specs.Marks.{IsMarker, IsMarked}
 use Rattle.spec_chain.specs.Uses.{Use, IsUse, IsUseBy, IsAllocatedTo}
-use Rattle.spec_clean.specs.CleanTables.{IsCleanTable}
+use Rattle.spec_clean.specs.CleanTables.{HasCleanPages}
 use Rattle.spec_clean.specs.CleanFiles.{IsClean}
 use Rattle.spec_clean.specs.KnownOfObject.{known_of_object}
 use Rattle.spec_steps.specs.AtMost.{Changed, page_of, either, maps_of}
@@ -20,16 +20,14 @@ use Rattle.spec_steps.specs.Acts.{Owns, Acts, StaysClean}
 use Rattle.spec_steps.specs.Tables.{CreatesObject}
 use Rattle.law_words.proofs.MapPages.{boot_not, differs}
 use Rattle.law_clean.proofs.ObjectTrees.{table_of}
-use Rattle.law_clean.proofs.CleanParts.{clean_table}
 use Rattle.law_frames.proofs.ChainRules.{HasCleanChain}
 use Rattle.law_frames.proofs.Held.{IsStart, goods}
-use Rattle.law_frames.proofs.OtherObjects.{others_stay_clean}
 use Rattle.law_steps.proofs.Owners.{NobodyOwns, takeable_is_nobodys}
 use Rattle.law_steps.proofs.OneObject.{IsNotOthers, HasNoMaps, TakesOne, acts_from, other_uses, other_marks, clean_after, single_maps, single_bytes, taken_extents}
 use Rattle.law_steps.proofs.FilledSlots.{use_is}
 use Rattle.law_tables.proofs.Entries.{GainsRow, gains}
 use Rattle.law_tables.proofs.OnePageChains.{one_page, new_chain, new_use, new_unmarked, has_none}
-use Rattle.law_tables.proofs.WholeFiles.{after, file_clean, maps_table}
+use Rattle.law_frames.proofs.WholeFiles.{file_stays_clean}
 
 module _ (g : Geometry) (image image' : Image) (row : CatalogRow) (p : ℕ) (start : IsStart g image) (creates : CreatesObject g image image' row p) where
   abbrev rest : Changed
@@ -121,16 +119,13 @@ module _ (g : Geometry) (image image' : Image) (row : CatalogRow) (p : ℕ) (sta
   }
 
   -- a heap has no page, and no tree
-  own_table : row.kind ≡ Heap → (r : CatalogRow) → IsObject image' r → r.id ≡ row.id → IsCleanTable g image' r
-  own_table heap r object same =
-      let is = entry.only r object same in
-      maps_table g image' r (after g image image' start creates.most.size create_maps.maps) object
-      (λ q x allocated error_. has_none g image' row p creates.first inside' creates.takeable.ordinary creates.new q (subst (λ s. IsAllocatedTo g image' s q) is allocated))
-      (λ x error_. let t = (table_of (known_of_object g image' r) error_.0 x error_.1).table in
-      let clustered : is_clustered Heap ≡ true = subst (λ kind. is_clustered kind ≡ true) (ap (λ (s : CatalogRow). s.kind) is ∙ heap) t.known.clustered in cc)
+  own_pages : row.kind ≡ Heap → (r : CatalogRow) → IsObject image' r → r.id ≡ row.id → HasCleanPages g image' r
+  own_pages heap r object same =
+      let is = entry.only r object same in record {
+        alone = λ q x allocated error_. has_none g image' row p creates.first inside' creates.takeable.ordinary creates.new q (subst (λ s. IsAllocatedTo g image' s q) is allocated);
+        tree = λ x error_. let t = (table_of (known_of_object g image' r) error_.0 x error_.1).table in
+            let clustered : is_clustered Heap ≡ true = subst (λ kind. is_clustered kind ≡ true) (ap (λ (s : CatalogRow). s.kind) is ∙ heap) t.known.clustered in cc;
+      }
 
   pub create_clean : IsClean g image → row.kind ≡ Heap → IsClean g image'
-  create_clean clean heap = file_clean g image' (after g image image' start creates.most.size create_maps.maps) (λ r object. ⊎_elim
-      (λ same. own_table heap r object same)
-      (λ other. let old = (entry.rows r other).0 object in
-      others_stay_clean g image image' row.id r create_acts old other (clean_table g image start.shape clean r old)) (cases_eq r.id row.id))
+  create_clean clean heap = file_stays_clean g image image' row.id start.shape clean create_maps (own_pages heap)

@@ -20,14 +20,12 @@ use Rattle.law_extents.proofs.Listed.{decided}
 use Rattle.law_extents.proofs.Locality.{unused_zero}
 use Rattle.law_extents.proofs.GoodKinds.{owned_kind}
 use Rattle.law_extents.proofs.GoodChanges.{stable, same_good, extent_freed, singles_freed}
-use Rattle.law_clean.proofs.CleanParts.{clean_table}
 use Rattle.law_frames.proofs.Held.{IsStart, goods, held, sound_catalog, the_row}
-use Rattle.law_frames.proofs.OtherObjects.{others_stay_clean}
 use Rattle.law_steps.proofs.Owners.{one_owner}
 use Rattle.law_steps.proofs.OneObject.{IsNotOthers, acts_from, other_uses, other_marks, clean_after}
 use Rattle.law_steps.proofs.FreedSlots.{freed_bits}
 use Rattle.law_tables.proofs.Entries.{LosesRow, loses}
-use Rattle.law_tables.proofs.WholeFiles.{after, file_clean}
+use Rattle.law_frames.proofs.WholeFiles.{file_stays_clean}
 
 module _ (g : Geometry) (image image' : Image) (row : CatalogRow) (start : IsStart g image) (drops : DropsObject g image image' row) where
   abbrev changed : Changed
@@ -178,7 +176,4 @@ module _ (g : Geometry) (image image' : Image) (row : CatalogRow) (start : IsSta
   }
 
   pub drop_clean : IsClean g image → IsClean g image'
-  drop_clean clean = file_clean g image' (after g image image' start drops.most.size drop_maps.maps) (λ r there.
-      let other = entry.gone r there in
-      let old = (entry.rows r other).0 there in
-      others_stay_clean g image image' row.id r drop_acts old other (clean_table g image start.shape clean r old))
+  drop_clean clean = file_stays_clean g image image' row.id start.shape clean drop_maps (λ r there own. absurd (entry.gone r there own))

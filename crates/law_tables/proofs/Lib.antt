@@ -1,5 +1,4 @@
 pub mod Entries
 pub mod OnePageChains
-pub mod WholeFiles
 pub mod CreatedObjects
 pub mod DroppedObjects

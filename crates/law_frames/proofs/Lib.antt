@@ -3,3 +3,4 @@ pub mod ChainRules
 pub mod Held
 pub mod OtherObjects
 pub mod WholeFiles
+pub mod TwoSteps

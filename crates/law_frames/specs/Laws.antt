@@ -8,7 +8,7 @@ use Rattle.spec_chain.specs.Chains.{IsObject}
 use Rattle.spec_check.specs.declared.report.CheckError.{CheckError}
 use Rattle.spec_check.specs.Chains.{IsErrorOfChain}
 use Rattle.spec_clean.specs.CleanTables.{HasCleanPages, IsCleanTable}
-use Rattle.spec_clean.specs.CleanFiles.{IsClean}
+use Rattle.spec_clean.specs.CleanFiles.{HasCleanMaps, IsClean}
 use Rattle.spec_steps.specs.Acts.{Acts, IsKept, StaysClean}
 
 -- another object whose chain has no error keeps its chain, uses and marks, and its pages with what is wrong with them
@@ -21,7 +21,12 @@ abbrev pub OthersStayClean : Type 0
 OthersStayClean = (g : Geometry) (image image' : Image) (o : ℕ) (row : CatalogRow) → Acts g image image' o → IsObject image row → row.id ≢ o
     → IsCleanTable g image row → IsCleanTable g image' row
 
--- so a clean file stays clean where the step leaves maps and chains clean, and the pages of its own object
+-- two steps on one object, one after another, are a step on it, from clean maps on
+abbrev pub StepsAreOne : Type 0
+StepsAreOne = (g : Geometry) (image image' image'' : Image) (o : ℕ) → HasCleanMaps g image → StaysClean g image image' o
+    → StaysClean g image' image'' o → StaysClean g image image'' o
+
+-- a clean file stays clean where the step leaves maps and chains clean, and the pages of its own object
 abbrev pub FileStaysClean : Type 0
 FileStaysClean = (g : Geometry) (image image' : Image) (o : ℕ) → HasShape g (length image) → IsClean g image → StaysClean g image image' o
     → ((row : CatalogRow) → IsObject image' row → row.id ≡ o → HasCleanPages g image' row) → IsClean g image'

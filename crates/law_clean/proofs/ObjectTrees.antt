@@ -199,7 +199,12 @@ wrong_next K k l h some unseen none = none _ (StandsAt.NextNowhere (record {
   leads = h;
   some = some;
   unseen = unseen;
-  no_row = λ c is. wrong_child K k c (record { root = h.root; table = subst (λ o. IsTable K o h.root) (sym is.object) h.table; row = record { known = is.known; object = refl; child = is.child } }) unseen none;
+  no_row = λ c is. wrong_child K k c (record {
+    root = h.root;
+    table = subst (λ o. IsTable K o h.root)
+        (sym is.object) h.table;
+    row = record { known = is.known; object = refl; child = is.child };
+  }) unseen none;
   is = refl;
 }))
 

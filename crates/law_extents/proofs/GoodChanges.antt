@@ -87,7 +87,8 @@ single_taken g e p u x y good take =
     let is = open_from g e p u x y good take in
     let new : y.uses p u = (take.uses p take.at u).1 (inr (refl, refl)) in
     let uses_ = λ (q : ℕ) (at : q / 8 ≡ e) (v : Use) (a : y.uses q v). (take.uses q at v).0 a in
-    let only = λ (q : ℕ) (at : q / 8 ≡ e) (same : q ≡ p) (v : Use) (a : y.uses q v). let w : v ≡ u = ⊎_elim (λ old. absurd (is.no_use (v, subst (λ r. x.uses r v) same old))) (λ n. n.1) (uses_ q at v a) in w in
+    let only = λ (q : ℕ) (at : q / 8 ≡ e) (same : q ≡ p) (v : Use) (a : y.uses q v). let w : v ≡ u = ⊎_elim (λ old. absurd
+    (is.no_use (v, subst (λ r. x.uses r v) same old))) (λ n. n.1) (uses_ q at v a) in w in
     let old = λ (q : ℕ) (at : q / 8 ≡ e) (other : q ≢ p) (v : Use) (a : y.uses q v). let w : x.uses q v = ⊎_elim (λ o. o) (λ n. absurd (other n.0)) (uses_ q at v a) in w in
     shared_good g e y (record {
       free = take.free;

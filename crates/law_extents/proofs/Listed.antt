@@ -110,7 +110,8 @@ listed R o ties P (x ∷ xs) h = listed R o ties P xs (λ rest. decided (P x) (�
 -- a list with two members that differ begins with two
 pub has_two : {X : Type 0} (xs : List X) (a b : X) → Contains xs a → Contains xs b → (a ≡ b → ⊥) → (first second : X) × (rest : List X) × (xs ≡ first ∷ second ∷ rest)
 has_two [] a b at_a at_b differ = absurd (nothing_there a at_a)
-has_two (x ∷ []) a b at_a at_b differ = absurd (⊎_elim (λ here. ⊎_elim (λ too. differ (sym here ∙ too)) (λ no_. nothing_there b no_) (cons_cases x [] b at_b)) (λ no_. nothing_there a no_) (cons_cases x [] a at_a))
+has_two (x ∷ []) a b at_a at_b differ = absurd (⊎_elim (λ here. ⊎_elim (λ too. differ (sym here ∙ too)) (λ no_. nothing_there b no_) (cons_cases x [] b at_b))
+    (λ no_. nothing_there a no_) (cons_cases x [] a at_a))
 has_two (x ∷ y ∷ xs) a b at_a at_b differ = (x, y, xs, refl)
 
 -- the first two of a sorted list differ

@@ -63,7 +63,8 @@ one_holder g image row other k j start object object_ is is_ same =
     let a = held g image row k start object is in
     let b = held g image other j start object_ is_ in
     let inside = a.inside in
-    ap (λ (u : Use). u.object) (((goods g image start (q / 8) (extent_below g image q start inside)).pages q refl).one (record { object = row.id; place = single_slot_count }) (record { object = other.id; place = single_slot_count }) a.is_use
+    ap (λ (u : Use). u.object) (((goods g image start (q / 8) (extent_below g image q start inside)).pages q refl).one (record { object = row.id; place = single_slot_count })
+    (record { object = other.id; place = single_slot_count }) a.is_use
     (subst (λ r. IsUse g image r (record { object = other.id; place = single_slot_count })) (sym same) b.is_use))
 
 pub sound_catalog : (g : Geometry) (image : Image) → IsStart g image → (PassesCatalog (page image 9) → ⊥) → ⊥

@@ -106,7 +106,8 @@ in_chain_kept g image image' row p kept = (
   λ h. (h.0, (kept.pages h.0).1 h.1, at_page g image image' row kept h.0 h.1 ∙ h.2),
 )
 
-pub marks_kept : (g : Geometry) (image image' : Image) (row : CatalogRow) (e : ℕ) → SameChain g image image' row → OnChain g image image' row SameMarks → IsMarked g image' row e ↔ IsMarked g image row e
+pub marks_kept : (g : Geometry) (image image' : Image) (row : CatalogRow) (e : ℕ) → SameChain g image image' row → OnChain g image image' row SameMarks
+    → IsMarked g image' row e ↔ IsMarked g image row e
 marks_kept g image image' row e kept marks = (
   λ h. let is = (kept.pages h.0).0 h.1.0 in
       let q = at_page g image image' row kept h.0 is in (
@@ -132,7 +133,8 @@ pub slot_from : (g : Geometry) (image image' : Image) (row : CatalogRow) (i q : 
     → (i < single_slot_count) × IsChainPage g image row zero × (iam_slot (page image' (pointer image row zero)) i ≡ q)
 slot_from g image image' row i q kept slot = (slot.0, (kept.pages zero).0 slot.1, slot.2)
 
-pub slots_kept : (g : Geometry) (image image' : Image) (row : CatalogRow) (i p : ℕ) → SameChain g image image' row → OnChain g image image' row SameSlots → HoldsPage g image' row i p ↔ HoldsPage g image row i p
+pub slots_kept : (g : Geometry) (image image' : Image) (row : CatalogRow) (i p : ℕ) → SameChain g image image' row → OnChain g image image' row SameSlots
+    → HoldsPage g image' row i p ↔ HoldsPage g image row i p
 slots_kept g image image' row i p kept slots = (
   λ h. let is = (kept.pages zero).0 h.0.1 in ((h.0.0, is, sym (slots zero is i h.0.0) ∙ h.0.2), subst (λ n. IsTrue (is_inside n p)) kept.size h.1),
   λ h. ((h.0.0, (kept.pages zero).1 h.0.1, slots zero h.0.1 i h.0.0 ∙ h.0.2), subst (λ n. IsTrue (is_inside n p)) (sym kept.size) h.1),

@@ -87,7 +87,8 @@ module _ (g : Geometry) (image image' : Image) (row : CatalogRow) (p : ℕ) (sta
       let is = (kept.pages h.0).0 h.1.0 in
       let same = at_page g image image' row kept h.0 is in
       let interval = sym (kept.links h.0 is).interval ∙ ap (λ r. iam_interval (page image' r)) (sym same) ∙ h.1.1 in
-      both_ways (iam_mark (page image' (pointer image row h.0)) (e % interval_size g)) ((frees.cleared h.0 is).cleared interval) (ap (λ r. iam_mark (page image' r) (e % interval_size g)) (sym same) ∙ h.1.2)
+      both_ways (iam_mark (page image' (pointer image row h.0)) (e % interval_size g)) ((frees.cleared h.0 is).cleared interval) (ap
+      (λ r. iam_mark (page image' r) (e % interval_size g)) (sym same) ∙ h.1.2)
 
   marker_other : (f m : ℕ) → f ≢ e → IsMarker g image' f m ↔ IsMarker g image f m
   marker_other f m other = (
@@ -110,7 +111,8 @@ module _ (g : Geometry) (image image' : Image) (row : CatalogRow) (p : ℕ) (sta
       let mark : IsMarker g image e row.id = (row, frees.object, refl, frees.marked) in
       let owned = owned_kind g e (extent_of g image e) row.id good mark in
       let uses = same_uses g image image' row changed start step slots in
-      let mixed = λ (f : ℕ) (low : f < extent_count image). let w : is_mixed g image' f ≡ is_mixed g image f = frees.most.mixed f low (λ c. ⊎_elim (λ x. x) (λ a. ⊎_elim (λ x. x) (λ b. ⊎_elim (λ x. x) (λ x. x) b) a) c) in w in
+      let mixed = λ (f : ℕ) (low : f < extent_count image). let w : is_mixed g image' f ≡ is_mixed g image f = frees.most.mixed f low (λ c. ⊎_elim (λ x. x)
+      (λ a. ⊎_elim (λ x. x) (λ b. ⊎_elim (λ x. x) (λ x. x) b) a) c) in w in
       let bytes = λ (q : ℕ) (low : q < length image) (other : q ≢ p). let w : pfs_byte g image' q ≡ pfs_byte g image q = frees.most.bytes q low (λ c. other (byte_is q c)) in w in record {
         acts = acts g image image' row changed start step;
         maps = chain_keeps_clean g image image' row changed start step fewer_marks (same_slots_inside g image image' row slots)

@@ -63,7 +63,8 @@ module _ (g : Geometry) (image image' : Image) (row : CatalogRow) (p : ℕ) (sta
   on_chain P same here k is = ⊎_elim
       (λ at. subst (λ q. P (page image q) (page image' q)) (sym at) here)
       (λ other. subst (P (page image (pointer image row k))) (sym (unchanged g image image' row changed k start frees.object frees.most is
-      (λ c. ⊎_elim (slot_apart g image row frees.slot p k start frees.object frees.holds is) other (pages_are (pointer image row k) c)))) (same (page image (pointer image row k)))) (cases_eq (pointer image row k) row.first_iam)
+      (λ c. ⊎_elim (slot_apart g image row frees.slot p k start frees.object frees.holds is) other (pages_are
+      (pointer image row k) c)))) (same (page image (pointer image row k)))) (cases_eq (pointer image row k) row.first_iam)
 
   step : StepsInChain g image image' row changed
   step = record {
@@ -73,7 +74,8 @@ module _ (g : Geometry) (image image' : Image) (row : CatalogRow) (p : ℕ) (sta
         (λ same. subst (λ r. is_ordinary g r ≡ true) (sym same) (held g image row zero start frees.object first).ordinary) (pages_are q c);
     pages = λ q c. ⊎_elim (λ same. inl (subst (Owns g image row) (sym same) (inl (frees.slot, inl frees.holds))))
         (λ same. inl (subst (Owns g image row) (sym same) (chain_owns g image row zero first))) (pages_are q c);
-    bytes = λ q c. inl (subst (Owns g image row) (sym (⊎_elim (λ a. ⊎_elim (λ x. absurd x) (λ b. ⊎_elim (λ x. absurd x) (λ same. same) b) a) (λ b. absurd (⊎_elim (λ x. x) (λ x. x) b)) c)) (inl (frees.slot, inl frees.holds)));
+    bytes = λ q c. inl (subst (Owns g image row) (sym (⊎_elim (λ a. ⊎_elim (λ x. absurd x) (λ b. ⊎_elim (λ x. absurd x) (λ same. same) b) a)
+        (λ b. absurd (⊎_elim (λ x. x) (λ x. x) b)) c)) (inl (frees.slot, inl frees.holds)));
     links = on_chain SameLinks same_links frees.out.links;
   }
 

@@ -131,7 +131,8 @@ module _ (g : Geometry) (image image' : Image) (row : CatalogRow) (k e p : ℕ) 
 
   markers : (f m : ℕ) → IsMarker g image' f m ↔ (IsMarker g image f m ⊎ ((f ≡ e) × (m ≡ row.id)))
   markers f m = (
-    λ h. ⊎_elim (λ old. inl old.1) (λ own. ⊎_elim (λ old. inl (row, marks.object, sym own.0, old)) (λ new. inr (new, own.0)) (own_from f own.1)) (mark_from g image image' row changed start step f m h),
+    λ h. ⊎_elim (λ old. inl old.1) (λ own. ⊎_elim (λ old. inl (row, marks.object, sym own.0, old)) (λ new. inr (new, own.0))
+        (own_from f own.1)) (mark_from g image image' row changed start step f m h),
     λ h. ⊎_elim (λ old. mark_in g image image' row changed start step f m old (λ same m_. own_in f (inl m_)))
         (λ new. (row, onto g image image' row changed start step row marks.object, sym new.1, own_in f (inr new.0))) h,
   )
@@ -157,7 +158,8 @@ module _ (g : Geometry) (image image' : Image) (row : CatalogRow) (k e p : ℕ) 
   mark_clean =
       let good = goods g image start e marks.inside in
       let uses = same_uses g image image' row changed start step slots in
-      let mixed = λ (f : ℕ) (low : f < extent_count image). let w : is_mixed g image' f ≡ is_mixed g image f = marks.most.mixed f low (λ c. ⊎_elim (λ x. x) (λ a. ⊎_elim (λ x. x) (λ b. ⊎_elim (λ x. x) (λ x. x) b) a) c) in w in
+      let mixed = λ (f : ℕ) (low : f < extent_count image). let w : is_mixed g image' f ≡ is_mixed g image f = marks.most.mixed f low (λ c. ⊎_elim (λ x. x)
+      (λ a. ⊎_elim (λ x. x) (λ b. ⊎_elim (λ x. x) (λ x. x) b) a) c) in w in
       let bytes = λ (q : ℕ) (low : q < length image) (other : q ≢ p). let w : pfs_byte g image' q ≡ pfs_byte g image q = marks.most.bytes q low (λ c. other (bytes_are q c)) in w in record {
         acts = acts g image image' row changed start step;
         maps = chain_keeps_clean g image image' row changed start step inside_marks (same_slots_inside g image image' row slots)

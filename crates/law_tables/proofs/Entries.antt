@@ -43,7 +43,8 @@ from_before boot n r h =
 in_before : (boot : List ℕ) (n i : ℕ) → i < n → IsUsed boot i → Contains (rows_before boot n) (row_of_entry (entry_at boot i))
 in_before boot n i low used =
     map_in row_of_entry (filter is_used (map (entry_at boot) (range_with_len 0 n))) (entry_at boot i)
-    (filter_in is_used (map (entry_at boot) (range_with_len 0 n)) (entry_at boot i) (map_in (entry_at boot) (range_with_len 0 n) i (range_in n i low)) (not_from_false (is_zeros (entry_at boot i)) used))
+    (filter_in is_used (map (entry_at boot) (range_with_len 0 n)) (entry_at boot i) (map_in (entry_at boot) (range_with_len 0 n) i (range_in n i low))
+    (not_from_false (is_zeros (entry_at boot i)) used))
 
 pub stands_from : (boot : List ℕ) (r : CatalogRow) → Contains (rows_of boot) r → StandsIn boot r
 unfolding rows_of
@@ -102,7 +103,8 @@ module _ (j : ℕ) (entry old new : List ℕ) (adds : AddsEntry j entry old new)
   gains = record {
     passes = passes;
     rows = λ r other. (
-      λ h. let at = stands_from new r h in ⊎_elim (λ here. absurd (other (ap (λ (s : CatalogRow). s.id) (new_row r at here)))) (λ apart. stands_in old r (other_back j entry old new adds.set r at apart)) (cases_eq at.entry j),
+      λ h. let at = stands_from new r h in ⊎_elim (λ here. absurd (other (ap (λ (s : CatalogRow). s.id) (new_row r at here)))) (λ apart. stands_in old r
+          (other_back j entry old new adds.set r at apart)) (cases_eq at.entry j),
       λ h. let at = stands_from old r h in stands_in new r (other_on j entry old new adds.set r at (not_empty at.entry at.used)),
     );
     fresh = λ r h same. let at = stands_from old r h in adds.id at.entry at.inside at.used (ap (λ (s : CatalogRow). s.id) at.is ∙ same);
@@ -143,7 +145,8 @@ module _ (j : ℕ) (old new : List ℕ) (sound : (PassesCatalog old → ⊥) →
     passes = passes_less;
     rows = λ r other. (
       λ h. let at = stands_from new r h in stands_in old r (other_back j empties.zeros old new empties.set r at (gone_entry at.entry at.used)),
-      λ h. let at = stands_from old r h in stands_in new r (other_on j empties.zeros old new empties.set r at (λ here. other (ap (λ (s : CatalogRow). s.id) (sym at.is ∙ ap (λ i. row_of_entry (entry_at old i)) here)))),
+      λ h. let at = stands_from old r h in stands_in new r (other_on j empties.zeros old new empties.set r at
+          (λ here. other (ap (λ (s : CatalogRow). s.id) (sym at.is ∙ ap (λ i. row_of_entry (entry_at old i)) here)))),
     );
     was = stands_in old (row_of_entry (entry_at old j)) (record { entry = j; inside = empties.set.within; used = empties.was_used; is = refl });
     gone = λ r h same. let at = stands_from new r h in

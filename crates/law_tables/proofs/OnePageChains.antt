@@ -25,10 +25,16 @@ new_bytes g pages id p bytes some new =
     let interval : has_interval g pages (iam_interval bytes) ≡ true = lt-ltb _ pages (subst (λ m. 8 * interval_size g * m < pages) (sym new.interval) (omega (arith, some))) in
     rw (new.says, own, interval) refl
 
-module _ (g : Geometry) (image : Image) (row : CatalogRow) (p : ℕ) (first : row.first_iam ≡ p) (inside : p < length image) (ordinary : is_ordinary g p ≡ true) (new : IsOnlyIam row.id p (page image p)) where
+module _ (g : Geometry) (image : Image) (row : CatalogRow) (p : ℕ) (first : row.first_iam ≡ p) (inside : p < length image) (ordinary : is_ordinary g p ≡ true)
+    (new : IsOnlyIam row.id p (page image p)) where
   starts : GoesOn g image row zero
   starts =
-      let good : IsGood g image row p = record { inside = inside_from g p (length image) ordinary inside; ordinary = ordinary; bytes = new_bytes g (length image) row.id p (page image p) (omega (arith, inside)) new } in
+      let good : IsGood g image row p = record {
+        inside = inside_from g p (length image) ordinary inside;
+        ordinary = ordinary;
+        bytes = new_bytes g (length image) row.id p
+            (page image p) (omega (arith, inside)) new;
+      } in
       (good_fault g image row zero (subst (IsGood g image row) (sym first) good), λ met. let low = met.1 in omega (arith, low))
 
   second : pointer image row 1 ≡ 0

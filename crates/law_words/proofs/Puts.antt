@@ -67,7 +67,8 @@ bit_set old n v long low =
     let b = with_bit (slice_index old k) (n % 8) (bit_number v) in
     let at : slice_index (set old k b) k ≡ b = get_or-set_same old k b 0 (omega (arith, long, low)) in record {
       here = ap (λ w. bit_at w (n % 8) == 1) at
-          ∙ ap (λ w. w == 1) (bit_with (slice_index old k) (n % 8) (bit_number v) (n % 8) (small v) ∙ ap (λ c. if c then bit_number v else bit_at (slice_index old k) (n % 8)) (eq-eqb (n % 8) (n % 8) refl))
+          ∙ ap (λ w. w == 1) (bit_with (slice_index old k) (n % 8) (bit_number v) (n % 8) (small v) ∙ ap (λ c. if c then bit_number v else bit_at (slice_index old k) (n % 8))
+          (eq-eqb (n % 8) (n % 8) refl))
           ∙ is_bit v;
       others = λ m other. ⊎_elim
           (λ same. ap (λ i. bit_at (slice_index (set old k b) i) (m % 8) == 1) same ∙ ap (λ w. bit_at w (m % 8) == 1) at
@@ -95,7 +96,8 @@ one_byte old i b inside =
     ext_get_or 0 (with_bytes old i (b ∷ [])) (set old i b) (size ∙ sym (length-set old i b)) (λ k lt.
     let low : k < length old = subst (λ n. k < n) size lt in
     get_or-map-range_with_len (byte_with old i (b ∷ [])) 0 (length old) k k 0 low (omega arith) ∙ ⊎_elim
-    (λ here. if_in (leb i k && ltb k (i + 1)) (slice_index (b ∷ []) (k - i)) (slice_index old k) (and_from (leb i k) (ltb k (i + 1)) (le-leb i k (omega (arith, here))) (lt-ltb k (i + 1) (omega (arith, here))))
+    (λ here. if_in (leb i k && ltb k (i + 1)) (slice_index (b ∷ []) (k - i)) (slice_index old k) (and_from (leb i k) (ltb k (i + 1)) (le-leb i k (omega (arith, here)))
+    (lt-ltb k (i + 1) (omega (arith, here))))
     ∙ ap (λ j. slice_index (b ∷ []) j) (let z : k - i ≡ 0 = omega (arith, here) in z) ∙ sym (get_or-set_same old i b 0 inside) ∙ ap (λ j. get_or (set old i b) j 0) (sym here))
     (λ other. if_out (leb i k) (ltb k (i + 1)) (slice_index (b ∷ []) (k - i)) (slice_index old k)
     (λ a c. let x = leb-true i k a in let y = ltb-true k (i + 1) c in other (omega (arith, x, y))) ∙ sym (get_or-set_other old i k b 0 other))

@@ -43,7 +43,8 @@ not_map g q m (inl boot) other nine same = nine (sym same ∙ boot)
 not_map g q m (inr ordinary) other nine same = differs g q m ordinary other same
 
 -- what a system page says, where a map page is set that says the same
-says_after : (g : Geometry) (image : Image) (m q : ℕ) (new : List ℕ) → m < length image → SaysSame (page image m) new → (type : ℕ) → says type q (page (slice_set image m new) q) ≡ says type q (page image q)
+says_after : (g : Geometry) (image : Image) (m q : ℕ) (new : List ℕ) → m < length image → SaysSame (page image m) new → (type : ℕ)
+    → says type q (page (slice_set image m new) q) ≡ says type q (page image q)
 says_after g image m q new inside same type = ⊎_elim
     (λ here. subst (λ r. says type r (page (slice_set image m new) r) ≡ says type r (page image r)) (sym here) (ap (says type m) (set_page image m new inside) ∙ same type m))
     (λ other. ap (says type q) (other_page image m q new other)) (cases_eq q m)
@@ -67,8 +68,10 @@ module _ (g : Geometry) (image : Image) (shape : HasShape g (length image)) wher
               (ap (λ b. bit b (gam_place g f).at) (set_page image q sets.new there)
               ∙ sets.bit.others (gam_place g f).at (λ at. other ((places_apart g).gam f e (low_extent f low) (low_extent e inside) (place_is (gam_place g f) (gam_place g e) same at)))))
               (λ differ. ap (λ b. bit b (gam_place g f).at) (other_page image q (gam_place g f).page sets.new differ)) (cases_eq (gam_place g f).page q);
-          mixed = λ f low other. ap (λ b. bit b (sgam_place g f).at) (other_page image q (sgam_place g f).page sets.new (λ same. (places_apart g).gam_sgam e f (low_extent e inside) (low_extent f low) (sym same)));
-          bytes = λ p low other. ap (λ b. slice_index b (pfs_place g p).at) (other_page image q (pfs_place g p).page sets.new (λ same. (places_apart g).gam_pfs e p (low_extent e inside) (low_page p low) (sym same)));
+          mixed = λ f low other. ap (λ b. bit b (sgam_place g f).at) (other_page image q (sgam_place g f).page sets.new
+              (λ same. (places_apart g).gam_sgam e f (low_extent e inside) (low_extent f low) (sym same)));
+          bytes = λ p low other. ap (λ b. slice_index b (pfs_place g p).at) (other_page image q (pfs_place g p).page sets.new
+              (λ same. (places_apart g).gam_pfs e p (low_extent e inside) (low_page p low) (sym same)));
           pages = λ r data_ other. other_page image q r sets.new (not_map g r q data_ (gam_not g e) (gam_boot g e));
           system = λ r type low other is. says_after g image q r sets.new there sets.bit.header type;
         },
@@ -88,7 +91,8 @@ module _ (g : Geometry) (image : Image) (shape : HasShape g (length image)) wher
               (ap (λ b. bit b (sgam_place g f).at) (set_page image q sets.new there)
               ∙ sets.bit.others (sgam_place g f).at (λ at. other ((places_apart g).sgam f e (low_extent f low) (low_extent e inside) (place_is (sgam_place g f) (sgam_place g e) same at)))))
               (λ differ. ap (λ b. bit b (sgam_place g f).at) (other_page image q (sgam_place g f).page sets.new differ)) (cases_eq (sgam_place g f).page q);
-          bytes = λ p low other. ap (λ b. slice_index b (pfs_place g p).at) (other_page image q (pfs_place g p).page sets.new (λ same. (places_apart g).sgam_pfs e p (low_extent e inside) (low_page p low) (sym same)));
+          bytes = λ p low other. ap (λ b. slice_index b (pfs_place g p).at) (other_page image q (pfs_place g p).page sets.new
+              (λ same. (places_apart g).sgam_pfs e p (low_extent e inside) (low_page p low) (sym same)));
           pages = λ r data_ other. other_page image q r sets.new (not_map g r q data_ (sgam_not g e) (sgam_boot g e));
           system = λ r type low other is. says_after g image q r sets.new there sets.bit.header type;
         },
@@ -120,9 +124,12 @@ module _ (g : Geometry) (image : Image) (shape : HasShape g (length image)) wher
       subst (λ i. AtMost g (page_of q) image i × (page i q ≡ new)) (sym sets.is) (
         record {
           size = length-set image q new;
-          free = λ f low other. ap (λ b. bit b (gam_place g f).at) (other_page image q (gam_place g f).page new (λ same. not_map g q (gam_place g f).page data_ (gam_not g f) (gam_boot g f) (sym same)));
-          mixed = λ f low other. ap (λ b. bit b (sgam_place g f).at) (other_page image q (sgam_place g f).page new (λ same. not_map g q (sgam_place g f).page data_ (sgam_not g f) (sgam_boot g f) (sym same)));
-          bytes = λ p low other. ap (λ b. slice_index b (pfs_place g p).at) (other_page image q (pfs_place g p).page new (λ same. not_map g q (pfs_place g p).page data_ (pfs_not g p) (pfs_boot g p) (sym same)));
+          free = λ f low other. ap (λ b. bit b (gam_place g f).at) (other_page image q (gam_place g f).page new
+              (λ same. not_map g q (gam_place g f).page data_ (gam_not g f) (gam_boot g f) (sym same)));
+          mixed = λ f low other. ap (λ b. bit b (sgam_place g f).at) (other_page image q (sgam_place g f).page new
+              (λ same. not_map g q (sgam_place g f).page data_ (sgam_not g f) (sgam_boot g f) (sym same)));
+          bytes = λ p low other. ap (λ b. slice_index b (pfs_place g p).at) (other_page image q (pfs_place g p).page new
+              (λ same. not_map g q (pfs_place g p).page data_ (pfs_not g p) (pfs_boot g p) (sym same)));
           pages = λ r other_data other. other_page image q r new other;
           system = λ r type low other is. ap (says type r) (other_page image q r new other);
         },

@@ -1,3 +1,4 @@
 pub mod MapPages
 pub mod WordsAtMost
 pub mod Puts
+pub mod SingleWords

@@ -1,14 +1,15 @@
 -- The words that write: each changes at most its own place, and the cells that a log's changes put are such words.
-use Rattle.std.specs.Prelude.{◌≡◌, ℕ, ◌<◌, Bool, true, false, List, [], ◌∷◌, length}
+use Rattle.std.specs.Prelude.{◌≡◌, ◌≢◌, ℕ, ◌/◌, ◌<◌, Bool, true, false, IsTrue, List, [], ◌∷◌, length}
 use Rattle.spec_file.specs.declared.geometry.Geometry.{Geometry}
 use Rattle.spec_file.specs.Image.{Image, page}
 use Rattle.spec_file.specs.Places.{Place, is_free, is_mixed, gam_place, sgam_place, pfs_place, extent_count, HasShape}
+use Rattle.spec_file.specs.Roles.{is_ordinary}
 use Rattle.spec_chain.specs.Uses.{pfs_byte}
 use Rattle.spec_log.specs.declared.item.Cell.{Cell}
 use Rattle.spec_log.specs.declared.item.Cell.TheVariants.{Bytes, Bit}
 use Rattle.spec_log.specs.Cells.{HasWholePages, with_bytes, put}
-use Rattle.spec_steps.specs.AtMost.{IsWhole, AtMost, free_bit, mixed_bit, byte_of, page_of}
-use Rattle.spec_steps.specs.Words.{SetsFree, SetsMixed, SetsByte, SetsPage}
+use Rattle.spec_steps.specs.AtMost.{IsWhole, AtMost, free_bit, mixed_bit, byte_of, page_of, either, maps_of}
+use Rattle.spec_steps.specs.Words.{SetsFree, SetsMixed, SetsByte, SetsPage, Single, WritesSingle}
 
 -- in an image with a file's shape a GAM bit that is set changes at most that bit
 abbrev pub FreeChangesOne : Type 0
@@ -29,6 +30,21 @@ ByteChangesOne = (g : Geometry) (image image' : Image) (p value : ℕ) → HasSh
 abbrev pub PageChangesOne : Type 0
 PageChangesOne = (g : Geometry) (image image' : Image) (p : ℕ) (new : List ℕ) → HasShape g (length image) → p < length image → IsWhole g p
     → SetsPage p new image image' → AtMost g (page_of p) image image' × (page image' p ≡ new)
+
+-- what a step on a single page has written stands there, and nothing else changes
+pub record HasWritten (g : Geometry) (p q : ℕ) (single : Single) (image image' : Image) : Type 0 where
+  pub most : AtMost g (either (maps_of p) (either (page_of p) (page_of q))) image image'
+  pub free : is_free g image' (p / 8) ≡ single.free
+  pub mixed : is_mixed g image' (p / 8) ≡ single.mixed
+  pub byte : pfs_byte g image' p ≡ single.byte
+  pub own : page image' p ≡ single.own
+  pub other : page image' q ≡ single.other
+
+-- so words one after another change at most what either does
+abbrev pub WordsChangeTheirs : Type 0
+WordsChangeTheirs = (g : Geometry) (image image' : Image) (p q : ℕ) (single : Single) → HasShape g (length image)
+    → p < length image → IsTrue (is_ordinary g p) → q < length image → IsWhole g q → p ≢ q
+    → WritesSingle g p q single image image' → HasWritten g p q single image image'
 
 -- the cell of a bit, and that of a byte
 abbrev pub bit_cell : Place → Cell

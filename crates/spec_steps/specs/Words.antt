@@ -1,5 +1,5 @@
 -- The words that write: a bit of GAM or SGAM, a PFS byte, a page.
-use Rattle.std.specs.Prelude.{◌≡◌, ◌≢◌, ℕ, Bool, List, slice_index, slice_set}
+use Rattle.std.specs.Prelude.{◌≡◌, ◌≢◌, ℕ, ◌/◌, Bool, List, slice_index, slice_set}
 use Rattle.spec_file.specs.declared.geometry.Geometry.{Geometry}
 use Rattle.spec_file.specs.Image.{Image, page, bit}
 use Rattle.spec_file.specs.Header.{says}
@@ -42,3 +42,24 @@ pub record SetsByte (g : Geometry) (p value : ℕ) (image image' : Image) : Type
 -- a page is another one
 pub record SetsPage (p : ℕ) (new : List ℕ) (image image' : Image) : Type 0 where
   pub is : image' ≡ slice_set image p new
+
+-- what a step on a single page writes
+pub record Single : Type 0 where
+  pub free : Bool
+  pub mixed : Bool
+  pub byte : ℕ
+  pub own : List ℕ
+  pub other : List ℕ
+
+-- one word after another: the two bits of the extent of page p, its PFS byte, the page itself, and another page q, such
+-- as the IAM page that gets p or page 9
+pub record WritesSingle (g : Geometry) (p q : ℕ) (single : Single) (image image' : Image) : Type 0 where
+  pub after_free : Image
+  pub after_mixed : Image
+  pub after_byte : Image
+  pub after_own : Image
+  pub free : SetsFree g (p / 8) single.free image after_free
+  pub mixed : SetsMixed g (p / 8) single.mixed after_free after_mixed
+  pub byte : SetsByte g p single.byte after_mixed after_byte
+  pub own : SetsPage p single.own after_byte after_own
+  pub other : SetsPage q single.other after_own image'

@@ -94,8 +94,8 @@ module _ (g : Geometry) (image image' : Image) (row : CatalogRow) (slot p : ℕ)
   abbrev new_one : Use
   new_one = record { object = row.id; place = slot }
 
-  uses : (q : ℕ) (u : Use) → IsUse g image' q u ↔ (IsUse g image q u ⊎ ((q ≡ p) × (u ≡ new_one)))
-  uses q u = (
+  pub slot_uses : (q : ℕ) (u : Use) → IsUse g image' q u ↔ (IsUse g image q u ⊎ ((q ≡ p) × (u ≡ new_one)))
+  slot_uses q u = (
     λ h. ⊎_elim (λ old. inl old.1)
         (λ mine. ⊎_elim (λ old. inl (row, puts.object, sym mine.0, old)) (λ new. inr (new.0, use_is u row.id slot mine.0 new.1)) (own_from q u.place mine.1))
         (use_from g image image' row changed start step q u h),
@@ -123,7 +123,7 @@ module _ (g : Geometry) (image image' : Image) (row : CatalogRow) (slot p : ℕ)
           free = puts.taken.free;
           byte = record { kind = Single; is = inl (puts.within, refl); fits = puts.taken.byte };
           bytes = single_bytes g image image' p rest no_maps puts.most;
-          uses = uses;
+          uses = slot_uses;
           marks = same_markers g image image' row changed start step marks;
         }));
   }

@@ -10,7 +10,7 @@ use Rattle.spec_file.specs.Pfs.{is_allocated_byte}
 use Rattle.spec_file.specs.Roles.{is_ordinary}
 use Rattle.spec_chain.specs.Chains.{pointer, IsChainPage, IsInChain}
 use Rattle.spec_chain.specs.Marks.{IsMarker, IsMarked}
-use Rattle.spec_chain.specs.Uses.{pfs_byte, is_allocated}
+use Rattle.spec_chain.specs.Uses.{Use, IsUse, pfs_byte, is_allocated}
 use Rattle.spec_extents.specs.Extents.{extent_of}
 use Rattle.spec_steps.specs.AtMost.{Changed, free_bit, byte_of, page_of, either}
 use Rattle.spec_steps.specs.Acts.{Owns}
@@ -104,6 +104,9 @@ module _ (g : Geometry) (image image' : Image) (row : CatalogRow) (p : ℕ) (sta
         (λ other. inl (sym ((frees.cleared j is).others n (λ both. other both.0)) ∙ mark))
         (cases_eq (iam_interval (page image (pointer image row j))) (e / interval_size g));
   }
+
+  pub freed_last_uses : (q : ℕ) (u : Use) → IsUse g image' q u → IsUse g image q u
+  freed_last_uses q u = (same_uses g image image' row changed start step slots q u).0
 
   pub freed_last_clean : StaysClean g image image' row.id
   freed_last_clean =

@@ -113,7 +113,7 @@ module _ (g : Geometry) (image image' : Image) (row : CatalogRow) (p : ℕ) (sta
       inl ((holds.0.0, (kept.pages zero).1 holds.0.1, frees.out.others place holds.0.0 (λ same. other (sym holds.0.2 ∙ same)) ∙ holds.0.2), subst (λ n. IsTrue (is_inside n q)) (sym kept.size) holds.1)
   own_in q place other (inr chain) = inr (chain.0, (in_chain_kept g image image' row q kept).1 chain.1)
 
-  uses_left : (q : ℕ) (u : Use) → IsUse g image' q u ↔ (IsUse g image q u × (q ≢ p))
+  pub uses_left : (q : ℕ) (u : Use) → IsUse g image' q u ↔ (IsUse g image q u × (q ≢ p))
   uses_left q u = (
     λ h. ⊎_elim
         (λ old. (old.1, λ same. old.0 (ap (λ (w : Use). w.object) (one_use u (subst (λ r. IsUse g image r u) same old.1)))))

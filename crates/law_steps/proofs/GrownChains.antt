@@ -287,8 +287,8 @@ module _ (g : Geometry) (image image' : Image) (row : CatalogRow) (j p : ℕ) (s
   abbrev new_one : Use
   new_one = record { object = row.id; place = single_slot_count }
 
-  use_from : (q : ℕ) (v : Use) → IsUse g image' q v → IsUse g image q v ⊎ ((q ≡ p) × (v ≡ new_one))
-  use_from q v h = ⊎_elim
+  pub growth_uses : (q : ℕ) (v : Use) → IsUse g image' q v → IsUse g image q v ⊎ ((q ≡ p) × (v ≡ new_one))
+  growth_uses q v h = ⊎_elim
       (λ own. ⊎_elim (λ old. inl (row, grows.object, sym own, old))
       (λ new. inr (new.0, ap (λ n. let w : Use = record { object = n; place = v.place } in w) own ∙ ap (λ n. let w : Use = record { object = row.id; place = n } in w) new.1))
       (own_from q v.place (subst (λ r. IsUseBy g image' q r v.place) (own_row h.0 (back h.0 h.1) (h.2 ∙ own)) h.3)))
@@ -310,7 +310,7 @@ module _ (g : Geometry) (image image' : Image) (row : CatalogRow) (j p : ℕ) (s
     free = grows.taken.free;
     byte = record { kind = Iam; is = inr (refl, refl); fits = grows.taken.byte };
     bytes = single_bytes g image image' p rest no_maps grows.most;
-    uses = λ q v. (use_from q v, use_in q v);
+    uses = λ q v. (growth_uses q v, use_in q v);
     marks = λ e m. (
       λ h. ⊎_elim (λ own. (row, grows.object, sym own, (own_marks e).0 (subst (λ r. IsMarked g image' r e) (own_row h.0 (back h.0 h.1) (h.2 ∙ own)) h.3)))
           (λ other. (other_marks g image image' row.id start step_acts e m other).0 h) (cases_eq m row.id),

@@ -7,3 +7,4 @@ pub mod FreedSlots
 pub mod MarkedExtents
 pub mod FreedExtents
 pub mod GrownChains
+pub mod ExactSgam

@@ -10,7 +10,7 @@ use Rattle.spec_file.specs.Places.{interval_size, extent_count, is_free, is_mixe
 use Rattle.spec_file.specs.Roles.{is_ordinary}
 use Rattle.spec_chain.specs.Chains.{pointer, IsChainPage}
 use Rattle.spec_chain.specs.Marks.{IsMarker, IsMarked}
-use Rattle.spec_chain.specs.Uses.{pfs_byte}
+use Rattle.spec_chain.specs.Uses.{Use, IsUse, pfs_byte}
 use Rattle.spec_extents.specs.Extents.{extent_of}
 use Rattle.spec_steps.specs.AtMost.{Changed, free_bit, byte_of, page_of, either}
 use Rattle.spec_steps.specs.Acts.{Owns}
@@ -129,7 +129,7 @@ module _ (g : Geometry) (image image' : Image) (row : CatalogRow) (k e p : ℕ) 
         ),
       )
 
-  markers : (f m : ℕ) → IsMarker g image' f m ↔ (IsMarker g image f m ⊎ ((f ≡ e) × (m ≡ row.id)))
+  pub markers : (f m : ℕ) → IsMarker g image' f m ↔ (IsMarker g image f m ⊎ ((f ≡ e) × (m ≡ row.id)))
   markers f m = (
     λ h. ⊎_elim (λ old. inl old.1) (λ own. ⊎_elim (λ old. inl (row, marks.object, sym own.0, old)) (λ new. inr (new, own.0))
         (own_from f own.1)) (mark_from g image image' row changed start step f m h),
@@ -153,6 +153,9 @@ module _ (g : Geometry) (image image' : Image) (row : CatalogRow) (k e p : ℕ) 
 
   slots : OnChain g image image' row SameSlots
   slots = on_chain SameSlots (λ b i low. refl) marks.mark.slots
+
+  pub mark_uses : (q : ℕ) (u : Use) → IsUse g image' q u → IsUse g image q u
+  mark_uses q u = (same_uses g image image' row changed start step slots q u).0
 
   pub mark_clean : StaysClean g image image' row.id
   mark_clean =

@@ -43,13 +43,13 @@ slot_apart g image row slot p k start object holds is same =
     let low = holds.0.0 in omega (arith, place, low)
 
 -- a page that isn't one of the chain changes, and its PFS byte
-record ChangesOwn (g : Geometry) (image image' : Image) (row : CatalogRow) (p : ℕ) : Type 0 where
-  object : IsObject image row
-  inside : p < length image
-  ordinary : is_ordinary g p ≡ true
-  owns : Owns g image row p
-  apart : (k : ℕ) → IsChainPage g image row k → pointer image row k ≢ p
-  most : AtMost g (either (byte_of p) (page_of p)) image image'
+pub record ChangesOwn (g : Geometry) (image image' : Image) (row : CatalogRow) (p : ℕ) : Type 0 where
+  pub object : IsObject image row
+  pub inside : p < length image
+  pub ordinary : is_ordinary g p ≡ true
+  pub owns : Owns g image row p
+  pub apart : (k : ℕ) → IsChainPage g image row k → pointer image row k ≢ p
+  pub most : AtMost g (either (byte_of p) (page_of p)) image image'
 
 module _ (g : Geometry) (image image' : Image) (row : CatalogRow) (p : ℕ) (start : IsStart g image) (sets : ChangesOwn g image image' row p) where
   abbrev changed : Changed
@@ -75,19 +75,19 @@ module _ (g : Geometry) (image image' : Image) (row : CatalogRow) (p : ℕ) (sta
   same_free : (f : ℕ) → f < extent_count image → is_free g image' f ≡ is_free g image f
   same_free f low = sets.most.free f low (λ c. ⊎_elim (λ x. x) (λ x. x) c)
 
-  same_mixed : (f : ℕ) → f < extent_count image → is_mixed g image' f ≡ is_mixed g image f
+  pub same_mixed : (f : ℕ) → f < extent_count image → is_mixed g image' f ≡ is_mixed g image f
   same_mixed f low = sets.most.mixed f low (λ c. ⊎_elim (λ x. x) (λ x. x) c)
 
-  same_bytes : (q : ℕ) → q < length image → q ≢ p → pfs_byte g image' q ≡ pfs_byte g image q
+  pub same_bytes : (q : ℕ) → q < length image → q ≢ p → pfs_byte g image' q ≡ pfs_byte g image q
   same_bytes q low other = sets.most.bytes q low (λ c. ⊎_elim other (λ x. x) c)
 
-  uses : (q : ℕ) (u : Use) → IsUse g image' q u ↔ IsUse g image q u
+  pub uses : (q : ℕ) (u : Use) → IsUse g image' q u ↔ IsUse g image q u
   uses = same_uses g image image' row changed start step (on_chain SameSlots (λ b i low. refl))
 
-  marks : (f m : ℕ) → IsMarker g image' f m ↔ IsMarker g image f m
+  pub marks : (f m : ℕ) → IsMarker g image' f m ↔ IsMarker g image f m
   marks = same_markers g image image' row changed start step (on_chain SameMarks (λ b n. refl))
 
-  in_file : p / 8 < extent_count image
+  pub in_file : p / 8 < extent_count image
   in_file = extent_below g image p start sets.inside
 
   own_clean : IsGoodExtent g (p / 8) (extent_of g image' (p / 8)) → StaysClean g image image' row.id
@@ -100,17 +100,30 @@ module _ (g : Geometry) (image image' : Image) (row : CatalogRow) (p : ℕ) (sta
         (λ q u other. uses q u) (λ f m other. marks f m) good);
   }
 
+pub own_of_marked : (g : Geometry) (image image' : Image) (row : CatalogRow) (p : ℕ) → IsStart g image → ChangesMarkedPage g image image' row p → ChangesOwn g image image' row p
+own_of_marked g image image' row p start sets = record {
+  object = sets.object;
+  inside = sets.inside;
+  ordinary = sets.ordinary;
+  owns = inr sets.marked;
+  apart = λ k is. marked_apart g image row p k start sets.object sets.inside sets.marked is;
+  most = sets.most;
+}
+
+pub own_of_single : (g : Geometry) (image image' : Image) (row : CatalogRow) (p : ℕ) → IsStart g image → ChangesSinglePage g image image' row p → ChangesOwn g image image' row p
+own_of_single g image image' row p start sets = record {
+  object = sets.object;
+  inside = inside_below (length image) p sets.holds.1;
+  ordinary = sets.ordinary;
+  owns = inl (sets.slot, inl sets.holds);
+  apart = λ k is. slot_apart g image row sets.slot p k start sets.object sets.holds is;
+  most = sets.most;
+}
+
 pub marked_page_clean : (g : Geometry) (image image' : Image) (row : CatalogRow) (p : ℕ) → IsStart g image → ChangesMarkedPage g image image' row p → StaysClean g image image' row.id
 marked_page_clean g image image' row p start sets =
     let e = p / 8 in
-    let own : ChangesOwn g image image' row p = record {
-      object = sets.object;
-      inside = sets.inside;
-      ordinary = sets.ordinary;
-      owns = inr sets.marked;
-      apart = λ k is. marked_apart g image row p k start sets.object sets.inside sets.marked is;
-      most = sets.most;
-    } in
+    let own = own_of_marked g image image' row p start sets in
     let inside = in_file g image image' row p start own in
     own_clean g image image' row p start own (byte_set g e p (extent_of g image e) (extent_of g image' e) (goods g image start e inside) (record {
       from = (row.id, (row, sets.object, refl, sets.marked));
@@ -128,14 +141,7 @@ pub single_page_clean : (g : Geometry) (image image' : Image) (row : CatalogRow)
 single_page_clean g image image' row p start sets =
     let e = p / 8 in
     let u : Use = record { object = row.id; place = sets.slot } in
-    let own : ChangesOwn g image image' row p = record {
-      object = sets.object;
-      inside = inside_below (length image) p sets.holds.1;
-      ordinary = sets.ordinary;
-      owns = inl (sets.slot, inl sets.holds);
-      apart = λ k is. slot_apart g image row sets.slot p k start sets.object sets.holds is;
-      most = sets.most;
-    } in
+    let own = own_of_single g image image' row p start sets in
     let inside = in_file g image image' row p start own in
     own_clean g image image' row p start own (single_filled g e p u (extent_of g image e) (extent_of g image' e) (goods g image start e inside) (record {
       from = (row, sets.object, refl, inl sets.holds);

@@ -8,11 +8,17 @@ use Rattle.spec_clean.specs.CleanFiles.{HasCleanMaps}
 use Rattle.spec_steps.specs.Acts.{StaysClean}
 use Rattle.spec_steps.specs.Taking.{IsTakeable, PutsIntoSlot, ChangesSinglePage, ChangesMarkedPage, MarksExtent, GrowsChain}
 use Rattle.spec_steps.specs.Freeing.{FreesSingle, FreesLast}
+use Rattle.spec_steps.specs.Sgam.{HasExactSgam, IsAllocationStep}
 
 -- the first page of a free extent can be taken as a single page
 abbrev pub FreeIsTakeable : Type 0
 FreeIsTakeable = (g : Geometry) (image : Image) (e : ℕ) → HasShape g (length image) → HasCleanMaps g image → e < extent_count image
     → is_free g image e ≡ true → IsTakeable g image (8 * e)
+
+-- each step of allocation leaves SGAM exact
+abbrev pub SgamStaysExact : Type 0
+SgamStaysExact = (g : Geometry) (image image' : Image) (row : CatalogRow) → HasShape g (length image) → HasCleanMaps g image
+    → IsAllocationStep g image image' row → HasExactSgam g image → HasExactSgam g image'
 
 -- a single page is put into a slot
 abbrev pub SlotStaysClean : Type 0

@@ -1,7 +1,7 @@
 //! Laws of the steps of allocation: each is on its object alone, and leaves clean maps and chains clean.
 #![tactic(auto)]
 
-ghost use Rattle.law_steps.specs.Laws.{FreeIsTakeable, SlotStaysClean, SinglePageStaysClean, MarkedPageStaysClean, MarkStaysClean, GrowthStaysClean, FreedSingleStaysClean, FreedLastStaysClean};
+ghost use Rattle.law_steps.specs.Laws.{FreeIsTakeable, SlotStaysClean, SinglePageStaysClean, MarkedPageStaysClean, MarkStaysClean, GrowthStaysClean, FreedSingleStaysClean, FreedLastStaysClean, SgamStaysExact};
 
 /// The first page of a free extent can be taken as a single page. Where a single page is put into a slot, an extent is
 /// marked or a chain grows, clean maps stay clean.
@@ -22,4 +22,9 @@ pub fn page_laws()
 pub fn freeing_laws()
     ensures single { FreedSingleStaysClean }
     ensures last { FreedLastStaysClean }
+{}
+
+/// Each of these steps leaves SGAM exact, for which no rule of the check asks.
+pub fn sgam_law()
+    ensures { SgamStaysExact }
 {}

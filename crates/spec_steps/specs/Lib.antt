@@ -6,3 +6,4 @@ pub mod Taking
 pub mod Freeing
 pub mod Entries
 pub mod Tables
+pub mod Sgam

@@ -1,13 +1,13 @@
 -- Each step of allocation leaves SGAM exact.
-use Rattle.std.proofs.Common.{◌≡◌, ◌≢◌, ℕ, ◌/◌, ◌<◌, true, false, length, refl, sym, ap, subst, ◌∙◌, inl, inr, ⊎_elim, arith}
-use Rattle.std.proofs.lemmas.Bool.{cases_eq, both_ways, false_from_ne_true}
+use Rattle.std.proofs.Common.{◌≡◌, ◌≢◌, ◌⊎◌, ℕ, zero, suc, ◌+◌, ◌*◌, ◌/◌, ◌%◌, ◌<◌, Bool, true, false, length, refl, sym, ap, subst, ◌∙◌, inl, inr, ⊎_elim, arith}
+use Rattle.std.proofs.lemmas.Bool.{cases_eq, cases_Bool, both_ways, false_from_ne_true}
 use Rattle.spec_file.specs.declared.geometry.Geometry.{Geometry}
 use Rattle.spec_file.specs.declared.pfs.PfsKind.{PfsKind}
 use Rattle.spec_file.specs.Image.{Image}
 use Rattle.spec_file.specs.CatalogRows.{CatalogRow}
 use Rattle.spec_file.specs.Pfs.{is_allocated_byte}
 use Rattle.spec_file.specs.Places.{extent_count, is_free, is_mixed}
-use Rattle.spec_file.specs.Roles.{is_system_extent}
+use Rattle.spec_file.specs.Roles.{is_ordinary, is_system_extent}
 use Rattle.spec_chain.specs.Chains.{pointer}
 use Rattle.spec_chain.specs.Marks.{IsMarker}
 use Rattle.spec_chain.specs.Uses.{Use, IsUse, pfs_byte, is_allocated}
@@ -88,7 +88,7 @@ allocated_of g image e good (inl (q, at, (u, use_))) = ⊎_elim (boot_holds g im
 pub freed_here : (g : Geometry) (image : Image) (e : ℕ) → IsGoodExtent g e (extent_of g image e) → IsFreedShared g image e → HasOpenPage g image e → IsSgamExact g image e
 freed_here g image e good maps open_page = record { open_page = λ mixed. open_page; mixed = λ holds o. maps.mixed.1 (allocated_of g image e good holds) }
 
-zero_open : (g : Geometry) (image : Image) (q : ℕ) → pfs_byte g image q ≡ 0 → is_allocated g image q ≡ false
+pub zero_open : (g : Geometry) (image : Image) (q : ℕ) → pfs_byte g image q ≡ 0 → is_allocated g image q ≡ false
 zero_open g image q none = ap is_allocated_byte none
 
 -- where the steps change the maps
@@ -185,3 +185,31 @@ step_exact g image image' row start (IsAllocationStep.Marked k e p is) exact = m
 step_exact g image image' row start (IsAllocationStep.Grown last p is) exact = growth_exact g image image' row last p start is exact
 step_exact g image image' row start (IsAllocationStep.FreedSingle p is) exact = freed_single_exact g image image' row p start is exact
 step_exact g image image' row start (IsAllocationStep.FreedLast p is) exact = freed_last_exact g image image' row p start is exact
+
+-- what can't but be exact is so: of eight pages one is open, or none
+open_among : (g : Geometry) (image : Image) (e n : ℕ) → HasOpenPage g image e ⊎ ((p : ℕ) → p / 8 ≡ e → p % 8 < n → is_ordinary g p ≡ true → is_allocated g image p ≡ false → ⊥)
+open_among g image e zero = inr (λ p at low ordinary free. omega (arith, low))
+open_among g image e (suc n) = ⊎_elim (λ found. inl found)
+    (λ none. ⊎_elim
+    (λ here. let at : (8 * e + n % 8) / 8 ≡ e = omega arith in
+    ⊎_elim (λ allocated. inr (λ p at_p low ordinary free. ⊎_elim
+    (λ last. both_ways (is_allocated g image p) free (subst (λ q. is_allocated g image q ≡ true) (let same : 8 * e + n % 8 ≡ p = omega (arith, at_p, last) in same) allocated))
+    (λ before. none p at_p (omega (arith, low, before)) ordinary free) (cases_eq (p % 8) n)))
+    (λ free. inl (8 * e + n % 8, at, here, free)) (cases_Bool (is_allocated g image (8 * e + n % 8))))
+    (λ strange. inr (λ p at_p low ordinary free. ⊎_elim
+    (λ last. both_ways (is_ordinary g (8 * e + n % 8)) strange (subst (λ q. is_ordinary g q ≡ true) (let same : p ≡ 8 * e + n % 8 = omega (arith, at_p, last) in same) ordinary))
+    (λ before. none p at_p (omega (arith, low, before)) ordinary free) (cases_eq (p % 8) n)))
+    (cases_Bool (is_ordinary g (8 * e + n % 8)))) (open_among g image e n)
+
+open_unless : (g : Geometry) (image : Image) (e : ℕ) → ((HasOpenPage g image e → ⊥) → ⊥) → HasOpenPage g image e
+open_unless g image e h = ⊎_elim (λ found. found) (λ none. absurd (h (λ o. none o.0 o.1 (omega arith) o.2 o.3))) (open_among g image e 8)
+
+true_unless : (b : Bool) → ((b ≡ true → ⊥) → ⊥) → b ≡ true
+true_unless true h = refl
+true_unless false h = absurd (h (λ is. cc))
+
+pub exact_unless : (g : Geometry) (image : Image) (e : ℕ) → ((IsSgamExact g image e → ⊥) → ⊥) → IsSgamExact g image e
+exact_unless g image e h = record {
+  open_page = λ m. open_unless g image e (λ none. h (λ exact. none (exact.open_page m)));
+  mixed = λ holds open_page. true_unless (is_mixed g image e) (λ none. h (λ exact. none (exact.mixed holds open_page)));
+}

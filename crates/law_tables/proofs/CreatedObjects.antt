@@ -1,5 +1,5 @@
 -- CREATE leaves clean maps clean, and that of a heap a clean file.
-use Rattle.std.proofs.Common.{◌≡◌, ◌⊎◌, ℕ, ◌<◌, true, length, refl, sym, ap, subst, ◌∙◌, inl, inr, ⊎_elim}
+use Rattle.std.proofs.Common.{◌≡◌, ◌⊎◌, ℕ, ◌/◌, ◌<◌, true, length, refl, sym, ap, subst, ◌∙◌, inl, inr, ⊎_elim}
 use Rattle.std.proofs.lemmas.Bool.{cases_eq}
 use Rattle.spec_file.specs.declared.geometry.Geometry.{Geometry}
 use Rattle.spec_file.specs.declared.data.Kind.TheVariants.{Heap}
@@ -25,6 +25,8 @@ use Rattle.law_frames.proofs.Held.{IsStart, goods}
 use Rattle.law_steps.proofs.Owners.{NobodyOwns, takeable_is_nobodys}
 use Rattle.law_steps.proofs.OneObject.{IsNotOthers, HasNoMaps, TakesOne, acts_from, other_uses, other_marks, clean_after, single_maps, single_bytes, taken_extents}
 use Rattle.law_steps.proofs.FilledSlots.{use_is}
+use Rattle.law_steps.proofs.ExactSgam.{exact_from, single_changes, taken_here}
+use Rattle.spec_steps.specs.Sgam.{HasExactSgam}
 use Rattle.law_tables.proofs.Entries.{GainsRow, gains}
 use Rattle.law_tables.proofs.OnePageChains.{one_page, new_chain, new_use, new_unmarked, has_none}
 use Rattle.law_frames.proofs.WholeFiles.{file_stays_clean}
@@ -129,3 +131,7 @@ module _ (g : Geometry) (image image' : Image) (row : CatalogRow) (p : ℕ) (sta
 
   pub create_clean : IsClean g image → row.kind ≡ Heap → IsClean g image'
   create_clean clean heap = file_stays_clean g image image' row.id start.shape clean create_maps (own_pages heap)
+
+  pub create_exact : HasExactSgam g image → HasExactSgam g image'
+  create_exact = exact_from g image image' (p / 8) creates.most.size (single_changes g image image' p p 9 creates.most)
+      (λ q u other h. ⊎_elim (λ old. old) (λ new. absurd (other (ap (λ n. n / 8) new.0))) (use_from q u h)) (taken_here g image' p Iam creates.taken)

@@ -24,8 +24,11 @@ use Rattle.law_frames.proofs.Held.{IsStart, goods, held, sound_catalog, the_row}
 use Rattle.law_steps.proofs.Owners.{one_owner}
 use Rattle.law_steps.proofs.OneObject.{IsNotOthers, acts_from, other_uses, other_marks, clean_after}
 use Rattle.law_steps.proofs.FreedSlots.{freed_bits}
+use Rattle.law_steps.proofs.ExactSgam.{free_here, freed_here, zero_open, exact_unless}
+use Rattle.spec_steps.specs.Sgam.{IsSgamExact, HasExactSgam}
+use Rattle.spec_file.specs.Pfs.{is_allocated_byte}
 use Rattle.law_tables.proofs.Entries.{LosesRow, loses}
-use Rattle.law_frames.proofs.WholeFiles.{file_stays_clean}
+use Rattle.law_frames.proofs.WholeFiles.{after, file_stays_clean}
 
 module _ (g : Geometry) (image image' : Image) (row : CatalogRow) (start : IsStart g image) (drops : DropsObject g image image' row) where
   abbrev changed : Changed
@@ -177,3 +180,27 @@ module _ (g : Geometry) (image image' : Image) (row : CatalogRow) (start : IsSta
 
   pub drop_clean : IsClean g image → IsClean g image'
   drop_clean clean = file_stays_clean g image image' row.id start.shape clean drop_maps (λ r there own. absurd (entry.gone r there own))
+
+  -- SGAM stays exact
+  later : IsStart g image'
+  later = after g image image' start drops.most.size drop_maps.maps
+
+  same_exact : (e : ℕ) → e < extent_count image → (IsMarked g image row e → ⊥) → (UsesOf g image row e → ⊥) → IsSgamExact g image e → IsSgamExact g image' e
+  same_exact e inside unmarked none exact =
+      let byte = λ (q : ℕ) (at : q / 8 ≡ e). let w : is_allocated g image' q ≡ is_allocated g image q =
+      ap is_allocated_byte (drops.most.bytes q (below e inside q at) (λ has. let gone = has_gone e q at unmarked has in none (q, at, gone.0, gone.1))) in w in
+      let mixed = drops.most.mixed e inside none in record {
+        open_page = λ m. let old = exact.open_page (sym mixed ∙ m) in (old.0, old.1, old.2, byte old.0 old.1 ∙ old.3);
+        mixed = λ holds open_page. mixed ∙ exact.mixed (⊎_elim (λ h. inl (h.0, h.1, (h.2.0, use_from h.0 h.2.0 h.2.1))) (λ boot. inr boot) holds)
+            (open_page.0, open_page.1, open_page.2, sym (byte open_page.0 open_page.1) ∙ open_page.3);
+      }
+
+  pub drop_exact : HasExactSgam g image → HasExactSgam g image'
+  drop_exact exact e inside_ =
+      let inside : e < extent_count image = subst (λ n. e < n / 8) drops.most.size inside_ in
+      let good = goods g image' later e inside_ in
+      exact_unless g image' e (λ bad. decided (IsMarked g image row e) (λ case_. ⊎_elim (λ m. bad (free_here g image' e good (drops.marked e inside m)))
+      (λ unmarked. decided (UsesOf g image row e) (λ case__. ⊎_elim
+      (λ s. let has = gone_has s.0 (s.2, s.3) in
+      bad (freed_here g image' e good (drops.shared e inside s) (s.0, s.1, has_ordinary s.0 has, zero_open g image' s.0 (drops.bytes s.0 (below e inside s.0 s.1) has))))
+      (λ none. bad (same_exact e inside unmarked none (exact e inside))) case__)) case_))

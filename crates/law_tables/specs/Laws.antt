@@ -7,6 +7,7 @@ use Rattle.spec_file.specs.CatalogRows.{CatalogRow}
 use Rattle.spec_file.specs.Places.{HasShape}
 use Rattle.spec_clean.specs.CleanFiles.{HasCleanMaps, IsClean}
 use Rattle.spec_steps.specs.Acts.{StaysClean}
+use Rattle.spec_steps.specs.Sgam.{HasExactSgam}
 use Rattle.spec_steps.specs.Tables.{CreatesObject, DropsObject}
 
 -- CREATE of an object of either kind leaves maps and chains clean; of a clustered table the root is still missing then
@@ -19,6 +20,11 @@ abbrev pub CreateKeepsClean : Type 0
 CreateKeepsClean = (g : Geometry) (image image' : Image) (row : CatalogRow) (p : ℕ) → HasShape g (length image) → IsClean g image
     → CreatesObject g image image' row p → row.kind ≡ Heap → IsClean g image'
 
+-- and SGAM exact
+abbrev pub CreateKeepsSgam : Type 0
+CreateKeepsSgam = (g : Geometry) (image image' : Image) (row : CatalogRow) (p : ℕ) → HasShape g (length image) → HasCleanMaps g image
+    → CreatesObject g image image' row p → HasExactSgam g image → HasExactSgam g image'
+
 -- DROP leaves maps and chains clean
 abbrev pub DropKeepsMaps : Type 0
 DropKeepsMaps = (g : Geometry) (image image' : Image) (row : CatalogRow) → HasShape g (length image) → HasCleanMaps g image
@@ -28,3 +34,8 @@ DropKeepsMaps = (g : Geometry) (image image' : Image) (row : CatalogRow) → Has
 abbrev pub DropKeepsClean : Type 0
 DropKeepsClean = (g : Geometry) (image image' : Image) (row : CatalogRow) → HasShape g (length image) → IsClean g image
     → DropsObject g image image' row → IsClean g image'
+
+-- and SGAM exact
+abbrev pub DropKeepsSgam : Type 0
+DropKeepsSgam = (g : Geometry) (image image' : Image) (row : CatalogRow) → HasShape g (length image) → HasCleanMaps g image
+    → DropsObject g image image' row → HasExactSgam g image → HasExactSgam g image'

@@ -1,0 +1,5 @@
+pub mod CatalogIds
+pub mod ObjectTrees
+pub mod KnownParts
+pub mod CleanParts
+pub mod NamedPages

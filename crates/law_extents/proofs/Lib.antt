@@ -1,0 +1,5 @@
+pub mod GoodChanges
+pub mod GoodKinds
+pub mod Listed
+pub mod Locality
+pub mod WholeFile

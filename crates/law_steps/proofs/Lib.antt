@@ -1,0 +1,10 @@
+pub mod Owners
+pub mod OneObject
+pub mod InChain
+pub mod OwnPages
+pub mod FilledSlots
+pub mod FreedSlots
+pub mod MarkedExtents
+pub mod FreedExtents
+pub mod GrownChains
+pub mod ExactSgam

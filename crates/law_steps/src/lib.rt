@@ -1,0 +1,30 @@
+//! Laws of the steps of allocation: each is on its object alone, and leaves clean maps and chains clean.
+#![tactic(auto)]
+
+ghost use Rattle.law_steps.specs.Laws.{FreeIsTakeable, SlotStaysClean, SinglePageStaysClean, MarkedPageStaysClean, MarkStaysClean, GrowthStaysClean, FreedSingleStaysClean, FreedLastStaysClean, SgamStaysExact};
+
+/// The first page of a free extent can be taken as a single page. Where a single page is put into a slot, an extent is
+/// marked or a chain grows, clean maps stay clean.
+pub fn taking_laws()
+    ensures free { FreeIsTakeable }
+    ensures slot { SlotStaysClean }
+    ensures mark { MarkStaysClean }
+    ensures growth { GrowthStaysClean }
+{}
+
+/// So do they where a page in a slot is filled, or a page of a marked extent is taken, freed or filled.
+pub fn page_laws()
+    ensures single { SinglePageStaysClean }
+    ensures marked { MarkedPageStaysClean }
+{}
+
+/// And so where a single page, or the last page of a marked extent, is freed.
+pub fn freeing_laws()
+    ensures single { FreedSingleStaysClean }
+    ensures last { FreedLastStaysClean }
+{}
+
+/// Each of these steps leaves SGAM exact, for which no rule of the check asks.
+pub fn sgam_law()
+    ensures { SgamStaysExact }
+{}

@@ -1,0 +1,4 @@
+pub mod Entries
+pub mod OnePageChains
+pub mod CreatedObjects
+pub mod DroppedObjects

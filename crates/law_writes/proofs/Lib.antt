@@ -1,0 +1,4 @@
+pub mod MapPages
+pub mod WritesAtMost
+pub mod Puts
+pub mod SingleWrites

@@ -1,0 +1,4 @@
+pub mod CleanExtents
+pub mod CleanTables
+pub mod KnownOfObject
+pub mod CleanFiles

@@ -1,0 +1,9 @@
+pub mod AtMost
+pub mod Writes
+pub mod Acts
+pub mod IamPages
+pub mod Taking
+pub mod Freeing
+pub mod Entries
+pub mod Tables
+pub mod Sgam

@@ -162,7 +162,8 @@ filled_exact g image image' row p start sets exact =
     let own = own_of_single g image image' row p start sets in
     let e = p / 8 in
     let inside = in_file g image image' row p start own in
-    let was = used_allocated (pfs_byte g image p) sets.slot (((goods g image start e inside).pages p refl).used sets.ordinary (record { object = row.id; place = sets.slot }) (row, sets.object, refl, inl sets.holds)) in
+    let was = used_allocated (pfs_byte g image p) sets.slot (((goods g image start e inside).pages p refl).used sets.ordinary (record { object = row.id; place = sets.slot })
+    (row, sets.object, refl, inl sets.holds)) in
     let is = used_allocated (pfs_byte g image' p) sets.slot (record { kind = Single; is = inl (sets.holds.0.0, refl); fits = sets.byte }) in
     let byte = λ (q : ℕ) (at : q / 8 ≡ e) (other : q ≢ p). let w : is_allocated g image' q ≡ is_allocated g image q =
     ap is_allocated_byte (same_bytes g image image' row p start own q (below image e q inside at) other) in w in
@@ -170,11 +171,21 @@ filled_exact g image image' row p start sets exact =
     let old = exact e inside in
     exact_from g image image' e sets.most.size (own_changes g image image' p sets.most) (λ q u other. (uses g image image' row p start own q u).0)
     (record {
-      open_page = λ m. let open_page = old.open_page (sym mixed ∙ m) in
-          (open_page.0, open_page.1, open_page.2, byte open_page.0 open_page.1 (λ same. both_ways (is_allocated g image p) (subst (λ r. is_allocated g image r ≡ false) same open_page.3) was) ∙ open_page.3);
+      open_page = λ m. let open_page = old.open_page (sym mixed ∙ m) in (
+        open_page.0,
+        open_page.1,
+        open_page.2,
+        byte open_page.0 open_page.1 (λ same. both_ways (is_allocated g image p)
+            (subst (λ r. is_allocated g image r ≡ false) same open_page.3) was) ∙ open_page.3,
+      );
       mixed = λ holds open_page. mixed ∙ old.mixed
-          (⊎_elim (λ h. inl (h.0, h.1, (h.2.0, (uses g image image' row p start own h.0 h.2.0).0 h.2.1))) (λ boot. inr boot) holds)
-          (open_page.0, open_page.1, open_page.2, sym (byte open_page.0 open_page.1 (λ same. both_ways (is_allocated g image' p) (subst (λ r. is_allocated g image' r ≡ false) same open_page.3) is)) ∙ open_page.3);
+          (⊎_elim (λ h. inl (h.0, h.1, (h.2.0, (uses g image image' row p start own h.0 h.2.0).0 h.2.1))) (λ boot. inr boot) holds) (
+            open_page.0,
+            open_page.1,
+            open_page.2,
+            sym (byte open_page.0 open_page.1 (λ same. both_ways (is_allocated g image' p)
+                (subst (λ r. is_allocated g image' r ≡ false) same open_page.3) is)) ∙ open_page.3,
+          );
     }) exact
 
 pub step_exact : (g : Geometry) (image image' : Image) (row : CatalogRow) → IsStart g image → IsAllocationStep g image image' row → HasExactSgam g image → HasExactSgam g image'

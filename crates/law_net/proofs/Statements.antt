@@ -1,0 +1,60 @@
+-- Where a statement leaves a good view, its net changes and its takes are good, and nobody else holds what it takes.
+use Rattle.std.proofs.Common.{◌≡◌, ℕ, zero, suc, ◌+◌, ◌/◌, ◌≤◌, get_or, Bool, true, false, [], ◌∷◌, length, Option, refl, arith}
+use Rattle.std.specs.Prelude.{filter}
+use Rattle.std.specs.List.{range_with_len}
+use Rattle.std.proofs.lemmas.Bool.{both_ways, cond_both}
+use Rattle.spec_file.specs.declared.data.Resource.{Resource}
+use Rattle.spec_file.specs.Image.{Image}
+use Rattle.spec_file.specs.Places.{gam_place, sgam_place}
+use Rattle.spec_words.specs.NetChanges.{FileShape, is_turned, is_byte_changed, is_page_changed}
+use Rattle.spec_words.specs.Takes.{is_among}
+use Rattle.spec_words.specs.Views.{View, beginning}
+use Rattle.spec_words.specs.Heaps.{insert_plan}
+use Rattle.law_net.specs.Files.{IsImageOf}
+use Rattle.law_net.specs.GoodViews.{IsGoodView}
+use Rattle.law_net.specs.Statements.{takes_at, IsGoodEnd, InsertIsGood}
+use Rattle.law_net.proofs.NetLaw.{net_changes_are_good}
+use Rattle.law_net.proofs.WordLaws.{leads_weaker}
+use Rattle.law_net.proofs.RowBytes.{bytes_low}
+use Rattle.law_net.proofs.InsertKeeps.{IsGoodOf, insert_keeps}
+
+filter_short : (test : ℕ → Bool) (n lo : ℕ) → length (filter test (range_with_len lo n)) ≤ n
+filter_short test zero lo = omega arith
+filter_short test (suc n) lo =
+    let ih = filter_short test n (lo + 1) in
+    cond_both (test lo) (lo ∷ filter test (range_with_len (lo + 1) n)) (filter test (range_with_len (lo + 1) n)) (λ xs. length xs ≤ suc n) (λ e. omega (arith, ih)) (λ e. omega (arith, ih))
+
+pub good_end : (view : View) → IsGoodView view → IsGoodEnd view
+good_end view good =
+    let net = net_changes_are_good view.shape view.own view.taken view.start view.now good.before good.after good.differ in
+    let n = view.shape.pages in
+    let g = view.shape.geometry in
+    let few = net.few in
+    let low = file_low view.shape view.start good.before in
+    let a = filter_short (λ e. is_turned view.start view.now (gam_place g e)) (n / 8) 0 in
+    let b = filter_short (λ e. is_turned view.start view.now (sgam_place g e)) (n / 8) 0 in
+    let c = filter_short (is_byte_changed g view.start view.now) n 0 in
+    let d = filter_short (is_page_changed g view.start view.now) n 0 in record {
+      net = net;
+      free = λ k r lt. good.free (get_or (takes_at view) k r) (net.among k r lt);
+      few = omega (arith, few, low, a, b, c, d);
+    }
+  where
+    file_low : (shape : FileShape) (image : Image) → IsImageOf shape image → 16 ≤ shape.pages
+    file_low shape image is = let file = is.file in file.low
+
+none_among : (r : Resource) → is_among [] r ≡ true → ⊥
+none_among r h = both_ways false refl h
+
+pub begins_good : (shape : FileShape) (image : Image) (other : Resource → Option ℕ) (own : Resource → Bool) → IsImageOf shape image → IsGoodView (beginning shape image other own)
+begins_good shape image other own is = record {
+  before = is;
+  after = is;
+  differ = λ p i j here there low differ. absurd (differ refl);
+  free = λ r h. absurd (none_among r h);
+}
+
+pub insert_is_good : InsertIsGood
+insert_is_good shape image other own name key payload is low =
+    leads_weaker (insert_plan shape name key payload) (beginning shape image other own) (λ u w. IsGoodOf shape w) (λ u w. IsGoodEnd w) (λ u w g. good_end w g.good)
+    (insert_keeps shape name key payload (beginning shape image other own) (bytes_low payload low) (record { same = refl; good = begins_good shape image other own is }))

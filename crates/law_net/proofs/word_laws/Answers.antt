@@ -1,0 +1,5 @@
+use Rattle.law_net.proofs.WordsKeep.{take_keeps_good, gam_keeps_good, sgam_keeps_good, pfs_keeps_good, page_keeps_good, catalog_keeps_good}
+use Rattle.law_net.proofs.word_laws.Goals as goal
+
+pub returns : goal.returns
+returns c = record { take = take_keeps_good; gam = gam_keeps_good; sgam = sgam_keeps_good; pfs = pfs_keeps_good; page = page_keeps_good; catalog = catalog_keeps_good }

@@ -1,0 +1,6 @@
+pub mod Files
+pub mod NetLaw
+pub mod Touched
+pub mod GoodViews
+pub mod Statements
+pub mod Agreement

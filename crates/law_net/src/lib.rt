@@ -1,0 +1,45 @@
+//! The law of all plans that are made of the words: what differs is told by net changes that a log may have, and each
+//! word keeps what this needs.
+#![tactic(auto)]
+
+ghost use Rattle.law_net.specs.Agreement.{InsertIsPlanned, CountIsPlanned};
+ghost use Rattle.law_net.specs.NetLaw.{NetChangesAreGood};
+ghost use Rattle.law_net.specs.Touched.{ChangesAreUnder};
+ghost use Rattle.law_net.specs.GoodViews.{TakeKeepsGood, GamKeepsGood, SgamKeepsGood, PfsKeepsGood, PageKeepsGood, CatalogKeepsGood};
+ghost use Rattle.law_net.specs.Statements.{InsertIsGood, CountLeavesView};
+
+/// The net changes of two images of a file that differ only under what was taken make the one from the other,
+/// find their bytes, have the form of a log's changes, are covered by what is held or taken, and are few; the takes
+/// rise, and are new.
+pub fn net_law()
+    ensures { NetChangesAreGood }
+{}
+
+/// The net changes are found by looking only at what was taken.
+pub fn touched_law()
+    ensures { ChangesAreUnder }
+{}
+
+/// Each word that takes or writes leaves a good view good.
+pub fn word_laws()
+    ensures take { TakeKeepsGood }
+    ensures gam { GamKeepsGood }
+    ensures sgam { SgamKeepsGood }
+    ensures pfs { PfsKeepsGood }
+    ensures page { PageKeepsGood }
+    ensures catalog { CatalogKeepsGood }
+{}
+
+/// Where INSERT gives a reply, its changes and takes are good, and nobody else holds what it takes. COUNT leaves
+/// the view as it was.
+pub fn statement_laws()
+    ensures insert { InsertIsGood }
+    ensures count { CountLeavesView }
+{}
+
+/// INSERT and COUNT in words end as their outcomes over a sight say: with the same refusal, the same number of rows,
+/// or the same takes and changes.
+pub fn agreement_laws()
+    ensures insert { InsertIsPlanned }
+    ensures count { CountIsPlanned }
+{}

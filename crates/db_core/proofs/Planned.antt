@@ -57,7 +57,7 @@ insert_planned st k x table key payload p good here idle next is =
         proper p (subst IsNotWant (sym is) (insert_number sight table key payload)) (subst IsShort (sym is) (insert_is_short sight table key payload))
             (λ takes changes e.
             (insert_good sight table key payload takes changes (whole_shape run.image (view_of x.tran run.opened log run.image) shape start.whole)
-            (subst (λ n. 16 ≤ n) (sym shape.pages) start.many) (sym is ∙ e)).cells),
+            (subst (λ n. 16 ≤ n) (sym shape.pages) start.shape.low) (sym is ∙ e)).cells),
       );
     }
 

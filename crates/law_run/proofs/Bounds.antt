@@ -104,7 +104,7 @@ insert_small run log t name key payload start sound (Writes takes changes) e =
     let shape = view_shape run.geometry run.opened log run.image t sound in
     let good = insert_good (sight_of run log t) name key payload takes changes
     (whole_shape run.image (view_of t run.opened log run.image) shape start.whole)
-    (subst (λ n. 16 ≤ n) (sym shape.pages) start.many) e in
+    (subst (λ n. 16 ≤ n) (sym shape.pages) start.shape.low) e in
     let short = subst IsShort e (insert_is_short (sight_of run log t) name key payload) in
     (short.0, short.1, good.cells)
 

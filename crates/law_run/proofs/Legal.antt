@@ -144,7 +144,7 @@ begun_steps run log s i p (statement.Insert table key payload) start sound opens
     (outcome_steps run log s i p (insert_outcome (sight_of run log p.tran) table key payload) sound opens hs hi
     (λ takes changes e. insert_good (sight_of run log p.tran) table key payload takes changes
     (whole_shape run.image (view_of p.tran run.opened log run.image) shape start.whole)
-    (subst (λ n. 16 ≤ n) (sym shape.pages) start.many) e))
+    (subst (λ n. 16 ≤ n) (sym shape.pages) start.shape.low) e))
 begun_steps run log s i p (statement.Count table) start sound opens hs hi =
     let agrees = plans_agree run log p.tran start sound in
     subst (BeginsTo run log s i p) (sym (agrees.count table))

@@ -10,7 +10,7 @@ use Rattle.spec_log.specs.Limits.{passes_limit}
 use Rattle.spec_log.specs.Images.{damaged_page}
 use Rattle.spec_script.specs.declared.statement.Statement.{Statement}
 use Rattle.spec_script.specs.declared.statement.Statement.TheVariants as statement
-use Rattle.spec_script.specs.declared.reply.Reply.TheVariants.{Done, Rows, Refused}
+use Rattle.spec_script.specs.declared.reply.Reply.TheVariants.{Done, Refused}
 use Rattle.spec_file.specs.declared.data.Resource.{Resource}
 use Rattle.spec_script.specs.declared.reply.Reply.{Reply}
 use Rattle.spec_plan.specs.declared.plan.Planned.{Planned}
@@ -19,7 +19,7 @@ use Rattle.spec_plan.specs.Refusals.{is_open, nothing_to_commit, nothing_to_undo
 use Rattle.spec_run.specs.Shapes.{Refused as Refusing, Opening, Writing, Committing, RollingBack, plain_start, change_item, tran_to_write}
 use Rattle.spec_run.specs.Sessions.{session_of, open_after}
 use Rattle.spec_words.specs.Takes.{changes_at, takes_at}
-use Rattle.spec_words.specs.Views.{View, End, Gives, Stops}
+use Rattle.spec_words.specs.Views.{End, Gives, Stops}
 use Rattle.spec_words.specs.Heaps.{insert_plan, count_plan}
 use Rattle.spec_run.specs.Begun.{Setting, Begun, Becoming, shape_of, view_at, surely, with_memory, refused, by_changes, by_taken, by_end, by_damage, begun_by, begun}
 use Rattle.spec_run.specs.Progress.{Progress, progress_of, is_short, at_work, with_statement, script_of, cut_short, moved_to, moved, first_of, MayCome}

@@ -9,7 +9,8 @@ use Rattle.spec_log.specs.declared.item.Record.TheVariants.{Snap}
 use Rattle.spec_script.specs.declared.statement.Statement.{Statement}
 use Rattle.spec_script.specs.declared.statement.Statement.TheVariants as statement
 use Rattle.spec_plan.specs.Statements.{count_outcome, insert_outcome}
-use Rattle.spec_run.specs.Begun.{Setting, sight_of}
+use Rattle.spec_run.specs.Begun.{Setting}
+use Rattle.spec_run.specs.Sights.{sight_of}
 use Rattle.spec_run.specs.Progress.{progress_of, at_work, with_statement, script_of, first_of, next_of}
 use Rattle.spec_run.specs.Turns.{Rests}
 use Rattle.db_heap.specs.declared.plan.Plan.{Plan}

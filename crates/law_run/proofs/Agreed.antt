@@ -47,7 +47,7 @@ taking_takes : (r : Resource) (v : View) → HasTaken (with_taken r v)
 taking_takes r v none = false≢true (subst (λ taken. is_among taken r ≡ true) none (taken_mine r v))
 
 -- what holds of whatever is given
-always : {A : Type 0} (plan : Plan A) (v : View) (K : A → View → Type 0) → ((x : A) (w : View) → K x w) → Leads plan v K
+pub always : {A : Type 0} (plan : Plan A) (v : View) (K : A → View → Type 0) → ((x : A) (w : View) → K x w) → Leads plan v K
 always {A = A} plan v K all = by_end (plan v).ending
   where
     by_end : (e : End A) → IfGives K e

@@ -27,3 +27,4 @@ pub mod RowPlanned
 pub mod AgreeWords
 pub mod AgreeReading
 pub mod AgreePlans
+pub mod Computed

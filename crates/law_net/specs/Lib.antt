@@ -4,3 +4,4 @@ pub mod Touched
 pub mod GoodViews
 pub mod Statements
 pub mod Agreement
+pub mod Examples

@@ -11,7 +11,7 @@ use Rattle.spec_plan.specs.Planned.{planned_size}
 use Rattle.spec_script.specs.Refusals.{plain_refusal}
 use Rattle.spec_plan.specs.Refusals.{log_full}
 use Rattle.spec_run.specs.Shapes.{Writing as WritingShape, plain_start, items_by, tran_to_write}
-use Rattle.spec_run.specs.Begun.{Begun, Becoming, begun, begun_by, with_memory, refused}
+use Rattle.spec_run.specs.Begun.{Becoming, begun, begun_by, with_memory, refused}
 use Rattle.db_heap.specs.declared.plan.Plan.{Plan}
 use Rattle.db_heap.specs.declared.plan.Plan.TheVariants as plan
 use Rattle.db_core.specs.declared.session.Session.{Session}

@@ -8,7 +8,6 @@ use Rattle.spec_file.specs.declared.data.NoMemory.{NoMemory}
 use Rattle.spec_file.specs.declared.geometry.Geometry.TheVariants.{Small}
 use Rattle.spec_file.specs.Places.{HasShape}
 use Rattle.spec_log.specs.declared.item.Record.{Record}
-use Rattle.spec_script.specs.declared.reply.Reply.{Reply}
 use Rattle.spec_script.specs.declared.reply.Reply.TheVariants.{Rows}
 use Rattle.spec_plan.specs.Planned.{planned_size}
 use Rattle.spec_script.specs.Refusals.{plain_refusal}

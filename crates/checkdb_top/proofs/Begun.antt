@@ -38,7 +38,7 @@ may_begin lefts file log start n begins few =
 pub starts : (start : Start) (core : Db) → IsOver start.frames start.texts.schedule.items (scripts_of start) core
     → IsReplayForm Small start.frames → HasShape Small (length start.frames) → IsStart core.run
 starts start core over form shape =
-    subst IsStart (sym over.run) (record { forms = tt; rules = tt; whole = form.whole; many = shape.low })
+    subst IsStart (sym over.run) (record { forms = tt; rules = tt; whole = form.whole; shape = shape })
 
 pub is_run : (lefts : List (Option (List ℕ))) (file log : Option (List ℕ)) (start : Start) (core : Db)
     → IsOver start.frames start.texts.schedule.items (scripts_of start) core → (n : ℕ) → StartsWith n lefts file log start

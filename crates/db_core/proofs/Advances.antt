@@ -9,7 +9,8 @@ use Rattle.spec_log.specs.declared.item.Record.TheVariants.{Snap}
 use Rattle.spec_script.specs.declared.statement.Statement.{Statement}
 use Rattle.spec_script.specs.declared.statement.Statement.TheVariants as statement
 use Rattle.spec_plan.specs.Statements.{count_outcome, insert_outcome}
-use Rattle.spec_run.specs.Begun.{Setting, sight_of}
+use Rattle.spec_run.specs.Begun.{Setting}
+use Rattle.spec_run.specs.Sights.{sight_of}
 use Rattle.spec_run.specs.Progress.{progress_of, at_work, with_statement, script_of, first_of, next_of}
 use Rattle.spec_run.specs.Turns.{Rests}
 use Rattle.db_heap.specs.declared.plan.Plan.{Plan}
@@ -60,11 +61,11 @@ table_insert st k x table key payload good here idle next (Ok p) is =
     insert_planned st k x table key payload p good here idle next (is ∙ ap (λ s. insert_outcome s table key payload) (same_sight st k x here))
 table_insert st k x table key payload good here idle next (Err e) is = want_planned st k x e (statement.Insert table key payload) idle next refl
 
-pub table_count : (st : State) (k : ℕ) (x : Session) (table : List ℕ) → slice_get st.sessions.items k ≡ Some x → x.doing ≡ Idle →
+pub table_count : (st : State) (k : ℕ) (x : Session) (table : List ℕ) → IsGood st → slice_get st.sessions.items k ≡ Some x → x.doing ≡ Idle →
     slice_get x.script.items (length x.replies.items) ≡ Some (statement.Count table) → (result : Result Plan NoMemory) →
     IfOk result (λ p. outcome_of p ≡ count_outcome (sight_at st k) table) → IsPlanned st k x result
-table_count st k x table here idle next (Ok p) is = count_planned st k x table p idle next (is ∙ ap (λ s. count_outcome s table) (same_sight st k x here))
-table_count st k x table here idle next (Err e) is = want_planned st k x e (statement.Count table) idle next refl
+table_count st k x table good here idle next (Ok p) is = count_planned st k x table p good idle next (is ∙ ap (λ s. count_outcome s table) (same_sight st k x here))
+table_count st k x table good here idle next (Err e) is = want_planned st k x e (statement.Count table) idle next refl
 
 -- the payload of a statement of a script
 pub short_payload : (st : State) (k : ℕ) (x : Session) (table : List ℕ) (key : ℕ) (payload : List ℕ) → IsGood st → slice_get st.sessions.items k ≡ Some x →

@@ -129,10 +129,10 @@ length_scripts [] = refl
 length_scripts (y ∷ sessions) = let e = length_scripts sessions in omega (arith, e)
 
 -- the state before the first turn
-pub begin_state : (scripts : List (List Statement)) (image : Image) (sessions : List Session) → HasWholePages image → 16 ≤ length image → AreNew scripts sessions →
+pub begin_state : (scripts : List (List Statement)) (image : Image) (sessions : List Session) → HasWholePages image → HasShape Small (length image) → AreNew scripts sessions →
     IsState (run_of image sessions) [] image sessions 0 0 0
-begin_state scripts image sessions whole many are = record {
-  start = record { forms = tt; rules = tt; whole = whole; many = many };
+begin_state scripts image sessions whole shape are = record {
+  start = record { forms = tt; rules = tt; whole = whole; shape = shape };
   legal = tt;
   pages_are = refl;
   few = sym (length_scripts sessions);
@@ -216,7 +216,7 @@ good_fresh image scripts st fresh =
     let sessions = st.sessions.items in
     let run = run_of image sessions in
     let shape = fresh.shape in
-    let at_first = begin_state scripts image sessions fresh.whole shape.low fresh.new in
+    let at_first = begin_state scripts image sessions fresh.whole shape fresh.new in
     let count = length_new scripts sessions fresh.new in
     let few = fresh.few in
     let last = fresh.last in

@@ -18,7 +18,8 @@ use Rattle.spec_script.specs.Refusals.{plain_refusal}
 use Rattle.spec_plan.specs.Refusals.{log_full}
 use Rattle.spec_plan.specs.Sight.{Outcome, Refuses, Counts, Writes as Writing}
 use Rattle.spec_run.specs.Shapes.{Writing as WritingShape, plain_start, tran_to_write}
-use Rattle.spec_run.specs.Begun.{Setting, Answers, Begun, with_memory, refused, by_outcome}
+use Rattle.spec_run.specs.Begun.{Setting, Answers, Begun, with_memory, refused, begun_by}
+use Rattle.spec_run.specs.Sights.{by_outcome}
 use Rattle.spec_run.specs.Progress.{is_short, work_of, MayCome}
 use Rattle.spec_run.specs.Sessions.{open_after}
 use Rattle.law_undo.proofs.Holders.{unfinished_from}
@@ -73,12 +74,12 @@ short_step run log s place old new st b pages x h ps pi want r =
     })
 
 -- any outcome may end for want of memory
-pub want_of : (log : List Record) (s i t : ℕ) (o : Outcome) → (by_outcome log s i t o).want ≡ Some (plain_start s i t 701)
-want_of log s i t (Refuses refusal) = refl
-want_of log s i t (Counts count) = refl
-want_of log s i t (Writing takes changes) =
-    cond_both (passes_limit log (tran_to_write log t) (length changes) (planned_size changes)) (refused s i t log_full)
-    (with_memory s i t (WritingShape (tran_to_write log t) takes changes (eqb t 0)) (Rows 1 [])) (λ b. b.want ≡ Some (plain_start s i t 701)) (λ e. refl) (λ e. refl)
+pub want_of : (log : List Record) (t : ℕ) (o : Outcome) → (by_outcome log t o).may_want ≡ true
+want_of log t (Refuses refusal) = refl
+want_of log t (Counts count) = refl
+want_of log t (Writing takes changes) =
+    cond_both (passes_limit log (tran_to_write log t) (length changes) (planned_size changes)) (refused t log_full)
+    (with_memory (WritingShape (tran_to_write log t) takes changes (eqb t 0)) (Rows 1 [])) (λ b. b.may_want ≡ true) (λ e. refl) (λ e. refl)
 
 -- the Start of changes, which come next
 going_on : (run : Setting) (log : List Record) (s u : ℕ) (takes : List Resource) (old new : Session) (st : Statement) (b : Begun) (y : Record) (changes : List Planned) (own : Bool) → IsBegun run log s old st b →
@@ -110,7 +111,7 @@ fresh_unfinished g s i u number changes size takes above =
 
 -- what a writing statement appends
 abbrev pub writing_of : ℕ → ℕ → ℕ → ℕ → List Resource → List Planned → Bool → Begun
-writing_of s i t u takes changes own = with_memory s i t (WritingShape u takes changes own) (Rows 1 [])
+writing_of s i t u takes changes own = begun_by s i t (with_memory (WritingShape u takes changes own) (Rows 1 []))
 
 own_step : (run : Setting) (log : List Record) (s last : ℕ) (place : StatementNo) (takes : List Resource) (changes : List Planned) (old new : Session) (st : Statement) (b : Begun) (pages : Image) (x : Record) →
     IsBegun run log s old st b → place.session ≡ s → place.index ≡ length old.replies.items + 1 → last ≡ greatest_of (whole_log run log) →

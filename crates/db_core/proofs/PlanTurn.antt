@@ -1,5 +1,5 @@
 -- The turn of a statement that may begin.
-use Rattle.std.proofs.Common.{◌≡◌, ℕ, ◌+◌, ◌-◌, ◌*◌, ◌<◌, ◌≤◌, false, eqb, [], ◌∷◌, ◌++◌, length, Some, Ok, Err, refl, sym, ap, ◌∙◌, subst, arith, vec_len, vec_capacity}
+use Rattle.std.proofs.Common.{◌≡◌, ℕ, ◌+◌, ◌-◌, ◌*◌, ◌<◌, ◌≤◌, false, eqb, [], ◌∷◌, ◌++◌, length, Some, None, Ok, Err, refl, sym, ap, ◌∙◌, subst, arith, vec_len, vec_capacity}
 use Rattle.std.specs.Prelude.{if◌then◌else◌, slice_get, IfOk}
 use Rattle.std.specs.declared.result.Result.{Result}
 use Rattle.std.proofs.lemmas.Option.{slice_get_within}
@@ -10,8 +10,8 @@ use Rattle.spec_script.specs.declared.reply.Reply.TheVariants.{Rows, Refused}
 use Rattle.spec_plan.specs.Planned.{planned_size}
 use Rattle.spec_script.specs.Refusals.{plain_refusal}
 use Rattle.spec_plan.specs.Refusals.{log_full}
-use Rattle.spec_run.specs.Shapes.{tran_to_write}
-use Rattle.spec_run.specs.Begun.{Begun, begun, refused}
+use Rattle.spec_run.specs.Shapes.{Writing as WritingShape, plain_start, items_by, tran_to_write}
+use Rattle.spec_run.specs.Begun.{Becoming, begun, begun_by, with_memory, refused}
 use Rattle.db_heap.specs.declared.plan.Plan.{Plan}
 use Rattle.db_heap.specs.declared.plan.Plan.TheVariants as plan
 use Rattle.db_core.specs.declared.session.Session.{Session}
@@ -25,7 +25,7 @@ use Rattle.db_core.specs.Words.{IsEnded}
 use Rattle.db_core.proofs.Good.{part_of_sum, log_more, IsMid, IsStep, stepped_good, stepped_turn}
 use Rattle.db_core.proofs.Left.{leaves_others}
 use Rattle.db_core.proofs.Records.{IsBegun}
-use Rattle.db_core.proofs.PlanSteps.{HasBegun, ended_step, short_step, want_of, writing_of, writing_step, used_is, passes_is, all_more, bytes_more}
+use Rattle.db_core.proofs.PlanSteps.{HasBegun, ended_step, short_step, writing_step, used_is, passes_is, all_more, bytes_more}
 use Rattle.db_core.proofs.PlanRooms.{PlanRoom, limits, no_bytes, ended_room, used_low, writes_room, ended_announces, writes_announces}
 
 -- how many changes come
@@ -89,12 +89,12 @@ starts st k place x y (Ok (plan.Refused refusal)) item good here ready ps pi kep
     let h = ready.planned in
     ended st k refusal.number place (Refused refusal) x y (Ok (plan.Refused refusal)) item good here h kept_room
     (ended_step (run_is st) (log_of st) (k + 1) refusal.number place (Refused refusal) x y h.statement _ st.frames item (begun_now st k x _ good here h) ps pi h.by_plan.1
-    (ap (λ (b : Begun). b.items) h.by_plan.0) (ap (λ (b : Begun). b.telling) h.by_plan.0) r) r
+    (ap (λ (b : Becoming). items_by (k + 1) (length x.replies.items + 1) b.shape) h.by_plan.0) (ap (λ (b : Becoming). b.telling) h.by_plan.0) r) r
 starts st k place x y (Ok (plan.Counted count)) item good here ready ps pi kept_room r =
     let h = ready.planned in
     ended st k 0 place (Rows count []) x y (Ok (plan.Counted count)) item good here h kept_room
     (ended_step (run_is st) (log_of st) (k + 1) 0 place (Rows count []) x y h.statement _ st.frames item (begun_now st k x _ good here h) ps pi refl
-    (ap (λ (b : Begun). b.items) h.by_plan.0) (ap (λ (b : Begun). b.telling) h.by_plan.0) r) r
+    (ap (λ (b : Becoming). items_by (k + 1) (length x.replies.items + 1) b.shape) h.by_plan.0) (ap (λ (b : Becoming). b.telling) h.by_plan.0) r) r
 starts st k place x y (Ok (plan.Written takes changes)) item good here ready ps pi kept_room r =
     let h = ready.planned in
     let g = whole_log (run_is st) (log_of st) in
@@ -104,7 +104,8 @@ starts st k place x y (Ok (plan.Written takes changes)) item good here ready ps 
     let size = planned_size changes.items in
     let u = tran_to_write g x.tran in
     let passes = passes_is g u (used_now x) st.all st.size n size (used_is (run_is st) (log_of st) s x (good.state.each k x here)) good.state.all_is good.state.size_is in
-    let is_b = h.by_plan.0 ∙ ap (λ c. if c then refused s i x.tran log_full else writing_of s i x.tran u takes changes.items (eqb x.tran 0)) (passes ∙ ready.free.within) in
+    let is_b = ap (begun_by s i x.tran)
+    (h.by_plan.0 ∙ ap (λ c. if c then refused x.tran log_full else with_memory (WritingShape u takes changes.items (eqb x.tran 0)) (Rows 1 [])) (passes ∙ ready.free.within)) in
     let room = good.each_room k x here in
     let low = limits (used_now x) st.all st.size n size ready.free.within (used_low x room) good.all_low good.size_low (no_bytes changes.items) in
     let says = writes_announces st.last place takes changes.items x y item r in
@@ -122,10 +123,9 @@ starts st k place x y (Ok (plan.Written takes changes)) item good here ready ps 
     }
 starts st k place x y (Err e) item good here ready ps pi kept_room r =
     let h = ready.planned in
-    let g = whole_log (run_is st) (log_of st) in
     ended st k 701 place (Refused (plain_refusal 701)) x y (Err e) item good here h kept_room
     (short_step (run_is st) (log_of st) (k + 1) place x y h.statement _ st.frames item (begun_now st k x _ good here h) ps pi
-    (ap (λ (b : Begun). b.want) h.by_plan.1 ∙ want_of g (k + 1) (length x.replies.items + 1) x.tran h.by_plan.0) r) r
+    (ap (λ c. if c then Some (plain_start (k + 1) (length x.replies.items + 1) x.tran 701) else None) h.by_plan) r) r
 
 -- the room that is left
 space_left : (st : State) (k n : ℕ) (x y : Session) → IsGood st → slice_get st.sessions.items k ≡ Some x → PlanRoom x y n → vec_len st.items + (st.owed + 2 * n) ≤ vec_capacity st.items →

@@ -8,13 +8,12 @@ use Rattle.spec_file.specs.declared.data.NoMemory.{NoMemory}
 use Rattle.spec_file.specs.declared.geometry.Geometry.TheVariants.{Small}
 use Rattle.spec_file.specs.Places.{HasShape}
 use Rattle.spec_log.specs.declared.item.Record.{Record}
-use Rattle.spec_script.specs.declared.reply.Reply.{Reply}
 use Rattle.spec_script.specs.declared.reply.Reply.TheVariants.{Rows}
 use Rattle.spec_plan.specs.Planned.{planned_size}
 use Rattle.spec_script.specs.Refusals.{plain_refusal}
 use Rattle.spec_plan.specs.Refusals.{log_full}
 use Rattle.spec_run.specs.Shapes.{Writing as WritingShape, tran_to_write}
-use Rattle.spec_run.specs.Begun.{Setting, begun, with_memory, refused}
+use Rattle.spec_run.specs.Begun.{Setting, Becoming, becomes, with_memory, refused}
 use Rattle.spec_run.specs.Progress.{progress_of}
 use Rattle.spec_run.specs.Turns.{AreTold, told_to, Turn}
 use Rattle.db_heap.specs.declared.plan.Plan.{Plan}
@@ -29,7 +28,7 @@ use Rattle.db_core.specs.Plans.{IsProper, IsByPlan, IsPlanned, used_now, exceeds
 use Rattle.db_core.proofs.Good.{get_below, get_put, get_same, sum_set, run_same}
 use Rattle.db_core.proofs.Keeps.{get_set}
 use Rattle.db_core.proofs.Left.{leaves_others}
-use Rattle.db_core.proofs.PlanSteps.{used_is, passes_is}
+use Rattle.db_core.proofs.PlanSteps.{want_of, used_is, passes_is}
 
 same_session : (run : Setting) (log : List Record) (s : ℕ) (x y : Session) → IsSame x y → IsSession run log s x → IsSession run log s y
 same_session run log s x y same mine = record {
@@ -156,16 +155,15 @@ roomier_same k old new x y here there r =
 -- what was planned for it
 pub roomier_planned : (k : ℕ) (old new : State) (x y : Session) (result : Result Plan NoMemory) → IsRoomier k old new → IsSame x y → IsPlanned old k x result → IsPlanned new k y result
 roomier_planned k old new x y result r same p =
-    let by : Setting → List Record → List Reply → ℕ → Type 0 =
-    λ run log rs t. IsByPlan (begun run log (k + 1) (length rs + 1) t p.statement) (whole_log run log) (k + 1) (length rs + 1) t result in
+    let by : Setting → List Record → ℕ → Type 0 =
+    λ run log t. IsByPlan (becomes run log t p.statement) (whole_log run log) t result in
     record {
       idle = same.doing ∙ p.idle;
       statement = p.statement;
       next = ap (λ ss. slice_get ss (length y.replies.items)) same.kept.script ∙ ap (λ rs. slice_get x.script.items (length rs)) same.replies ∙ p.next;
-      by_plan = subst (λ run. by run (log_of new) y.replies.items y.tran) (sym (roomier_run k old new r))
-          (subst (λ log. by (run_is old) log y.replies.items y.tran) (sym (roomier_log k old new r))
-          (subst (λ rs. by (run_is old) (log_of old) rs y.tran) (sym same.replies)
-          (subst (by (run_is old) (log_of old) x.replies.items) (sym same.kept.tran) p.by_plan)));
+      by_plan = subst (λ run. by run (log_of new) y.tran) (sym (roomier_run k old new r))
+          (subst (λ log. by (run_is old) log y.tran) (sym (roomier_log k old new r))
+          (subst (by (run_is old) (log_of old)) (sym same.kept.tran) p.by_plan));
     }
 
 same_used : (x y : Session) → IsSame x y → used_now y ≡ used_now x
@@ -173,20 +171,19 @@ same_used x y same = ap (λ t. if eqb t 0 then 0 else y.used) same.kept.tran ∙
 
 -- a plan whose limits are passed is refused instead
 limited_by : (st : State) (k : ℕ) (x : Session) (p : Plan) (b : _) → IsGood st → slice_get st.sessions.items k ≡ Some x →
-    IsByPlan b (whole_log (run_is st) (log_of st)) (k + 1) (length x.replies.items + 1) x.tran (Ok p) →
-    IsByPlan b (whole_log (run_is st) (log_of st)) (k + 1) (length x.replies.items + 1) x.tran (Ok (limited (used_now x) st.all st.size p))
+    IsByPlan b (whole_log (run_is st) (log_of st)) x.tran (Ok p) →
+    IsByPlan b (whole_log (run_is st) (log_of st)) x.tran (Ok (limited (used_now x) st.all st.size p))
 limited_by st k x (plan.Refused refusal) b good here by = by
 limited_by st k x (plan.Counted count) b good here by = by
 limited_by st k x (plan.Written takes changes) b good here by =
     let g = whole_log (run_is st) (log_of st) in
     let s = k + 1 in
-    let i = length x.replies.items + 1 in
     let n = length changes.items in
     let size = planned_size changes.items in
-    let whole = with_memory s i x.tran (WritingShape (tran_to_write g x.tran) takes changes.items (eqb x.tran 0)) (Rows 1 []) in
+    let whole = with_memory (WritingShape (tran_to_write g x.tran) takes changes.items (eqb x.tran 0)) (Rows 1 []) in
     let passes = passes_is g (tran_to_write g x.tran) (used_now x) st.all st.size n size (used_is (run_is st) (log_of st) s x (good.state.each k x here)) good.state.all_is good.state.size_is in
-    cond_both (exceeds (used_now x) st.all st.size n size) (plan.Refused (plain_refusal 9002)) (plan.Written takes changes) (λ q. IsByPlan b g s i x.tran (Ok q))
-    (λ e. (by.0 ∙ ap (λ c. if c then refused s i x.tran log_full else whole) (passes ∙ e), refl))
+    cond_both (exceeds (used_now x) st.all st.size n size) (plan.Refused (plain_refusal 9002)) (plan.Written takes changes) (λ q. IsByPlan b g x.tran (Ok q))
+    (λ e. (by.0 ∙ ap (λ c. if c then refused x.tran log_full else whole) (passes ∙ e), refl))
     (λ e. by)
 
 pub limited_planned : (st : State) (k : ℕ) (x : Session) (p : Plan) → IsGood st → slice_get st.sessions.items k ≡ Some x → IsPlanned st k x (Ok p) →
@@ -206,7 +203,7 @@ few_in (plan.Written takes changes) h = h.1
 
 -- want of memory may come in any case
 pub want_planned : (st : State) (k : ℕ) (x : Session) (p : Plan) (e : NoMemory) → IsPlanned st k x (Ok p) → IsPlanned st k x (Err e)
-want_planned st k x p e h = record { idle = h.idle; statement = h.statement; next = h.next; by_plan = (outcome_of p, h.by_plan.0) }
+want_planned st k x p e h = record { idle = h.idle; statement = h.statement; next = h.next; by_plan = ap (λ (b : Becoming). b.may_want) h.by_plan.0 ∙ want_of (whole_log (run_is st) (log_of st)) x.tran (outcome_of p) }
 
 pub want_ready : (st : State) (k : ℕ) (x : Session) (e f : NoMemory) → IsPlanned st k x (Err e) → IsReady st k x (Err f)
 want_ready st k x e f h = record { planned = record { idle = h.idle; statement = h.statement; next = h.next; by_plan = h.by_plan }; free = tt }

@@ -1,6 +1,6 @@
 -- Over an empty log no check ends without its report but for want of memory.
 use Rattle.std.proofs.Common.{◌≡◌, ℕ, ◌+◌, Bool, true, false, ◌||◌, eqb, List, [], ◌∷◌, ◌++◌, length, reverse, Option, Some, None, refl, ap, ◌∙◌, subst, sym}
-use Rattle.std.specs.Prelude.{slice_get}
+use Rattle.std.specs.Prelude.{slice_get, sum_by}
 use Rattle.std.specs.List.{list_any}
 use Rattle.std.proofs.lemmas.Bool.{cond_both, or_from}
 use Rattle.std.proofs.lemmas.List.Folds.{list_any-append}
@@ -16,12 +16,24 @@ use Rattle.spec_script.specs.declared.reply.Reply.TheVariants.{Done, Rows, Refus
 use Rattle.spec_script.specs.declared.statement.Statement.{Statement}
 use Rattle.spec_script.specs.declared.statement.Statement.TheVariants as statement
 use Rattle.spec_plan.specs.Planned.{planned_size}
-use Rattle.spec_plan.specs.Refusals.{is_open, nothing_to_commit, nothing_to_undo, log_full}
-use Rattle.spec_plan.specs.Sight.{Outcome, Refuses, Counts, Writes}
-use Rattle.spec_plan.specs.Statements.{count_outcome, insert_outcome}
+use Rattle.spec_plan.specs.Refusals.{is_open, nothing_to_commit, nothing_to_undo, log_full, no_room}
+use Rattle.spec_plan.specs.Rows.{heap_row}
+use Rattle.spec_plan.specs.declared.plan.Planned.{Planned}
+use Rattle.spec_file.specs.declared.data.Resource.{Resource}
+use Rattle.spec_file.specs.declared.data.Resource.TheVariants as resource
+use Rattle.spec_rows.specs.Slots.{slot_count}
 use Rattle.spec_run.specs.Sessions.{session_of}
 use Rattle.spec_run.specs.Shapes.{Refused as Refusing, Opening, Writing, Committing, RollingBack, tran_to_write}
-use Rattle.spec_run.specs.Begun.{Setting, Telling, Answers, Reports, Tells, Begun, begun, by_damage, by_outcome, refused, sight_of, surely, with_memory}
+use Rattle.spec_words.specs.NetChanges.{FileShape}
+use Rattle.spec_words.specs.Takes.{changes_at, takes_at}
+use Rattle.spec_words.specs.Views.{View, End, Gives, Stops}
+use Rattle.spec_words.specs.Words.{refuse, take, found_or, first_of, all_of}
+use Rattle.spec_words.specs.Tables.{table_of, table_pages}
+use Rattle.spec_words.specs.Heaps.{heap_page, room_on, row_put, insert_plan, count_plan}
+use Rattle.law_net.specs.GoodViews.{IfGives, Leads}
+use Rattle.law_net.proofs.WordLaws.{leads_then, leads_give}
+use Rattle.law_run.proofs.Agreed.{always}
+use Rattle.spec_run.specs.Begun.{Setting, Telling, Answers, Reports, Tells, Becoming, shape_of, view_at, surely, with_memory, refused, by_changes, by_taken, by_end, by_damage, becomes}
 use Rattle.spec_run.specs.Progress.{Progress, progress_of, at_work, with_statement, script_of, is_short, cut_short, moved_to, moved}
 use Rattle.spec_run.specs.Turns.{AreTold, told_to}
 use Rattle.db_core.specs.Reports.{is_terminated}
@@ -52,29 +64,56 @@ any_reverse p (x ∷ xs) =
     ∙ ap (λ b. b || (p x || false)) (any_reverse p xs) ∙ or_swap (list_any p xs) (p x)
 
 -- what becomes of each statement
-outcome_silent : (log : List Record) (s i t : ℕ) (o : Outcome) → IsSilent (by_outcome log s i t o).telling
-outcome_silent log s i t (Refuses refusal) = refl
-outcome_silent log s i t (Counts count) = refl
-outcome_silent log s i t (Writes takes changes) =
+changes_silent : (log : List Record) (t : ℕ) (reply : Reply) (takes : List Resource) (changes : List Planned) → is_terminated reply ≡ false → IsSilent (by_changes log t reply takes changes).telling
+changes_silent log t reply takes changes silent =
     let u = tran_to_write log t in
-    cond_both (passes_limit log u (length changes) (planned_size changes)) (refused s i t log_full) (with_memory s i t (Writing u takes changes (eqb t 0)) (Rows 1 []))
-    (λ (b : Begun). IsSilent b.telling) (λ _. refl) (λ _. refl)
+    cond_both (passes_limit log u (length changes) (planned_size changes)) (refused t log_full) (with_memory (Writing u takes changes (eqb t 0)) reply)
+    (λ (b : Becoming). IsSilent b.telling) (λ _. refl) (λ _. silent)
 
-begun_silent : (run : Setting) (log : List Record) (s i t : ℕ) (st : Statement) → run.opened ≡ [] → IsSilent (begun run log s i t st).telling
-begun_silent run log s i t statement.Begin none =
-    cond_both (eqb t 0) (surely s i (Opening (greatest_of (log ++ run.opened) + 1)) Done) (surely s i (Refusing t IS_OPEN) (Refused is_open))
-    (λ (b : Begun). IsSilent b.telling) (λ _. refl) (λ _. refl)
-begun_silent run log s i t statement.Commit none =
-    cond_both (eqb t 0) (surely s i (Refusing t NOTHING_TO_COMMIT) (Refused nothing_to_commit)) (surely s i (Committing t) Done)
-    (λ (b : Begun). IsSilent b.telling) (λ _. refl) (λ _. refl)
-begun_silent run log s i t statement.Rollback none =
-    cond_both (eqb t 0) (surely s i (Refusing t NOTHING_TO_UNDO) (Refused nothing_to_undo)) (surely s i (RollingBack t (left_of t (log ++ run.opened))) Done)
-    (λ (b : Begun). IsSilent b.telling) (λ _. refl) (λ _. refl)
-begun_silent run log s i t (statement.Insert table key payload) none =
-    outcome_silent (log ++ run.opened) s i t (insert_outcome (sight_of run log t) table key payload)
-begun_silent run log s i t (statement.Count table) none = outcome_silent (log ++ run.opened) s i t (count_outcome (sight_of run log t) table)
-begun_silent run log s i t (statement.Check workers) none =
-    subst (λ damage. IsSilent (by_damage run log s i damage).telling) (sym (ap (λ o. damaged_page o run.image) none)) refl
+end_silent : (log : List Record) (t : ℕ) (end : End Reply) → IfGives (λ reply view. is_terminated reply ≡ false) end → IsSilent (by_end log t end).telling
+end_silent log t (Stops refusal) silent = refl
+end_silent log t (Gives reply view) silent = by_takes view.taken
+  where
+    by_takes : (taken : List Resource) → IsSilent (by_taken log t reply view taken).telling
+    by_takes [] = silent
+    by_takes (r ∷ taken) = changes_silent log t reply (takes_at view) (changes_at view) silent
+
+-- INSERT and COUNT give rows
+insert_rows : (shape : FileShape) (name : List ℕ) (key : ℕ) (payload : List ℕ) (v : View) → Leads (insert_plan shape name key payload) v (λ reply view. is_terminated reply ≡ false)
+insert_rows shape name key payload v =
+    let bytes = heap_row key payload in
+    let K : Reply → View → Type 0 = λ reply view. is_terminated reply ≡ false in
+    leads_then (table_of name) _ v K (always (table_of name) v _ (λ row w.
+    leads_then (table_pages shape row) _ w K (always (table_pages shape row) w _ (λ pages x.
+    leads_then (take (resource.Table (record { 0 = row.id }))) _ x K (always (take (resource.Table (record { 0 = row.id }))) x _ (λ u y.
+    leads_then (first_of (room_on shape row (length bytes)) pages) _ y K (always (first_of (room_on shape row (length bytes)) pages) y _ (λ found z.
+    leads_then (found_or found (refuse no_room)) _ z K (always (found_or found (refuse no_room)) z _ (λ p q.
+    leads_then (row_put shape p bytes) _ q K (always (row_put shape p bytes) q _ (λ s a. leads_give (Rows 1 []) a K refl))))))))))))
+
+count_rows : (shape : FileShape) (name : List ℕ) (v : View) → Leads (count_plan shape name) v (λ reply view. is_terminated reply ≡ false)
+count_rows shape name v =
+    let K : Reply → View → Type 0 = λ reply view. is_terminated reply ≡ false in
+    leads_then (table_of name) _ v K (always (table_of name) v _ (λ row w.
+    leads_then (table_pages shape row) _ w K (always (table_pages shape row) w _ (λ pages x.
+    leads_then (all_of (heap_page shape row) pages) _ x K (always (all_of (heap_page shape row) pages) x _ (λ found y.
+    leads_give (Rows (sum_by slot_count found) []) y K refl))))))
+
+becomes_silent : (run : Setting) (log : List Record) (t : ℕ) (st : Statement) → run.opened ≡ [] → IsSilent (becomes run log t st).telling
+becomes_silent run log t statement.Begin none =
+    cond_both (eqb t 0) (surely (Opening (greatest_of (log ++ run.opened) + 1)) Done) (surely (Refusing t IS_OPEN) (Refused is_open))
+    (λ (b : Becoming). IsSilent b.telling) (λ _. refl) (λ _. refl)
+becomes_silent run log t statement.Commit none =
+    cond_both (eqb t 0) (surely (Refusing t NOTHING_TO_COMMIT) (Refused nothing_to_commit)) (surely (Committing t) Done)
+    (λ (b : Becoming). IsSilent b.telling) (λ _. refl) (λ _. refl)
+becomes_silent run log t statement.Rollback none =
+    cond_both (eqb t 0) (surely (Refusing t NOTHING_TO_UNDO) (Refused nothing_to_undo)) (surely (RollingBack t (left_of t (log ++ run.opened))) Done)
+    (λ (b : Becoming). IsSilent b.telling) (λ _. refl) (λ _. refl)
+becomes_silent run log t (statement.Insert table key payload) none =
+    end_silent (log ++ run.opened) t (insert_plan (shape_of run) table key payload (view_at run log t)).ending (insert_rows (shape_of run) table key payload (view_at run log t))
+becomes_silent run log t (statement.Count table) none =
+    end_silent (log ++ run.opened) t (count_plan (shape_of run) table (view_at run log t)).ending (count_rows (shape_of run) table (view_at run log t))
+becomes_silent run log t (statement.Check workers) none =
+    subst (λ damage. IsSilent (by_damage run log damage).telling) (sym (ap (λ o. damaged_page o run.image) none)) refl
 
 -- a session goes on
 work_silent : (run : Setting) (log : List Record) (s : ℕ) (p : Progress) (due : List Record) → run.opened ≡ [] → IsSilentSo p → IsSilentSo (at_work run log s p due)
@@ -83,7 +122,7 @@ work_silent run log s p [] none silent = by_statement (slice_get (script_of run.
   where
     by_statement : (o : Option Statement) → IsSilentSo (with_statement run log s p o)
     by_statement None = silent
-    by_statement (Some st) = record { told = silent.told; telling = begun_silent run log s (length p.told + 1) p.tran st none }
+    by_statement (Some st) = record { told = silent.told; telling = becomes_silent run log p.tran st none }
 
 moved_silent : (w : Progress) (x : Record) → IsSilentSo w → IsSilentSo (moved w x)
 moved_silent w x silent = cond_both (is_short x) (cut_short w x) (moved_to w x (rest_of w.due)) IsSilentSo

@@ -14,7 +14,7 @@ use Rattle.spec_script.specs.declared.statement.Statement.{Statement}
 use Rattle.spec_script.specs.declared.statement.Statement.TheVariants as statement
 use Rattle.spec_plan.specs.Refusals.{out_of_memory}
 use Rattle.spec_script.specs.declared.reply.Reply.TheVariants.{Refused}
-use Rattle.spec_run.specs.Begun.{Setting, Reports, by_damage}
+use Rattle.spec_run.specs.Begun.{Setting, Reports, by_damage, begun_by}
 use Rattle.spec_run.specs.Progress.{Progress, progress_of, work_of, moved_to, MayCome}
 use Rattle.spec_run.specs.Turns.{IsLegal, AreTold, EndsAtOnce as AtOnce}
 use Rattle.law_run.specs.Laws.{IsStart}
@@ -57,7 +57,7 @@ fresh_is st k i check good f =
 -- the record of a check
 check_begun : (st : State) (k workers : ℕ) (x : Session) → IsGood st → slice_get st.sessions.items k ≡ Some x → x.doing ≡ Idle →
     slice_get x.script.items (length x.replies.items) ≡ Some (statement.Check workers) →
-    IsBegun (run_is st) (log_of st) (k + 1) x (statement.Check workers) (by_damage (run_is st) (log_of st) (k + 1) (length x.replies.items + 1) None)
+    IsBegun (run_is st) (log_of st) (k + 1) x (statement.Check workers) (begun_by (k + 1) (length x.replies.items + 1) x.tran (by_damage (run_is st) (log_of st) None))
 check_begun st k workers x good here idle next = record {
   start = good.state.start;
   legal = good.state.legal;
@@ -133,7 +133,7 @@ snap_good st k workers place check x y item good here idle next fresh ps pi b =
 
 -- the session behind a check that finds no memory, the history, and the other sessions
 short_session : (run : Setting) (log : List Record) (s i : ℕ) (x y : Session) → IsStart run → IsLegal run log → 0 < s → s ≤ length run.scripts → IsSession run log s x →
-    work_of run s log ≡ with_begun (progress_of run s log) (by_damage run log s i None) → MayCome (work_of run s log) (Snap s i) →
+    work_of run s log ≡ with_begun (progress_of run s log) (begun_by s i x.tran (by_damage run log None)) → MayCome (work_of run s log) (Snap s i) →
     y.script.items ≡ x.script.items → y.replies.items ≡ x.replies.items ++ Refused out_of_memory ∷ [] → y.tran ≡ x.tran → y.doing ≡ Idle →
     y.left.items ≡ x.left.items → y.held.items ≡ x.held.items → y.used ≡ x.used →
     IsSession run (CheckEnd s i 3 ∷ (Snap s i ∷ log)) s y × IsLegal run (CheckEnd s i 3 ∷ (Snap s i ∷ log))

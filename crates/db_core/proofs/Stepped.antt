@@ -34,7 +34,7 @@ use Rattle.db_core.specs.declared.session.Doing.TheVariants.{Idle, Changing, End
 use Rattle.db_core.specs.declared.session.Session.{Session}
 use Rattle.vol_pool.specs.Cells.{FitsCell, MayPutBack, MayUndo}
 use Rattle.db_core.specs.States.{whole_log, reply_of, IsAt, IsSession, IsState, IsChanging, GoesOnWith, StepsBack, MayStep, StepsBy}
-use Rattle.db_core.proofs.Keeps.{steps_of, keeps}
+use Rattle.db_core.proofs.Keeps.{steps_of}
 use Rattle.db_core.proofs.Next.{change_comes, ChangeKept, change_goes, change_ends, commit_comes, commit_ends, undo_comes, undo_goes, abort_comes, abort_ends}
 
 -- lists read from their ends

@@ -12,7 +12,7 @@ use Rattle.spec_script.specs.declared.reply.Reply.TheVariants.{Done, Refused}
 use Rattle.spec_script.specs.declared.statement.Statement.{Statement}
 use Rattle.spec_script.specs.Refusals.{plain_refusal}
 use Rattle.spec_run.specs.Shapes.{plain_start, Opening, Refused as Refusing, Committing, RollingBack}
-use Rattle.spec_run.specs.Begun.{Setting, Begun, surely, begun}
+use Rattle.spec_run.specs.Begun.{Setting, Begun, Becoming, surely, begun_by, begun}
 use Rattle.spec_run.specs.Progress.{Progress, progress_of}
 use Rattle.spec_run.specs.Turns.{IsLegal}
 use Rattle.law_run.specs.Laws.{IsStart}
@@ -56,7 +56,7 @@ kept_opens run log s number place old new start legal mine kept left =
 -- a refusal
 refusal_step : (run : Setting) (log : List Record) (s number : ℕ) (place : StatementNo) (old new : Session) (st : Statement) (b : Begun) (pages : Image) (x : Record) → IsBegun run log s old st b →
     place.session ≡ s → place.index ≡ length old.replies.items + 1 → eqb number 701 ≡ false →
-    b ≡ surely s (length old.replies.items + 1) (Refusing old.tran number) (Refused (plain_refusal number)) → IsRefusal place number old new x → IsStepped run log s new pages pages x
+    b ≡ begun_by s (length old.replies.items + 1) old.tran (surely (Refusing old.tran number) (Refused (plain_refusal number))) → IsRefusal place number old new x → IsStepped run log s new pages pages x
 refusal_step run log s number place old new st b pages x h ps pi whole is_b r =
     let y = plain_start s (length old.replies.items + 1) old.tran number in
     let item : x ≡ y = r.item ∙ ap (λ m. plain_start m place.index old.tran number) ps ∙ ap (λ m. plain_start s m old.tran number) pi in
@@ -94,7 +94,7 @@ going_step run log s place old new st b rest pages x d h ps pi items some r at =
 -- the new transaction of BEGIN
 opening_step : (run : Setting) (log : List Record) (s last : ℕ) (place : StatementNo) (old new : Session) (st : Statement) (b : Begun) (pages : Image) (x : Record) → IsBegun run log s old st b →
     place.session ≡ s → place.index ≡ length old.replies.items + 1 → last ≡ greatest_of (whole_log run log) →
-    b ≡ surely s (length old.replies.items + 1) (Opening (greatest_of (whole_log run log) + 1)) Done → IsOpening place (last + 1) old new x → IsStepped run log s new pages pages x
+    b ≡ begun_by s (length old.replies.items + 1) old.tran (surely (Opening (greatest_of (whole_log run log) + 1)) Done) → IsOpening place (last + 1) old new x → IsStepped run log s new pages pages x
 opening_step run log s last place old new st b pages x h ps pi last_is is_b r =
     let g = whole_log run log in
     let u = greatest_of g + 1 in
@@ -128,31 +128,31 @@ opening_step run log s last place old new st b pages x h ps pi last_is is_b r =
           not_ended = ap not (not_ended_above g (greatest_of g + 1) above);
         })
 
-choose_yes : (t : ℕ) (x y : Begun) → t ≡ 0 → (if eqb t 0 then x else y) ≡ x
-choose_yes t x y e = ap (λ c. if c then x else y) (eq-eqb t 0 e)
+choose_yes : (s i t : ℕ) (x y : Becoming) → t ≡ 0 → begun_by s i t (if eqb t 0 then x else y) ≡ begun_by s i t x
+choose_yes s i t x y e = ap (λ c. begun_by s i t (if c then x else y)) (eq-eqb t 0 e)
 
-choose_no : (t : ℕ) (x y : Begun) → (t ≡ 0 → ⊥) → (if eqb t 0 then x else y) ≡ y
-choose_no t x y n = ap (λ c. if c then x else y) (ne_eqb t 0 n)
+choose_no : (s i t : ℕ) (x y : Becoming) → (t ≡ 0 → ⊥) → begun_by s i t (if eqb t 0 then x else y) ≡ begun_by s i t y
+choose_no s i t x y n = ap (λ c. begun_by s i t (if c then x else y)) (ne_eqb t 0 n)
 
 -- whatever the statement is
 pub word_step : (run : Setting) (log : List Record) (s last : ℕ) (place : StatementNo) (old new : Session) (word : Word) (pages : Image) (x : Record) →
     IsBegun run log s old (statement_of word) (begun run log s (length old.replies.items + 1) old.tran (statement_of word)) →
     place.session ≡ s → place.index ≡ length old.replies.items + 1 → last ≡ greatest_of (whole_log run log) → StartsBy word last place old new x → IsStepped run log s new pages pages x
 word_step run log s last place old new Begin pages x h ps pi last_is (inl r) =
-    opening_step run log s last place old new (statement_of Begin) _ pages x h ps pi last_is (choose_yes old.tran _ _ r.0) r.1
+    opening_step run log s last place old new (statement_of Begin) _ pages x h ps pi last_is (choose_yes s (length old.replies.items + 1) old.tran _ _ r.0) r.1
 word_step run log s last place old new Begin pages x h ps pi last_is (inr r) =
-    refusal_step run log s 60001 place old new (statement_of Begin) _ pages x h ps pi refl (choose_no old.tran _ _ r.0) r.1
+    refusal_step run log s 60001 place old new (statement_of Begin) _ pages x h ps pi refl (choose_no s (length old.replies.items + 1) old.tran _ _ r.0) r.1
 word_step run log s last place old new Commit pages x h ps pi last_is (inl r) =
-    refusal_step run log s 3902 place old new (statement_of Commit) _ pages x h ps pi refl (choose_yes old.tran _ _ r.0) r.1
+    refusal_step run log s 3902 place old new (statement_of Commit) _ pages x h ps pi refl (choose_yes s (length old.replies.items + 1) old.tran _ _ r.0) r.1
 word_step run log s last place old new Commit pages x h ps pi last_is (inr r) =
-    let is_b = choose_no old.tran (surely s (length old.replies.items + 1) (Refusing old.tran 3902) (Refused (plain_refusal 3902))) (surely s (length old.replies.items + 1) (Committing old.tran) Done) r.0 in
+    let is_b = choose_no s (length old.replies.items + 1) old.tran (surely (Refusing old.tran 3902) (Refused (plain_refusal 3902))) (surely (Committing old.tran) Done) r.0 in
     going_step run log s place old new (statement_of Commit) _ (change_items old.tran [] true) pages x (Ending None) h ps pi (ap (λ (c : Begun). c.items) is_b) (some_commit old.tran) r.1
     (λ p due tell. (due, tell ∙ ap (λ (c : Begun). c.telling) is_b))
 word_step run log s last place old new Rollback pages x h ps pi last_is (inl r) =
-    refusal_step run log s 3903 place old new (statement_of Rollback) _ pages x h ps pi refl (choose_yes old.tran _ _ r.0) r.1
+    refusal_step run log s 3903 place old new (statement_of Rollback) _ pages x h ps pi refl (choose_yes s (length old.replies.items + 1) old.tran _ _ r.0) r.1
 word_step run log s last place old new Rollback pages x h ps pi last_is (inr r) =
     let left = left_of old.tran (whole_log run log) in
-    let is_b = choose_no old.tran (surely s (length old.replies.items + 1) (Refusing old.tran 3903) (Refused (plain_refusal 3903))) (surely s (length old.replies.items + 1) (RollingBack old.tran left) Done) r.0 in
+    let is_b = choose_no s (length old.replies.items + 1) old.tran (surely (Refusing old.tran 3903) (Refused (plain_refusal 3903))) (surely (RollingBack old.tran left) Done) r.0 in
     going_step run log s place old new (statement_of Rollback) _ (abort_items old.tran left) pages x Undoing h ps pi (ap (λ (c : Begun). c.items) is_b) (some_abort old.tran left) r.1
     (λ p due tell. (due, tell ∙ ap (λ (c : Begun). c.telling) is_b, above_zero old.tran r.0))
   where

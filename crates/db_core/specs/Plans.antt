@@ -12,9 +12,9 @@ use Rattle.spec_script.specs.declared.statement.Statement.{Statement}
 use Rattle.spec_plan.specs.declared.plan.Planned.{Planned}
 use Rattle.spec_plan.specs.Planned.{planned_size}
 use Rattle.spec_script.specs.Refusals.{plain_refusal}
-use Rattle.spec_plan.specs.Sight.{Outcome}
 use Rattle.law_plan.specs.Good.{HaveCells}
-use Rattle.spec_run.specs.Begun.{Begun, begun, by_outcome}
+use Rattle.spec_run.specs.Begun.{Becoming, becomes}
+use Rattle.spec_run.specs.Sights.{by_outcome}
 use Rattle.db_heap.specs.declared.plan.Plan.{Plan}
 use Rattle.db_heap.specs.declared.plan.Plan.TheVariants as plan
 use Rattle.db_heap.specs.Plans.{outcome_of}
@@ -32,18 +32,17 @@ IsProper (plan.Refused refusal) = (refusal.number == NO_MEMORY) ≡ false
 IsProper (plan.Counted count) = Unit {0}
 IsProper (plan.Written takes changes) = (length takes ≤ 3) × (length changes.items ≤ 4) × HaveCells changes.items
 
--- what becomes of a statement by its plan; where memory ran out in planning, whatever would have become of it
-abbrev pub IsByPlan : Begun → List Record → ℕ → ℕ → ℕ → Result Plan NoMemory → Type 0
-IsByPlan b log s i t (Ok p) = (b ≡ by_outcome log s i t (outcome_of p)) × IsProper p
-IsByPlan b log s i t (Err e) = (o : Outcome) × (b ≡ by_outcome log s i t o)
+-- what becomes of a statement is by its plan; where memory ran out in planning, it is a statement that may want memory
+abbrev pub IsByPlan : Becoming → List Record → ℕ → Result Plan NoMemory → Type 0
+IsByPlan b log t (Ok p) = (b ≡ by_outcome log t (outcome_of p)) × IsProper p
+IsByPlan b log t (Err e) = b.may_want ≡ true
 
 -- an idle session at `at` whose next statement was planned so
 pub record IsPlanned (st : State) (at : ℕ) (x : Session) (result : Result Plan NoMemory) : Type 0 where
   pub idle : x.doing ≡ Idle
   pub statement : Statement
   pub next : slice_get x.script.items (length x.replies.items) ≡ Some statement
-  pub by_plan : IsByPlan (begun (run_is st) (log_of st) (at + 1) (length x.replies.items + 1) x.tran statement)
-      (whole_log (run_is st) (log_of st)) (at + 1) (length x.replies.items + 1) x.tran result
+  pub by_plan : IsByPlan (becomes (run_is st) (log_of st) x.tran statement) (whole_log (run_is st) (log_of st)) x.tran result
 
 -- how many changes the session's open transaction has announced
 abbrev pub used_now : Session → ℕ

@@ -84,7 +84,7 @@ tran_ongoing st at good =
 pub good_shows : (st : State) (at : ℕ) → IsGood st → IsShown (sight_at st at) st.frames
 good_shows st at good =
     subst (IsShown (sight_at st at)) (sym good.state.pages_are)
-    (file_is_shown (run_is st) (log_of st) (tran_at st.sessions.items at) (right_of st good).sound good.state.start.whole good.state.start.many
+    (file_is_shown (run_is st) (log_of st) (tran_at st.sessions.items at) (right_of st good).sound good.state.start.whole good.state.start.shape.low
     (tran_ongoing st at good))
 
 pub good_size : (st : State) → IsGood st → HasShape Small (length st.frames)

@@ -4,7 +4,7 @@ use Rattle.std.specs.List.{list_any}
 use Rattle.spec_file.specs.declared.data.Resource.{Resource}
 use Rattle.spec_log.specs.Items.{is_same}
 use Rattle.spec_plan.specs.Sight.{Sight}
-use Rattle.spec_run.specs.Begun.{sight_of}
+use Rattle.spec_run.specs.Sights.{sight_of}
 use Rattle.db_core.specs.declared.session.Session.{Session}
 use Rattle.db_core.specs.declared.state.State.{State}
 use Rattle.db_core.specs.Store.{run_is, log_of}

@@ -86,7 +86,7 @@ agree_counted g version image other own row (p ∷ ps) sum next h =
     given : (first : List ℕ) (rest : List (List ℕ)) (v : View) (next : List (List ℕ) → Plan Reply) → ((give (first ∷ rest) then next) v).ending ≡ (next (first ∷ rest) v).ending
     given first rest v next = agree_give (λ o e. e ≡ (next (first ∷ rest) v).ending) (Counts 0) (first ∷ rest) v next refl
 
-count_agrees : (g : Geometry) (version : ℕ) (image : Image) (other : Resource → Option ℕ) (own : Resource → Bool) (name : List ℕ) →
+pub count_agrees : (g : Geometry) (version : ℕ) (image : Image) (other : Resource → Option ℕ) (own : Resource → Bool) (name : List ℕ) →
     EndsAs (shape_of g version image) (sight_of g image other own) (count_outcome (sight_of g image other own) name)
     (count_plan (shape_of g version image) name (view_of g version image other own [])).ending
 count_agrees g version image other own name =
@@ -193,7 +193,7 @@ agree_inserted g version image other own row bytes (p ∷ ps) file whole readabl
         (agree_give R o p v (λ q. row_put (shape_of g version image) q bytes then (λ u. give (Rows 1 [])))
         (agree_row g version image other own row bytes p file whole readable.0.0 readable.0.1 free good e))
 
-insert_agrees : (g : Geometry) (version : ℕ) (image : Image) (other : Resource → Option ℕ) (own : Resource → Bool) (name : List ℕ) (key : ℕ) (payload : List ℕ) →
+pub insert_agrees : (g : Geometry) (version : ℕ) (image : Image) (other : Resource → Option ℕ) (own : Resource → Bool) (name : List ℕ) (key : ℕ) (payload : List ℕ) →
     HasShape g (length image) → HasWholePages image →
     EndsAs (shape_of g version image) (sight_of g image other own) (insert_outcome (sight_of g image other own) name key payload)
     (insert_plan (shape_of g version image) name key payload (view_of g version image other own [])).ending

@@ -7,12 +7,12 @@ use Rattle.spec_file.specs.declared.data.Resource.{Resource}
 use Rattle.spec_file.specs.Image.{Image}
 use Rattle.spec_file.specs.Places.{gam_place, sgam_place}
 use Rattle.spec_words.specs.NetChanges.{FileShape, is_turned, is_byte_changed, is_page_changed}
-use Rattle.spec_words.specs.Takes.{is_among}
+use Rattle.spec_words.specs.Takes.{is_among, takes_at}
 use Rattle.spec_words.specs.Views.{View, beginning}
 use Rattle.spec_words.specs.Heaps.{insert_plan}
 use Rattle.law_net.specs.Files.{IsImageOf}
 use Rattle.law_net.specs.GoodViews.{IsGoodView}
-use Rattle.law_net.specs.Statements.{takes_at, IsGoodEnd, InsertIsGood}
+use Rattle.law_net.specs.Statements.{IsGoodEnd, InsertIsGood}
 use Rattle.law_net.proofs.NetLaw.{net_changes_are_good}
 use Rattle.law_net.proofs.WordLaws.{leads_weaker}
 use Rattle.law_net.proofs.RowBytes.{bytes_low}

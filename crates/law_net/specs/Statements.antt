@@ -3,9 +3,8 @@ use Rattle.std.specs.Prelude.{◌≡◌, ℕ, ◌*◌, ◌<◌, ◌≤◌, Bool,
 use Rattle.spec_file.specs.declared.data.Resource.{Resource}
 use Rattle.spec_file.specs.Image.{Image, AreBytes}
 use Rattle.spec_file.specs.CatalogRows.{CatalogRow}
-use Rattle.spec_plan.specs.declared.plan.Planned.{Planned}
-use Rattle.spec_words.specs.NetChanges.{FileShape, changes_of}
-use Rattle.spec_words.specs.Takes.{takes_of}
+use Rattle.spec_words.specs.NetChanges.{FileShape}
+use Rattle.spec_words.specs.Takes.{changes_at, takes_at}
 use Rattle.spec_words.specs.Views.{View, beginning}
 use Rattle.spec_words.specs.Tables.{table_pages}
 use Rattle.spec_words.specs.Heaps.{insert_plan, count_plan}
@@ -13,14 +12,7 @@ use Rattle.law_net.specs.Files.{IsImageOf}
 use Rattle.law_net.specs.NetLaw.{AreNetChanges}
 use Rattle.law_net.specs.GoodViews.{Leads}
 
--- the net changes and the takes of a view
-abbrev pub changes_at : View → List Planned
-changes_at view = changes_of view.shape view.start view.now
-
-abbrev pub takes_at : View → List Resource
-takes_at view = takes_of view.shape view.own view.taken view.start view.now
-
--- they are good, nobody else holds what is taken, and there are at most five changes for each page of the file
+-- the net changes and the takes of a view are good, nobody else holds what is taken, and there are at most five changes for each page of the file
 pub record IsGoodEnd (view : View) : Type 0 where
   pub net : AreNetChanges view.shape view.own view.taken view.start view.now (takes_at view) (changes_at view)
   pub free : All (λ r. view.other r ≡ None) (takes_at view)

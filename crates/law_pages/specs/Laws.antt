@@ -10,7 +10,8 @@ use Rattle.spec_log.specs.Rules.{KeepsRules}
 use Rattle.spec_log.specs.Sound.{IsSound}
 use Rattle.law_undo.specs.Laws.{IsOngoing}
 use Rattle.spec_plan.specs.Shown.{IsShown}
-use Rattle.spec_run.specs.Begun.{Setting, sight_of}
+use Rattle.spec_run.specs.Begun.{Setting}
+use Rattle.spec_run.specs.Sights.{sight_of}
 
 -- the file as it stands shows a transaction that hasn't ended its view, page by page
 abbrev pub FileIsShown : Type 0

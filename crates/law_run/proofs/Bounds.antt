@@ -16,7 +16,8 @@ use Rattle.spec_plan.specs.Sight.{Outcome, Refuses, Counts, Writes}
 use Rattle.spec_plan.specs.Statements.{count_outcome, insert_outcome}
 use Rattle.spec_run.specs.Shapes.{Refused as Refusing, Opening, Writing, Committing, RollingBack, plain_start, tran_to_write}
 use Rattle.spec_log.specs.Sound.{IsSound}
-use Rattle.spec_run.specs.Begun.{Setting, Answers, surely, with_memory, refused, by_outcome, by_damage, sight_of}
+use Rattle.spec_run.specs.Begun.{Setting, Becoming, Answers, surely, with_memory, refused, by_damage, begun_by}
+use Rattle.spec_run.specs.Sights.{sight_of, by_outcome}
 use Rattle.law_undo.proofs.Shapes.{view_shape, whole_shape}
 use Rattle.law_plan.specs.Good.{HaveCells}
 use Rattle.law_plan.proofs.Good.{size_bound}
@@ -26,6 +27,7 @@ use Rattle.law_plan.proofs.InsertShort.{insert_is_short}
 use Rattle.law_run.specs.Laws.{IsStart, IsBounded, BegunIsBounded}
 use Rattle.law_run.specs.Doing.{change_items, abort_items}
 use Rattle.law_run.proofs.Begins.{start_form, plain_form, snap_form, end_form}
+use Rattle.law_run.proofs.Agreed.{plans_agree}
 
 -- changes, and maybe a Commit
 change_forms : (t : ℕ) (changes : List Planned) (own : Bool) → HaveCells changes → HaveForm (change_items t changes own)
@@ -63,13 +65,17 @@ surely_bounded s i u number left reply rest hs hi forms few = record {
   few = omega (arith, few);
 }
 
+-- whatever becomes of the statement, it owes little
+abbrev pub OwesLittle : ℕ → ℕ → ℕ → ℕ → Becoming → Type 0
+OwesLittle s i t left b = IsBounded (begun_by s i t b) left
+
 -- an outcome that writes little, in cells
 abbrev pub IsSmall : Outcome → Type 0
 IsSmall (Refuses refusal) = Unit {0}
 IsSmall (Counts count) = Unit {0}
 IsSmall (Writes takes changes) = (length takes ≤ 3) × (length changes ≤ 4) × HaveCells changes
 
-outcome_bounded : (g : List Record) (s i t left : ℕ) (o : Outcome) → 0 < s → 0 < i → IsSmall o → IsBounded (by_outcome g s i t o) left
+outcome_bounded : (g : List Record) (s i t left : ℕ) (o : Outcome) → 0 < s → 0 < i → IsSmall o → OwesLittle s i t left (by_outcome g t o)
 outcome_bounded g s i t left (Refuses refusal) hs hi small = one_bounded s i t t refusal.number left (Refused refusal) hs hi
 outcome_bounded g s i t left (Counts count) hs hi small = one_bounded s i t t 0 left (Rows count []) hs hi
 outcome_bounded g s i t left (Writes takes changes) hs hi small =
@@ -79,7 +85,7 @@ outcome_bounded g s i t left (Writes takes changes) hs hi small =
     let few_takes = small.0 in
     let size = size_bound changes small.2 in
     let count = change_count u changes own in
-    cond_both (passes_limit g u (length changes) (planned_size changes)) (refused s i t log_full) (with_memory s i t (Writing u takes changes own) (Rows 1 [])) (λ b. IsBounded b left)
+    cond_both (passes_limit g u (length changes) (planned_size changes)) (refused t log_full) (with_memory (Writing u takes changes own) (Rows 1 [])) (OwesLittle s i t left)
     (λ e. one_bounded s i t t 9002 left (Refused log_full) hs hi)
     (λ e. record {
       forms = (
@@ -98,7 +104,7 @@ insert_small run log t name key payload start sound (Writes takes changes) e =
     let shape = view_shape run.geometry run.opened log run.image t sound in
     let good = insert_good (sight_of run log t) name key payload takes changes
     (whole_shape run.image (view_of t run.opened log run.image) shape start.whole)
-    (subst (λ n. 16 ≤ n) (sym shape.pages) start.many) e in
+    (subst (λ n. 16 ≤ n) (sym shape.pages) start.shape.low) e in
     let short = subst IsShort e (insert_is_short (sight_of run log t) name key payload) in
     (short.0, short.1, good.cells)
 
@@ -107,33 +113,39 @@ no_write_small (Refuses refusal) none = tt
 no_write_small (Counts count) none = tt
 no_write_small (Writes takes changes) none = absurd none
 
-damage_bounded : (run : Setting) (log : List Record) (s i left : ℕ) (damage : Option ℕ) → 0 < s → 0 < i → IsBounded (by_damage run log s i damage) left
-damage_bounded run log s i left None hs hi = record { forms = (snap_form s i hs hi, (end_form s i 0 hs hi (omega arith), tt)); want = tt; few = omega arith }
-damage_bounded run log s i left (Some p) hs hi = record { forms = (snap_form s i hs hi, (end_form s i 2 hs hi (omega arith), tt)); want = tt; few = omega arith }
+damage_bounded : (run : Setting) (log : List Record) (s i t left : ℕ) (damage : Option ℕ) → 0 < s → 0 < i → OwesLittle s i t left (by_damage run log damage)
+damage_bounded run log s i t left None hs hi = record { forms = (snap_form s i hs hi, (end_form s i 0 hs hi (omega arith), tt)); want = tt; few = omega arith }
+damage_bounded run log s i t left (Some p) hs hi = record { forms = (snap_form s i hs hi, (end_form s i 2 hs hi (omega arith), tt)); want = tt; few = omega arith }
 
 pub begun_is_bounded : BegunIsBounded
 begun_is_bounded run log s i t statement.Begin start sound hs hi =
     let fresh = greatest_of (log ++ run.opened) + 1 in
     let left = length (left_of t (log ++ run.opened)) in
-    cond_both (eqb t 0) (surely s i (Opening fresh) Done) (surely s i (Refusing t 60001) (Refused is_open)) (λ b. IsBounded b left)
+    cond_both (eqb t 0) (surely (Opening fresh) Done) (surely (Refusing t 60001) (Refused is_open)) (OwesLittle s i t left)
     (λ e. surely_bounded s i fresh 0 left Done [] hs hi tt (omega arith))
     (λ e. surely_bounded s i t 60001 left (Refused is_open) [] hs hi tt (omega arith))
 begun_is_bounded run log s i t statement.Commit start sound hs hi =
     let left = length (left_of t (log ++ run.opened)) in
-    cond_both (eqb t 0) (surely s i (Refusing t 3902) (Refused nothing_to_commit)) (surely s i (Committing t) Done) (λ b. IsBounded b left)
+    cond_both (eqb t 0) (surely (Refusing t 3902) (Refused nothing_to_commit)) (surely (Committing t) Done) (OwesLittle s i t left)
     (λ e. surely_bounded s i t 3902 left (Refused nothing_to_commit) [] hs hi tt (omega arith))
     (λ e. surely_bounded s i t 0 left Done (change_items t [] true) hs hi (refl, tt) (omega arith))
 begun_is_bounded run log s i t statement.Rollback start sound hs hi =
     let changes = left_of t (log ++ run.opened) in
     let count = undo_count t changes in
-    cond_both (eqb t 0) (surely s i (Refusing t 3903) (Refused nothing_to_undo)) (surely s i (RollingBack t changes) Done) (λ b. IsBounded b (length changes))
+    cond_both (eqb t 0) (surely (Refusing t 3903) (Refused nothing_to_undo)) (surely (RollingBack t changes) Done) (OwesLittle s i t (length changes))
     (λ e. surely_bounded s i t 3903 (length changes) (Refused nothing_to_undo) [] hs hi tt (omega arith))
     (λ e. surely_bounded s i t 0 (length changes) Done (abort_items t changes) hs hi (undo_forms t changes) (omega (arith, count)))
 begun_is_bounded run log s i t (statement.Insert table key payload) start sound hs hi =
-    outcome_bounded (log ++ run.opened) s i t (length (left_of t (log ++ run.opened))) (insert_outcome (sight_of run log t) table key payload) hs hi
-    (insert_small run log t table key payload start sound (insert_outcome (sight_of run log t) table key payload) refl)
+    let left = length (left_of t (log ++ run.opened)) in
+    let agrees = plans_agree run log t start sound in
+    subst (OwesLittle s i t left) (sym (agrees.insert table key payload))
+    (outcome_bounded (log ++ run.opened) s i t left (insert_outcome (sight_of run log t) table key payload) hs hi
+    (insert_small run log t table key payload start sound (insert_outcome (sight_of run log t) table key payload) refl))
 begun_is_bounded run log s i t (statement.Count table) start sound hs hi =
-    outcome_bounded (log ++ run.opened) s i t (length (left_of t (log ++ run.opened))) (count_outcome (sight_of run log t) table) hs hi
-    (no_write_small (count_outcome (sight_of run log t) table) (count_writes_nothing (sight_of run log t) table))
+    let left = length (left_of t (log ++ run.opened)) in
+    let agrees = plans_agree run log t start sound in
+    subst (OwesLittle s i t left) (sym (agrees.count table))
+    (outcome_bounded (log ++ run.opened) s i t left (count_outcome (sight_of run log t) table) hs hi
+    (no_write_small (count_outcome (sight_of run log t) table) (count_writes_nothing (sight_of run log t) table)))
 begun_is_bounded run log s i t (statement.Check workers) start sound hs hi =
-    damage_bounded run log s i (length (left_of t (log ++ run.opened))) (damaged_page run.opened run.image) hs hi
+    damage_bounded run log s i t (length (left_of t (log ++ run.opened))) (damaged_page run.opened run.image) hs hi

@@ -16,7 +16,8 @@ use Rattle.spec_plan.specs.Sight.{Outcome, Refuses, Counts, Writes}
 use Rattle.spec_plan.specs.Statements.{count_outcome, insert_outcome}
 use Rattle.spec_run.specs.Shapes.{Refused as Refusing, Opening, Writing, Committing, RollingBack, plain_start, change_item, tran_to_write}
 use Rattle.spec_run.specs.Sessions.{session_of}
-use Rattle.spec_run.specs.Begun.{Setting, Begun, surely, with_memory, refused, by_outcome, by_damage, begun, sight_of}
+use Rattle.spec_run.specs.Begun.{Setting, Begun, Becoming, surely, with_memory, refused, by_damage, begun_by, begun}
+use Rattle.spec_run.specs.Sights.{sight_of, by_outcome}
 use Rattle.spec_script.specs.declared.reply.Reply.TheVariants.{Done, Rows, Refused}
 use Rattle.spec_run.specs.Progress.{Progress, progress_of, at_work, with_statement, script_of, moved, work_of, first_of, MayCome}
 use Rattle.spec_run.specs.Turns.{IsLegal}
@@ -31,6 +32,7 @@ use Rattle.law_run.proofs.Begins.{Begins, opens_begins, single_steps, committing
 use Rattle.law_undo.proofs.Shapes.{view_shape, whole_shape}
 use Rattle.law_plan.specs.Laws.{IsNoWrite}
 use Rattle.law_plan.proofs.InsertGood.{insert_good, count_writes_nothing}
+use Rattle.law_run.proofs.Agreed.{plans_agree}
 use Rattle.law_run.proofs.Written.{writes_for, few_changes, is_written}
 
 some_same : (x y : Record) → Some x ≡ Some y → x ≡ y
@@ -46,6 +48,9 @@ with_begun p b = record { told = p.told; due = b.items; telling = b.telling; wan
 -- whatever comes of the statement leaves the session right
 abbrev pub BeginSteps : Setting → List Record → ℕ → Progress → Begun → Type 0
 BeginSteps run log s p b = (x : Record) → MayCome (with_begun p b) x → StepsTo run log s (with_begun p b) x
+
+abbrev pub BeginsTo : Setting → List Record → ℕ → ℕ → Progress → Becoming → Type 0
+BeginsTo run log s i p b = BeginSteps run log s p (begun_by s i p.tran b)
 
 -- the first of some items, or nothing else
 surely_steps : (run : Setting) (log : List Record) (s : ℕ) (w : Progress) (y : Record) (rest : List Record) → w.due ≡ y ∷ rest → w.want ≡ None → StepsTo run log s w y →
@@ -79,68 +84,72 @@ owned run log s t (inr o) n = o
 
 outcome_steps : (run : Setting) (log : List Record) (s i : ℕ) (p : Progress) (o : Outcome) → IsSoundIn run log → Opens run log s p.tran → 0 < s → 0 < i →
     ((takes : _) (changes : List Planned) → o ≡ Writes takes changes → IsGoodPlan (sight_of run log p.tran) takes changes) →
-    BeginSteps run log s p (by_outcome (log ++ run.opened) s i p.tran o)
+    BeginSteps run log s p (begun_by s i p.tran (by_outcome (log ++ run.opened) p.tran o))
 outcome_steps run log s i p (Refuses refusal) sound opens hs hi good =
-    start_or_short run log s i p.tran refusal.number p (refused s i p.tran refusal) hs hi (opens_begins run log s p.tran opens) refl refl
+    start_or_short run log s i p.tran refusal.number p (begun_by s i p.tran (refused p.tran refusal)) hs hi (opens_begins run log s p.tran opens) refl refl
 outcome_steps run log s i p (Counts count) sound opens hs hi good =
-    start_or_short run log s i p.tran 0 p _ hs hi (opens_begins run log s p.tran opens) refl refl
+    start_or_short run log s i p.tran 0 p (begun_by s i p.tran (by_outcome (log ++ run.opened) p.tran (Counts count))) hs hi (opens_begins run log s p.tran opens) refl refl
 outcome_steps run log s i p (Writes takes changes) sound opens hs hi good =
     let g = log ++ run.opened in
     let t = p.tran in
     let u = tran_to_write g t in
-    let whole = with_memory s i t (Writing u takes changes (eqb t 0)) (Rows 1 []) in
-    cond_both (passes_limit g u (length changes) (planned_size changes)) (refused s i t log_full) whole (BeginSteps run log s p)
-    (λ e. start_or_short run log s i t 9002 p (refused s i t log_full) hs hi (opens_begins run log s t opens) refl refl)
+    let whole = with_memory (Writing u takes changes (eqb t 0)) (Rows 1 []) in
+    cond_both (passes_limit g u (length changes) (planned_size changes)) (refused t log_full) whole (BeginsTo run log s i p)
+    (λ e. start_or_short run log s i t 9002 p (begun_by s i t (refused t log_full)) hs hi (opens_begins run log s t opens) refl refl)
     (λ e.
     let few = few_changes g u (length changes) (planned_size changes) e in
     let written = is_written run log s i t u takes changes sound opens (writes_for g t) hs hi few (good takes changes refl) in
     let x = Start s i (record { 0 = u }) 0 (length changes) (planned_size changes) takes in
-    either_steps run log s (with_begun p whole) x (plain_start s i t 701) (change_items u changes (eqb t 0)) refl refl
-    (writing_steps run log s i u (planned_size changes) takes changes (eqb t 0) (with_begun p whole) written.started written.above written.form written.planned refl)
-    (single_steps run log s i t 701 (with_begun p whole) hs hi (opens_begins run log s t opens) (inr refl)))
+    either_steps run log s (with_begun p (begun_by s i t whole)) x (plain_start s i t 701) (change_items u changes (eqb t 0)) refl refl
+    (writing_steps run log s i u (planned_size changes) takes changes (eqb t 0) (with_begun p (begun_by s i t whole)) written.started written.above written.form written.planned refl)
+    (single_steps run log s i t 701 (with_begun p (begun_by s i t whole)) hs hi (opens_begins run log s t opens) (inr refl)))
 
 damage_steps : (run : Setting) (log : List Record) (s i : ℕ) (p : Progress) (damage : Option ℕ) → Opens run log s p.tran → 0 < s → 0 < i →
-    BeginSteps run log s p (by_damage run log s i damage)
+    BeginsTo run log s i p (by_damage run log damage)
 damage_steps run log s i p None opens hs hi =
-    surely_steps run log s (with_begun p (by_damage run log s i None)) _ _ refl refl
-    (snap_steps run log s i 0 (with_begun p (by_damage run log s i None)) hs hi (omega arith) opens refl)
+    surely_steps run log s (with_begun p (begun_by s i p.tran (by_damage run log None))) _ _ refl refl
+    (snap_steps run log s i 0 (with_begun p (begun_by s i p.tran (by_damage run log None))) hs hi (omega arith) opens refl)
 damage_steps run log s i p (Some q) opens hs hi =
-    surely_steps run log s (with_begun p (by_damage run log s i (Some q))) _ _ refl refl
-    (snap_steps run log s i 2 (with_begun p (by_damage run log s i (Some q))) hs hi (omega arith) opens refl)
+    surely_steps run log s (with_begun p (begun_by s i p.tran (by_damage run log (Some q)))) _ _ refl refl
+    (snap_steps run log s i 2 (with_begun p (begun_by s i p.tran (by_damage run log (Some q)))) hs hi (omega arith) opens refl)
 
 pub begun_steps : (run : Setting) (log : List Record) (s i : ℕ) (p : Progress) (st : Statement) → IsStart run → IsSoundIn run log → Opens run log s p.tran → 0 < s → 0 < i →
     BeginSteps run log s p (begun run log s i p.tran st)
 begun_steps run log s i p statement.Begin start sound opens hs hi =
     let fresh = greatest_of (log ++ run.opened) + 1 in
-    cond_both (eqb p.tran 0) (surely s i (Opening fresh) Done) (surely s i (Refusing p.tran 60001) (Refused is_open)) (BeginSteps run log s p)
-    (λ e. one_start run log s i fresh 0 p (surely s i (Opening fresh) Done) hs hi (inr (inr refl)) refl refl)
-    (λ e. one_start run log s i p.tran 60001 p (surely s i (Refusing p.tran 60001) (Refused is_open)) hs hi (opens_begins run log s p.tran opens) refl refl)
+    cond_both (eqb p.tran 0) (surely (Opening fresh) Done) (surely (Refusing p.tran 60001) (Refused is_open)) (BeginsTo run log s i p)
+    (λ e. one_start run log s i fresh 0 p (begun_by s i p.tran (surely (Opening fresh) Done)) hs hi (inr (inr refl)) refl refl)
+    (λ e. one_start run log s i p.tran 60001 p (begun_by s i p.tran (surely (Refusing p.tran 60001) (Refused is_open))) hs hi (opens_begins run log s p.tran opens) refl refl)
 begun_steps run log s i p statement.Commit start sound opens hs hi =
-    cond_both (eqb p.tran 0) (surely s i (Refusing p.tran 3902) (Refused nothing_to_commit)) (surely s i (Committing p.tran) Done) (BeginSteps run log s p)
-    (λ e. one_start run log s i p.tran 3902 p (surely s i (Refusing p.tran 3902) (Refused nothing_to_commit)) hs hi (opens_begins run log s p.tran opens) refl refl)
+    cond_both (eqb p.tran 0) (surely (Refusing p.tran 3902) (Refused nothing_to_commit)) (surely (Committing p.tran) Done) (BeginsTo run log s i p)
+    (λ e. one_start run log s i p.tran 3902 p (begun_by s i p.tran (surely (Refusing p.tran 3902) (Refused nothing_to_commit))) hs hi (opens_begins run log s p.tran opens) refl refl)
     (λ e.
     let o = owned run log s p.tran opens (eqb-false p.tran 0 e) in
-    let w = with_begun p (surely s i (Committing p.tran) Done) in
+    let w = with_begun p (begun_by s i p.tran (surely (Committing p.tran) Done)) in
     surely_steps run log s w (plain_start s i p.tran 0) (change_items p.tran [] true) refl refl
     (committing_steps run log s i p.tran w hs hi o.0 o.1 refl))
 begun_steps run log s i p statement.Rollback start sound opens hs hi =
     let left = left_of p.tran (log ++ run.opened) in
-    cond_both (eqb p.tran 0) (surely s i (Refusing p.tran 3903) (Refused nothing_to_undo)) (surely s i (RollingBack p.tran left) Done) (BeginSteps run log s p)
-    (λ e. one_start run log s i p.tran 3903 p (surely s i (Refusing p.tran 3903) (Refused nothing_to_undo)) hs hi (opens_begins run log s p.tran opens) refl refl)
+    cond_both (eqb p.tran 0) (surely (Refusing p.tran 3903) (Refused nothing_to_undo)) (surely (RollingBack p.tran left) Done) (BeginsTo run log s i p)
+    (λ e. one_start run log s i p.tran 3903 p (begun_by s i p.tran (surely (Refusing p.tran 3903) (Refused nothing_to_undo))) hs hi (opens_begins run log s p.tran opens) refl refl)
     (λ e.
     let o = owned run log s p.tran opens (eqb-false p.tran 0 e) in
-    let w = with_begun p (surely s i (RollingBack p.tran left) Done) in
+    let w = with_begun p (begun_by s i p.tran (surely (RollingBack p.tran left) Done)) in
     surely_steps run log s w (plain_start s i p.tran 0) (abort_items p.tran left) refl refl
     (rolling_steps run log s i p.tran w hs hi o.0 o.1 refl))
 begun_steps run log s i p (statement.Insert table key payload) start sound opens hs hi =
+    let agrees = plans_agree run log p.tran start sound in
     let shape = view_shape run.geometry run.opened log run.image p.tran sound in
-    outcome_steps run log s i p (insert_outcome (sight_of run log p.tran) table key payload) sound opens hs hi
+    subst (BeginsTo run log s i p) (sym (agrees.insert table key payload))
+    (outcome_steps run log s i p (insert_outcome (sight_of run log p.tran) table key payload) sound opens hs hi
     (λ takes changes e. insert_good (sight_of run log p.tran) table key payload takes changes
     (whole_shape run.image (view_of p.tran run.opened log run.image) shape start.whole)
-    (subst (λ n. 16 ≤ n) (sym shape.pages) start.many) e)
+    (subst (λ n. 16 ≤ n) (sym shape.pages) start.shape.low) e))
 begun_steps run log s i p (statement.Count table) start sound opens hs hi =
-    outcome_steps run log s i p (count_outcome (sight_of run log p.tran) table) sound opens hs hi
-    (λ takes changes e. absurd (subst IsNoWrite e (count_writes_nothing (sight_of run log p.tran) table)))
+    let agrees = plans_agree run log p.tran start sound in
+    subst (BeginsTo run log s i p) (sym (agrees.count table))
+    (outcome_steps run log s i p (count_outcome (sight_of run log p.tran) table) sound opens hs hi
+    (λ takes changes e. absurd (subst IsNoWrite e (count_writes_nothing (sight_of run log p.tran) table))))
 begun_steps run log s i p (statement.Check workers) start sound opens hs hi =
     damage_steps run log s i p (damaged_page run.opened run.image) opens hs hi
 

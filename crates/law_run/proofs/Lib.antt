@@ -1,3 +1,4 @@
+pub mod Agreed
 pub mod Bounds
 pub mod Left
 pub mod Shows

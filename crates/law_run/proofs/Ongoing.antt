@@ -10,14 +10,18 @@ use Rattle.spec_log.specs.Limits.{passes_limit}
 use Rattle.spec_log.specs.Images.{damaged_page}
 use Rattle.spec_script.specs.declared.statement.Statement.{Statement}
 use Rattle.spec_script.specs.declared.statement.Statement.TheVariants as statement
-use Rattle.spec_script.specs.declared.reply.Reply.TheVariants.{Done, Rows, Refused}
+use Rattle.spec_script.specs.declared.reply.Reply.TheVariants.{Done, Refused}
+use Rattle.spec_file.specs.declared.data.Resource.{Resource}
+use Rattle.spec_script.specs.declared.reply.Reply.{Reply}
+use Rattle.spec_plan.specs.declared.plan.Planned.{Planned}
 use Rattle.spec_plan.specs.Planned.{planned_size}
 use Rattle.spec_plan.specs.Refusals.{is_open, nothing_to_commit, nothing_to_undo, log_full}
-use Rattle.spec_plan.specs.Sight.{Outcome, Refuses, Counts, Writes}
-use Rattle.spec_plan.specs.Statements.{count_outcome, insert_outcome}
 use Rattle.spec_run.specs.Shapes.{Refused as Refusing, Opening, Writing, Committing, RollingBack, plain_start, change_item, tran_to_write}
 use Rattle.spec_run.specs.Sessions.{session_of, open_after}
-use Rattle.spec_run.specs.Begun.{Setting, Begun, surely, with_memory, refused, by_outcome, by_damage, begun, sight_of}
+use Rattle.spec_words.specs.Takes.{changes_at, takes_at}
+use Rattle.spec_words.specs.Views.{End, Gives, Stops}
+use Rattle.spec_words.specs.Heaps.{insert_plan, count_plan}
+use Rattle.spec_run.specs.Begun.{Setting, Begun, Becoming, shape_of, view_at, surely, with_memory, refused, by_changes, by_taken, by_end, by_damage, begun_by, begun}
 use Rattle.spec_run.specs.Progress.{Progress, progress_of, is_short, at_work, with_statement, script_of, cut_short, moved_to, moved, first_of, MayCome}
 use Rattle.law_undo.proofs.Holders.{unfinished_parts}
 use Rattle.law_run.specs.Laws.{UnfinishedIsOpen}
@@ -59,41 +63,52 @@ refused_stays : (s i t number : ℕ) (b : Begun) → b.items ≡ plain_start s i
 refused_stays s i t number b items want =
     first_stays t b.items b.want (plain_start s i t number) [] items (inr (inr refl)) (λ z e. some_want t (plain_start s i t 701) z (inr (inr refl)) (sym want ∙ e))
 
-outcome_stays : (log : List Record) (s i t : ℕ) (o : Outcome) → BegunStays t (by_outcome log s i t o)
-outcome_stays log s i t (Refuses refusal) = refused_stays s i t refusal.number (refused s i t refusal) refl refl
-outcome_stays log s i t (Counts count) = refused_stays s i t 0 (by_outcome log s i t (Counts count)) refl refl
-outcome_stays log s i t (Writes takes changes) =
+-- whatever becomes of a statement
+abbrev pub BecomingStays : ℕ → ℕ → ℕ → Becoming → Type 0
+BecomingStays s i t b = BegunStays t (begun_by s i t b)
+
+changes_stay : (log : List Record) (s i t : ℕ) (reply : Reply) (takes : List Resource) (changes : List Planned) → BecomingStays s i t (by_changes log t reply takes changes)
+changes_stay log s i t reply takes changes =
     let u = tran_to_write log t in
-    let whole = with_memory s i t (Writing u takes changes (eqb t 0)) (Rows 1 []) in
+    let becoming = with_memory (Writing u takes changes (eqb t 0)) reply in
+    let whole = begun_by s i t becoming in
     let x = Start s i (record { 0 = u }) 0 (length changes) (planned_size changes) takes in
-    cond_both (passes_limit log u (length changes) (planned_size changes)) (refused s i t log_full) whole (BegunStays t)
-    (λ e. refused_stays s i t 9002 (refused s i t log_full) refl refl)
+    cond_both (passes_limit log u (length changes) (planned_size changes)) (refused t log_full) becoming (BecomingStays s i t)
+    (λ e. refused_stays s i t 9002 (begun_by s i t (refused t log_full)) refl refl)
     (λ e. first_stays t whole.items whole.want x (change_items u changes (eqb t 0)) refl
     (cond_both (eqb t 0) (greatest_of log + 1) t (λ v. (t ≡ 0) ⊎ ((v ≡ t) ⊎ (v ≡ t))) (λ none. inl (eqb-true t 0 none)) (λ some. inr (inr refl)))
     (λ z e. some_want t (plain_start s i t 701) z (inr (inr refl)) e))
 
-damage_stays : (run : Setting) (log : List Record) (s i t : ℕ) (damage : Option ℕ) → BegunStays t (by_damage run log s i damage)
+end_stays : (log : List Record) (s i t : ℕ) (end : End Reply) → BecomingStays s i t (by_end log t end)
+end_stays log s i t (Stops refusal) = refused_stays s i t refusal.number (begun_by s i t (refused t refusal)) refl refl
+end_stays log s i t (Gives reply view) = by_takes view.taken
+  where
+    by_takes : (taken : List Resource) → BecomingStays s i t (by_taken log t reply view taken)
+    by_takes [] = refused_stays s i t 0 (begun_by s i t (by_taken log t reply view [])) refl refl
+    by_takes (r ∷ taken) = changes_stay log s i t reply (takes_at view) (changes_at view)
+
+damage_stays : (run : Setting) (log : List Record) (s i t : ℕ) (damage : Option ℕ) → BecomingStays s i t (by_damage run log damage)
 damage_stays run log s i t None = first_stays t _ None (Snap s i) (CheckEnd s i 0 ∷ []) refl (inr (inl refl)) (no_want t)
 damage_stays run log s i t (Some p) = first_stays t _ None (Snap s i) (CheckEnd s i 2 ∷ []) refl (inr (inl refl)) (no_want t)
 
 begun_stays : (run : Setting) (log : List Record) (s i t : ℕ) (st : Statement) → BegunStays t (begun run log s i t st)
 begun_stays run log s i t statement.Begin =
     let fresh = greatest_of (log ++ run.opened) + 1 in
-    cond_both (eqb t 0) (surely s i (Opening fresh) Done) (surely s i (Refusing t 60001) (Refused is_open)) (BegunStays t)
+    cond_both (eqb t 0) (surely (Opening fresh) Done) (surely (Refusing t 60001) (Refused is_open)) (BecomingStays s i t)
     (λ e. first_stays t _ None (plain_start s i fresh 0) [] refl (inl (eqb-true t 0 e)) (no_want t))
     (λ e. first_stays t _ None (plain_start s i t 60001) [] refl (inr (inr refl)) (no_want t))
 begun_stays run log s i t statement.Commit =
-    cond_both (eqb t 0) (surely s i (Refusing t 3902) (Refused nothing_to_commit)) (surely s i (Committing t) Done) (BegunStays t)
+    cond_both (eqb t 0) (surely (Refusing t 3902) (Refused nothing_to_commit)) (surely (Committing t) Done) (BecomingStays s i t)
     (λ e. first_stays t _ None (plain_start s i t 3902) [] refl (inr (inr refl)) (no_want t))
     (λ e. first_stays t _ None (plain_start s i t 0) (change_items t [] true) refl (inr (inr refl)) (no_want t))
 begun_stays run log s i t statement.Rollback =
     let left = left_of t (log ++ run.opened) in
-    cond_both (eqb t 0) (surely s i (Refusing t 3903) (Refused nothing_to_undo)) (surely s i (RollingBack t left) Done) (BegunStays t)
+    cond_both (eqb t 0) (surely (Refusing t 3903) (Refused nothing_to_undo)) (surely (RollingBack t left) Done) (BecomingStays s i t)
     (λ e. first_stays t _ None (plain_start s i t 3903) [] refl (inr (inr refl)) (no_want t))
     (λ e. first_stays t _ None (plain_start s i t 0) (abort_items t left) refl (inr (inr refl)) (no_want t))
 begun_stays run log s i t (statement.Insert table key payload) =
-    outcome_stays (log ++ run.opened) s i t (insert_outcome (sight_of run log t) table key payload)
-begun_stays run log s i t (statement.Count table) = outcome_stays (log ++ run.opened) s i t (count_outcome (sight_of run log t) table)
+    end_stays (log ++ run.opened) s i t (insert_plan (shape_of run) table key payload (view_at run log t)).ending
+begun_stays run log s i t (statement.Count table) = end_stays (log ++ run.opened) s i t (count_plan (shape_of run) table (view_at run log t)).ending
 begun_stays run log s i t (statement.Check workers) = damage_stays run log s i t (damaged_page run.opened run.image)
 
 idle_stays : (run : Setting) (log : List Record) (s : ℕ) (p : Progress) → p.due ≡ [] → p.want ≡ None → (x : Record) → MayCome (at_work run log s p p.due) x → Stays p.tran x

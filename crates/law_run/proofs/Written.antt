@@ -21,7 +21,8 @@ use Rattle.law_plan.proofs.Good.{AreCovered, all_covered_by, size_bound}
 use Rattle.spec_plan.specs.declared.plan.Planned.{Planned}
 use Rattle.spec_plan.specs.Planned.{planned_size}
 use Rattle.spec_run.specs.Shapes.{tran_to_write}
-use Rattle.spec_run.specs.Begun.{Setting, sight_of}
+use Rattle.spec_run.specs.Begun.{Setting}
+use Rattle.spec_run.specs.Sights.{sight_of}
 use Rattle.law_undo.proofs.Law.{zero_open}
 use Rattle.law_run.proofs.Fresh.{not_started_above}
 use Rattle.law_run.proofs.Plans.{find_same}

@@ -1,5 +1,6 @@
 -- What holds of every legal history.
 use Rattle.std.specs.Prelude.{◌≡◌, ℕ, ◌+◌, ◌<◌, ◌≤◌, true, List, [], ◌++◌, length, IfSome}
+use Rattle.spec_file.specs.Places.{HasShape}
 use Rattle.spec_log.specs.declared.item.Record.{Record}
 use Rattle.spec_log.specs.Items.{has_form}
 use Rattle.spec_log.specs.Log.{is_unfinished, left_of}
@@ -12,12 +13,12 @@ use Rattle.spec_run.specs.Begun.{Setting, Begun, begun}
 use Rattle.spec_run.specs.Progress.{progress_of, work_of, MayCome}
 use Rattle.spec_run.specs.Turns.{IsLegal}
 
--- what a run may begin with: a log in its form that keeps the rules, and a file of whole pages
+-- what a run may begin with: a log in its form that keeps the rules, and a file of whole pages and whole extents
 pub record IsStart (run : Setting) : Type 0 where
   pub forms : HaveForm run.opened
   pub rules : KeepsRules run.geometry (length run.image) run.opened
   pub whole : HasWholePages run.image
-  pub many : 16 ≤ length run.image
+  pub shape : HasShape run.geometry (length run.image)
 
 -- a legal history is sound: it keeps the rules of a log, its Changes find what their transactions see, and what is
 -- rolled back doesn't commit

@@ -1,22 +1,24 @@
 -- What a statement owes at its record are the items of a shape that fits there.
-use Rattle.std.proofs.Common.{◌≡◌, ℕ, zero, suc, ◌+◌, ◌<◌, ◌≢◌, false, eqb, List, [], ◌++◌, length, Option, Some, None, refl, arith}
+use Rattle.std.proofs.Common.{◌≡◌, ℕ, zero, suc, ◌+◌, ◌<◌, ◌≢◌, false, eqb, List, [], ◌++◌, ◌∷◌, length, Option, Some, None, refl, arith}
 use Rattle.std.proofs.lemmas.Bool.{cond_both, eqb-true, eqb-false, ne_eqb}
 use Rattle.spec_log.specs.declared.item.Record.{Record}
 use Rattle.spec_log.specs.Log.{greatest_of, left_of}
 use Rattle.spec_log.specs.Limits.{passes_limit}
 use Rattle.spec_log.specs.Images.{damaged_page}
 use Rattle.spec_script.specs.declared.reply.Reply.{Reply}
-use Rattle.spec_script.specs.declared.reply.Reply.TheVariants.{Done, Rows, Refused}
+use Rattle.spec_script.specs.declared.reply.Reply.TheVariants.{Done, Refused}
 use Rattle.spec_script.specs.declared.statement.Statement.{Statement}
 use Rattle.spec_script.specs.declared.statement.Statement.TheVariants as statement
+use Rattle.spec_file.specs.declared.data.Resource.{Resource}
+use Rattle.spec_plan.specs.declared.plan.Planned.{Planned}
 use Rattle.spec_plan.specs.Planned.{planned_size}
 use Rattle.spec_plan.specs.Refusals.{is_open, nothing_to_commit, nothing_to_undo, log_full}
-use Rattle.spec_plan.specs.Sight.{Outcome, Refuses, Counts, Writes}
-use Rattle.spec_plan.specs.Statements.{count_outcome, insert_outcome}
-use Rattle.law_plan.specs.Laws.{IsNumbered}
-use Rattle.law_plan.proofs.Numbers.{outcomes_are_numbered}
+use Rattle.spec_words.specs.Takes.{changes_at, takes_at}
+use Rattle.spec_words.specs.Views.{End, Gives, Stops}
+use Rattle.spec_words.specs.Heaps.{count_plan, insert_plan}
 use Rattle.spec_run.specs.Shapes.{Shape, Refused as Refusing, Opening, Reading, Writing, Committing, RollingBack, Checking, plain_start, items_by, tran_to_write, FitsRecord}
-use Rattle.spec_run.specs.Begun.{Setting, Begun, surely, with_memory, refused, by_outcome, by_damage, begun, sight_of}
+use Rattle.spec_run.specs.Begun.{Setting, Begun, Becoming, shape_of, view_at, surely, with_memory, refused, by_changes, by_taken, by_end, by_damage, begun_by, begun}
+use Rattle.law_shape.proofs.Numbered.{EndsNumbered, count_numbered, insert_numbered}
 use Rattle.law_shape.proofs.Shaped.{NoneShort, long_changes, long_undos}
 
 -- what begins after log g, with open transaction t, owes the items of a shape, none of them for want of memory; for
@@ -28,33 +30,43 @@ pub record IsShaped (g : List Record) (s i t : ℕ) (b : Begun) : Type 0 where
   pub long : NoneShort b.items
   pub want : (z : Record) → b.want ≡ Some z → z ≡ plain_start s i t 701
 
+-- whatever becomes of the statement
+abbrev pub BecomesShaped : List Record → ℕ → ℕ → ℕ → Becoming → Type 0
+BecomesShaped g s i t b = IsShaped g s i t (begun_by s i t b)
+
 none_wanted : (s i t : ℕ) (z : Record) → None ≡ Some z → z ≡ plain_start s i t 701
 none_wanted s i t z e = absurd (cc)
 
 start_wanted : (s i t : ℕ) (z : Record) → Some (plain_start s i t 701) ≡ Some z → z ≡ plain_start s i t 701
 start_wanted s i t z e = cc
 
-surely_shaped : (g : List Record) (s i t : ℕ) (shape : Shape) (reply : Reply) → FitsRecord g t shape → NoneShort (items_by s i shape) → IsShaped g s i t (surely s i shape reply)
+surely_shaped : (g : List Record) (s i t : ℕ) (shape : Shape) (reply : Reply) → FitsRecord g t shape → NoneShort (items_by s i shape) → BecomesShaped g s i t (surely shape reply)
 surely_shaped g s i t shape reply fits long = record { shape = shape; items = refl; fits = fits; long = long; want = none_wanted s i t }
 
-memory_shaped : (g : List Record) (s i t : ℕ) (shape : Shape) (reply : Reply) → FitsRecord g t shape → NoneShort (items_by s i shape) → IsShaped g s i t (with_memory s i t shape reply)
+memory_shaped : (g : List Record) (s i t : ℕ) (shape : Shape) (reply : Reply) → FitsRecord g t shape → NoneShort (items_by s i shape) → BecomesShaped g s i t (with_memory shape reply)
 memory_shaped g s i t shape reply fits long = record { shape = shape; items = refl; fits = fits; long = long; want = start_wanted s i t }
 
 -- a number that a refusal may have
 refuses_with : (t number : ℕ) → 823 < number → (t ≡ t) × (0 < number) × (number ≢ 823)
 refuses_with t number above = (refl, omega (arith, above), λ same. omega (arith, above, same))
 
-outcome_shaped : (g : List Record) (s i t : ℕ) (o : Outcome) → IsNumbered o → IsShaped g s i t (by_outcome g s i t o)
-outcome_shaped g s i t (Refuses refusal) numbered =
-    memory_shaped g s i t (Refusing t refusal.number) (Refused refusal) (refl, numbered.0, numbered.2) (ne_eqb refusal.number 701 numbered.1, tt)
-outcome_shaped g s i t (Counts count) numbered = memory_shaped g s i t (Reading t) (Rows count []) refl (refl, tt)
-outcome_shaped g s i t (Writes takes changes) numbered =
+changes_shaped : (g : List Record) (s i t : ℕ) (reply : Reply) (takes : List Resource) (changes : List Planned) → BecomesShaped g s i t (by_changes g t reply takes changes)
+changes_shaped g s i t reply takes changes =
     let u = tran_to_write g t in
-    cond_both (passes_limit g u (length changes) (planned_size changes)) (refused s i t log_full) (with_memory s i t (Writing u takes changes (eqb t 0)) (Rows 1 [])) (IsShaped g s i t)
+    cond_both (passes_limit g u (length changes) (planned_size changes)) (refused t log_full) (with_memory (Writing u takes changes (eqb t 0)) reply) (BecomesShaped g s i t)
     (λ e. memory_shaped g s i t (Refusing t 9002) (Refused log_full) (refuses_with t 9002 (omega arith)) (refl, tt))
-    (λ e. memory_shaped g s i t (Writing u takes changes (eqb t 0)) (Rows 1 []) (refl, refl) (refl, long_changes u changes (eqb t 0)))
+    (λ e. memory_shaped g s i t (Writing u takes changes (eqb t 0)) reply (refl, refl) (refl, long_changes u changes (eqb t 0)))
 
-damage_shaped : (run : Setting) (log g : List Record) (s i t : ℕ) (damage : Option ℕ) → IsShaped g s i t (by_damage run log s i damage)
+end_shaped : (g : List Record) (s i t : ℕ) (end : End Reply) → EndsNumbered end → BecomesShaped g s i t (by_end g t end)
+end_shaped g s i t (Stops refusal) numbered =
+    memory_shaped g s i t (Refusing t refusal.number) (Refused refusal) (refl, numbered.0, numbered.2) (ne_eqb refusal.number 701 numbered.1, tt)
+end_shaped g s i t (Gives reply view) numbered = by_takes view.taken
+  where
+    by_takes : (taken : List Resource) → BecomesShaped g s i t (by_taken g t reply view taken)
+    by_takes [] = memory_shaped g s i t (Reading t) reply refl (refl, tt)
+    by_takes (r ∷ taken) = changes_shaped g s i t reply (takes_at view) (changes_at view)
+
+damage_shaped : (run : Setting) (log g : List Record) (s i t : ℕ) (damage : Option ℕ) → BecomesShaped g s i t (by_damage run log damage)
 damage_shaped run log g s i t None = record { shape = Checking [] 0; items = refl; fits = omega arith; long = (refl, (refl, tt)); want = none_wanted s i t }
 damage_shaped run log g s i t (Some p) = record { shape = Checking [] 2; items = refl; fits = omega arith; long = (refl, (refl, tt)); want = none_wanted s i t }
 
@@ -69,23 +81,22 @@ pub begun_is_shaped : (run : Setting) (log : List Record) (s i t : ℕ) (st : St
 begun_is_shaped run log s i t statement.Begin =
     let g = log ++ run.opened in
     let fresh = greatest_of g + 1 in
-    cond_both (eqb t 0) (surely s i (Opening fresh) Done) (surely s i (Refusing t 60001) (Refused is_open)) (IsShaped g s i t)
+    cond_both (eqb t 0) (surely (Opening fresh) Done) (surely (Refusing t 60001) (Refused is_open)) (BecomesShaped g s i t)
     (λ e. surely_shaped g s i t (Opening fresh) Done (eqb-true t 0 e, refl) (refl, tt))
     (λ e. surely_shaped g s i t (Refusing t 60001) (Refused is_open) (refuses_with t 60001 (omega arith)) (refl, tt))
 begun_is_shaped run log s i t statement.Commit =
     let g = log ++ run.opened in
-    cond_both (eqb t 0) (surely s i (Refusing t 3902) (Refused nothing_to_commit)) (surely s i (Committing t) Done) (IsShaped g s i t)
+    cond_both (eqb t 0) (surely (Refusing t 3902) (Refused nothing_to_commit)) (surely (Committing t) Done) (BecomesShaped g s i t)
     (λ e. surely_shaped g s i t (Refusing t 3902) (Refused nothing_to_commit) (refuses_with t 3902 (omega arith)) (refl, tt))
     (λ e. surely_shaped g s i t (Committing t) Done (refl, some_open t e) (refl, (refl, tt)))
 begun_is_shaped run log s i t statement.Rollback =
     let g = log ++ run.opened in
-    cond_both (eqb t 0) (surely s i (Refusing t 3903) (Refused nothing_to_undo)) (surely s i (RollingBack t (left_of t g)) Done) (IsShaped g s i t)
+    cond_both (eqb t 0) (surely (Refusing t 3903) (Refused nothing_to_undo)) (surely (RollingBack t (left_of t g)) Done) (BecomesShaped g s i t)
     (λ e. surely_shaped g s i t (Refusing t 3903) (Refused nothing_to_undo) (refuses_with t 3903 (omega arith)) (refl, tt))
     (λ e. surely_shaped g s i t (RollingBack t (left_of t g)) Done (refl, some_open t e, refl) (refl, long_undos t (left_of t g)))
 begun_is_shaped run log s i t (statement.Insert table key payload) =
-    let sight = sight_of run log t in
-    outcome_shaped (log ++ run.opened) s i t (insert_outcome sight table key payload) ((outcomes_are_numbered sight table).1 key payload)
+    end_shaped (log ++ run.opened) s i t (insert_plan (shape_of run) table key payload (view_at run log t)).ending
+    (insert_numbered (shape_of run) table key payload (view_at run log t))
 begun_is_shaped run log s i t (statement.Count table) =
-    let sight = sight_of run log t in
-    outcome_shaped (log ++ run.opened) s i t (count_outcome sight table) (outcomes_are_numbered sight table).0
+    end_shaped (log ++ run.opened) s i t (count_plan (shape_of run) table (view_at run log t)).ending (count_numbered (shape_of run) table (view_at run log t))
 begun_is_shaped run log s i t (statement.Check workers) = damage_shaped run log (log ++ run.opened) s i t (damaged_page run.opened run.image)

@@ -1,14 +1,16 @@
 -- The items of a legal history are its statements.
-use Rattle.std.specs.Prelude.{◌≡◌, ℕ, List, length}
+use Rattle.std.specs.Prelude.{◌≡◌, ℕ, List, [], length}
 use Rattle.spec_log.specs.declared.item.Record.{Record}
 use Rattle.spec_script.specs.declared.reply.Reply.{Reply}
+use Rattle.spec_script.specs.declared.statement.Statement.{Statement}
 use Rattle.spec_run.specs.Entries.{Entry, items_of, AreMarked}
-use Rattle.spec_run.specs.Sessions.{placed_of, HasLegalItems, HasWholeItems}
-use Rattle.spec_run.specs.Begun.{Setting}
+use Rattle.spec_run.specs.Sessions.{Placed, placed_of, open_of, log_before, HasLegalItems, HasWholeItems}
+use Rattle.spec_run.specs.Begun.{Setting, Telling, Tells}
+use Rattle.spec_run.specs.Answers.{Allows}
 use Rattle.spec_run.specs.Progress.{script_of}
 use Rattle.spec_run.specs.Turns.{IsSession, IsLegal, AreTold, told_to, IsLegalRun, IsWhole, Run}
 use Rattle.law_run.specs.Laws.{IsStart}
-use Rattle.law_shape.specs.Answered.{AreAnswered, IsServed}
+use Rattle.law_shape.specs.Answered.{IsAnswered, AreAnswered, IsServed}
 
 -- in a legal history each session is served: its items are its script's statements in order, each once, each answered at
 -- its record
@@ -29,6 +31,12 @@ LegalHasItems = (run : Setting) (entries : List Entry) → IsStart run → IsLeg
 abbrev pub WholeHasItems : Type 0
 WholeHasItems = (run : Setting) (entries : List Entry) → IsStart run → IsLegal run (items_of entries) → IsWhole run entries →
     HasWholeItems run.opened (λ s. length (script_of run.scripts s)) (length run.scripts) entries
+
+-- each reply that goes with what was told of an answered statement is allowed at its record, where no page failed
+abbrev pub RepliesAreAllowed : Type 0
+RepliesAreAllowed =
+    (run : Setting) (s i : ℕ) (st : Statement) (placed : List Placed) (told : Telling) (reply : Reply) → IsAnswered run s i st placed told → Tells run.geometry told reply →
+    Allows run (log_before placed) (open_of s (log_before placed)) st [] reply
 
 -- turns put a mark only where a check is under way, and once
 abbrev pub TurnsMark : Type 0

@@ -1,7 +1,7 @@
 //! The items of a legal history, session by session.
 #![tactic(auto)]
 
-ghost use Rattle.law_shape.specs.Laws.{LegalIsServed, WholeIsServed, LegalHasItems, WholeHasItems, TurnsMark, TurnsAreLegal};
+ghost use Rattle.law_shape.specs.Laws.{LegalIsServed, WholeIsServed, LegalHasItems, WholeHasItems, RepliesAreAllowed, TurnsMark, TurnsAreLegal};
 
 /// In a legal history each session's items are the first statements of its script in order, each once, each
 /// with what it owes at its record and told so, and maybe the next one, which is under way. Where every session
@@ -16,6 +16,12 @@ pub fn service_laws()
 pub fn item_laws()
     ensures items { LegalHasItems }
     ensures whole { WholeHasItems }
+{}
+
+/// Each reply that goes with what a session was told of a finished statement is allowed where the statement's record
+/// stands: it is what a one-thread database answers there, or 701.
+pub fn reply_law()
+    ensures { RepliesAreAllowed }
 {}
 
 /// Turns put a mark only where a check is under way, and once. So a legal history that turns have made, with

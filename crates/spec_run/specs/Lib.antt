@@ -3,5 +3,7 @@ pub mod Shapes
 pub mod Sessions
 pub mod Marks
 pub mod Begun
+pub mod Sights
+pub mod Answers
 pub mod Progress
 pub mod Turns

@@ -4,3 +4,4 @@ pub mod Views
 pub mod Words
 pub mod Tables
 pub mod Heaps
+pub mod Statements

@@ -5,7 +5,9 @@ use Rattle.spec_file.specs.declared.data.Resource.{Resource}
 use Rattle.spec_file.specs.declared.data.Resource.TheVariants.{Catalog, Table, Extent, Byte, Page}
 use Rattle.spec_file.specs.Image.{Image}
 use Rattle.spec_log.specs.Items.{is_same, grain_of, number_of}
-use Rattle.spec_words.specs.NetChanges.{FileShape, is_byte_changed, is_page_changed}
+use Rattle.spec_plan.specs.declared.plan.Planned.{Planned}
+use Rattle.spec_words.specs.NetChanges.{FileShape, is_byte_changed, is_page_changed, changes_of}
+use Rattle.spec_words.specs.Views.{View}
 
 abbrev pub is_among : List Resource → Resource → Bool
 is_among taken r = list_any (is_same r) taken
@@ -34,3 +36,10 @@ counts shape start now (Page p) = is_page_changed shape.geometry start now p.0
 -- of what a statement took, in order and once, that which counts and which its transaction doesn't hold yet
 abbrev pub takes_of : FileShape → (Resource → Bool) → List Resource → Image → Image → List Resource
 takes_of shape own taken start now = filter (λ r. not (own r) && counts shape start now r) (in_order taken)
+
+-- what a statement changes and takes, where its view stands so at its end
+abbrev pub changes_at : View → List Planned
+changes_at view = changes_of view.shape view.start view.now
+
+abbrev pub takes_at : View → List Resource
+takes_at view = takes_of view.shape view.own view.taken view.start view.now

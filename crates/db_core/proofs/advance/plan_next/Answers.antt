@@ -48,6 +48,6 @@ returns-in-Count c x here =
     let idle = (c.requires.next x0 first).0 in
     let next = (next_is c.index-session.result.now c.len.result c.index.result.now (c.requires.next c.index-session.result.now (get_at c.args.state.now.sessions.items c.args.at c.index-session.result.now c.requires.at c.index-session.ensures)) c.len.ensures c.index.ensures).0 ∙ ap Some c.in-Count.is in
     subst (λ z. IsPlanned st c.args.at z c.plan_count.result) (get_same st.sessions.items c.args.at x0 x first here)
-    (table_count st c.args.at x0 c.in-Count.table first idle next c.plan_count.result
+    (table_count st c.args.at x0 c.in-Count.table c.requires.good first idle next c.plan_count.result
     (subst (λ s. IfOk c.plan_count.result (λ p. outcome_of p ≡ count_outcome (sight_at s c.args.at) c.in-Count.table)) c.of-view.ensures.state
     (subst (λ k. IfOk c.plan_count.result (λ p. outcome_of p ≡ count_outcome (sight_at c.of-view.result.state.now k) c.in-Count.table)) c.of-view.ensures.at c.plan_count.ensures)))

@@ -1,5 +1,5 @@
 -- An element of a list of which all are so.
-use Rattle.std.proofs.Common.{◌≡◌, ℕ, zero, suc, subst, Bool, true, List, [], ◌∷◌, Option, Some, All, refl, sym, ap, ◌∙◌, get_or}
+use Rattle.std.proofs.Common.{◌≡◌, ℕ, zero, suc, subst, Bool, true, List, [], ◌∷◌, Some, All, sym, ap, ◌∙◌, get_or}
 use Rattle.std.specs.Prelude.{slice_get, unwrap_or}
 use Rattle.std.specs.List.{list_all}
 use Rattle.std.proofs.lemmas.Bool.{and_parts}

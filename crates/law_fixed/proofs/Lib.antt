@@ -1,0 +1,5 @@
+pub mod Numbers
+pub mod Resources
+pub mod Forms
+pub mod Items
+pub mod Logs

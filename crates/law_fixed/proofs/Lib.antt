@@ -3,3 +3,4 @@ pub mod Resources
 pub mod Forms
 pub mod Items
 pub mod Logs
+pub mod Due

@@ -9,7 +9,7 @@ use Rattle.spec_log.specs.Items.{has_form}
 use Rattle.spec_log.specs.Bytes.{item_bytes, log_bytes}
 use Rattle.spec_log.specs.Rules.{HaveForm}
 use Rattle.law_fixed.specs.Widths.{FitsWidths, FitWidths}
-use Rattle.law_fixed.specs.BytesLaws.{BytesFixItems, BytesFixAppended}
+use Rattle.law_fixed.specs.Laws.{BytesFixItems, BytesFixAppended}
 use Rattle.law_fixed.proofs.Items.{item_split}
 
 -- an item has a byte

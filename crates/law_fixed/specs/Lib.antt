@@ -1,2 +1,3 @@
 pub mod Widths
-pub mod BytesLaws
+pub mod CheckTurns
+pub mod Laws

@@ -4,3 +4,5 @@ pub mod Forms
 pub mod Items
 pub mod Logs
 pub mod Due
+pub mod Steps
+pub mod Fixed

@@ -13,14 +13,10 @@ use Rattle.spec_run.specs.Begun.{Setting, Telling, Answers, Reports, Tells}
 use Rattle.spec_run.specs.Progress.{is_short, next_of}
 use Rattle.spec_run.specs.Turns.{Turn, Run, AreTold, told_to}
 use Rattle.law_check.proofs.ReportLaw.{one_report}
-use Rattle.law_fixed.specs.CheckTurns.{goes_on, check_turns}
-use Rattle.law_fixed.specs.Laws.{IsSameTold, TurnsFixHistory}
+use Rattle.law_fixed.specs.CheckTurns.{goes_on, check_turns, HaveAsManyTurns}
+use Rattle.law_fixed.specs.Laws.{IsNeverShort, IsSameButForMarks, TurnsFixHistory}
 use Rattle.law_fixed.proofs.Due.{done_by, end_place}
-use Rattle.law_fixed.proofs.Steps.{IsNeverShort, Step, Rested, Put, Went, step, run_never, count_more, none_past, eqb_self, ended}
-
--- as many turns of each check are left in one run as in the other
-abbrev AsMany : (run : Setting) (turns : List ℕ) (old other new last : List Entry) → Run run old turns new → Run run other turns last → Type 0
-AsMany run turns old other new last made also = (s i : ℕ) → check_turns s i run old turns new made ≡ check_turns s i run other turns last also
+use Rattle.law_fixed.proofs.Steps.{Step, Rested, Put, Went, step, run_never, count_more, none_past, eqb_self, ended}
 
 some_is : {X : Type 0} (x y : X) → Some x ≡ Some y → x ≡ y
 some_is x y e = cc
@@ -30,7 +26,7 @@ none_some x one other a b same = cc
 
 -- a check can't go on in the one run and end in the other
 apart : (run : Setting) (s : ℕ) (turns : List ℕ) (old other new last : List Entry) (made : Run run old (s ∷ turns) new) (also : Run run other (s ∷ turns) last) →
-    items_of old ≡ items_of other → IsNeverShort last → AsMany run (s ∷ turns) old other new last made also →
+    items_of old ≡ items_of other → IsNeverShort last → HaveAsManyTurns run (s ∷ turns) old new other last made also →
     (index outcome : ℕ) → next_of run s (items_of old) ≡ Some (CheckEnd s index outcome) → ((at i : ℕ) → goes_on at i made.1 ≡ ((s == at) && (index == i))) →
     (x : Record) → next_of run s (items_of other) ≡ Some x → items_of also.0 ≡ x ∷ items_of other → is_short x ≡ false → ((at i : ℕ) → goes_on at i also.1 ≡ false) → ⊥
 apart run s turns old other new last made also same long many index outcome next goes x due grown none_short none =
@@ -52,7 +48,7 @@ left_many a b x y true false e f g h = absurd (cc)
 left_many a b x y false true e f g h = absurd (cc)
 
 rest_many : (run : Setting) (s : ℕ) (turns : List ℕ) (old other new last : List Entry) (made : Run run old (s ∷ turns) new) (also : Run run other (s ∷ turns) last) →
-    AsMany run (s ∷ turns) old other new last made also → ((at i : ℕ) → goes_on at i made.1 ≡ goes_on at i also.1) → AsMany run turns made.0 also.0 new last made.2 also.2
+    HaveAsManyTurns run (s ∷ turns) old new other last made also → ((at i : ℕ) → goes_on at i made.1 ≡ goes_on at i also.1) → HaveAsManyTurns run turns made.0 new also.0 last made.2 also.2
 rest_many run s turns old other new last made also many alike at i =
     left_many (check_turns at i run made.0 turns new made.2) (check_turns at i run also.0 turns last also.2)
     (check_turns at i run old (s ∷ turns) new made) (check_turns at i run other (s ∷ turns) last also)
@@ -67,7 +63,7 @@ pub record AreAlike (run : Setting) (s : ℕ) (turns : List ℕ) (old other new 
   pub alike : (at i : ℕ) → goes_on at i made.1 ≡ goes_on at i also.1
 
 alike : (run : Setting) (s : ℕ) (turns : List ℕ) (old other new last : List Entry) (made : Run run old (s ∷ turns) new) (also : Run run other (s ∷ turns) last) →
-    items_of old ≡ items_of other → IsNeverShort new → IsNeverShort last → AsMany run (s ∷ turns) old other new last made also →
+    items_of old ≡ items_of other → IsNeverShort new → IsNeverShort last → HaveAsManyTurns run (s ∷ turns) old new other last made also →
     Step run s old made.0 made.1 → Step run s other also.0 also.1 → AreAlike run s turns old other new last made also
 alike run s turns old other new last made also same long long' many (Rested a b c) (Rested d e f) =
     record { items = b ∙ same ∙ sym e; alike = λ at i. c at i ∙ sym (f at i) }
@@ -92,7 +88,7 @@ alike run s turns old other new last made also same long long' many (Went index 
     record { items = b ∙ same ∙ sym e; alike = λ at i. c at i ∙ ap (λ k. (s == at) && (k == i)) one ∙ sym (f at i) }
 
 same_items : (run : Setting) (turns : List ℕ) (old other new last : List Entry) (made : Run run old turns new) (also : Run run other turns last) →
-    items_of old ≡ items_of other → IsNeverShort new → IsNeverShort last → AsMany run turns old other new last made also → items_of new ≡ items_of last
+    items_of old ≡ items_of other → IsNeverShort new → IsNeverShort last → HaveAsManyTurns run turns old new other last made also → items_of new ≡ items_of last
 same_items run [] old other new last made also same long long' many = ap items_of made ∙ same ∙ sym (ap items_of also)
 same_items run (s ∷ turns) old other new last made also same long long' many =
     let one = step run s old made.0 made.1 (run_never run made.0 turns new made.2 long) in
@@ -118,7 +114,7 @@ one_list g (telling ∷ tellings) (reply ∷ replies) [] a b = absurd b
 one_list g (telling ∷ tellings) (reply ∷ replies) (other ∷ others) a b =
     cons_same reply other replies others (one_reply g telling reply other a.0 b.0) (one_list g tellings replies others a.1 b.1)
 
-told_same : (run : Setting) (first second : List Entry) → items_of first ≡ items_of second → IsSameTold run first second
+told_same : (run : Setting) (first second : List Entry) → items_of first ≡ items_of second → IsSameButForMarks run first second
 told_same run first second items = record {
   items = items;
   told = λ s. ap (told_to run s) items;

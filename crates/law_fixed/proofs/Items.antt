@@ -13,14 +13,14 @@ use Rattle.spec_log.specs.declared.item.Record.{Record}
 use Rattle.spec_log.specs.declared.item.Record.TheVariants.{Start, Change, Undo, Commit, Abort, Snap, Failed, CheckEnd}
 use Rattle.spec_log.specs.Items.{has_form}
 use Rattle.spec_log.specs.Bytes.{item_bytes, resource_bytes}
-use Rattle.law_fixed.specs.Widths.{NumbersFit, FitsWidths}
+use Rattle.law_fixed.specs.Widths.{ResourcesFit, ItemFits}
 use Rattle.law_fixed.proofs.Numbers.{split, head_same, parts_same}
 use Rattle.law_fixed.proofs.Resources.{resources_split}
 use Rattle.law_fixed.proofs.Forms.{start_small, bytes_small, bit_small}
 
 abbrev IsSplit : Record → Record → Type 0
 IsSplit x y =
-    (xs ys : List ℕ) → has_form x ≡ true → FitsWidths x → has_form y ≡ true → FitsWidths y → item_bytes x ++ xs ≡ item_bytes y ++ ys → (x ≡ y) × (xs ≡ ys)
+    (xs ys : List ℕ) → has_form x ≡ true → ItemFits x → has_form y ≡ true → ItemFits y → item_bytes x ++ xs ≡ item_bytes y ++ ys → (x ≡ y) × (xs ≡ ys)
 
 heads : {a b : ℕ} {xs ys : List ℕ} → a ∷ xs ≡ b ∷ ys → a ≡ b
 heads same = cc

@@ -8,7 +8,7 @@ use Rattle.spec_log.specs.declared.item.Record.TheVariants.{Start, Change, Undo,
 use Rattle.spec_log.specs.Items.{has_form}
 use Rattle.spec_log.specs.Bytes.{item_bytes, log_bytes}
 use Rattle.spec_log.specs.Rules.{HaveForm}
-use Rattle.law_fixed.specs.Widths.{FitsWidths, FitWidths}
+use Rattle.law_fixed.specs.Widths.{ItemFits, ItemsFit}
 use Rattle.law_fixed.specs.Laws.{BytesFixItems, BytesFixAppended}
 use Rattle.law_fixed.proofs.Items.{item_split}
 
@@ -30,7 +30,7 @@ row_bytes items = flat_map item_bytes items
 cons_same : (x y : Record) (xs ys : List Record) → x ≡ y → xs ≡ ys → x ∷ xs ≡ y ∷ ys
 cons_same x y xs ys h t = cc
 
-row_same : (items others : List Record) → HaveForm items → FitWidths items → HaveForm others → FitWidths others → row_bytes items ≡ row_bytes others → items ≡ others
+row_same : (items others : List Record) → HaveForm items → ItemsFit items → HaveForm others → ItemsFit others → row_bytes items ≡ row_bytes others → items ≡ others
 row_same [] [] form fits form' fits' same = refl
 row_same [] (y ∷ others) form fits form' fits' same = absurd (some_bytes y (row_bytes others) same)
 row_same (x ∷ items) [] form fits form' fits' same = absurd (some_bytes x (row_bytes items) (sym same))
@@ -52,7 +52,7 @@ form_append : (xs ys : List Record) → HaveForm xs → HaveForm ys → HaveForm
 form_append [] ys f g = g
 form_append (x ∷ xs) ys f g = (f.0, form_append xs ys f.1 g)
 
-fit_append : (xs ys : List Record) → FitWidths xs → FitWidths ys → FitWidths (xs ++ ys)
+fit_append : (xs ys : List Record) → ItemsFit xs → ItemsFit ys → ItemsFit (xs ++ ys)
 fit_append [] ys f g = g
 fit_append (x ∷ xs) ys f g = (f.0, fit_append xs ys f.1 g)
 
@@ -60,9 +60,9 @@ form_reverse : (log : List Record) → HaveForm log → HaveForm (reverse log)
 form_reverse [] f = f
 form_reverse (x ∷ older) f = subst HaveForm (sym (reverse_more x older)) (form_append (reverse older) (x ∷ []) (form_reverse older f.1) (f.0, tt))
 
-fit_reverse : (log : List Record) → FitWidths log → FitWidths (reverse log)
+fit_reverse : (log : List Record) → ItemsFit log → ItemsFit (reverse log)
 fit_reverse [] f = f
-fit_reverse (x ∷ older) f = subst FitWidths (sym (reverse_more x older)) (fit_append (reverse older) (x ∷ []) (fit_reverse older f.1) (f.0, tt))
+fit_reverse (x ∷ older) f = subst ItemsFit (sym (reverse_more x older)) (fit_append (reverse older) (x ∷ []) (fit_reverse older f.1) (f.0, tt))
 
 pub bytes_fix_items : BytesFixItems
 bytes_fix_items first second form fits form' fits' same =

@@ -7,7 +7,7 @@ use Rattle.spec_file.specs.declared.data.Resource.{Resource}
 use Rattle.spec_file.specs.declared.data.Resource.TheVariants.{Catalog, Table, Extent, Byte, Page}
 use Rattle.spec_log.specs.Items.{grain_of, number_of}
 use Rattle.spec_log.specs.Bytes.{resource_bytes}
-use Rattle.law_fixed.specs.Widths.{NumbersFit}
+use Rattle.law_fixed.specs.Widths.{ResourcesFit}
 use Rattle.law_fixed.proofs.Numbers.{split, head_same}
 
 -- the resource with this grain and number
@@ -36,7 +36,7 @@ resource_split r s xs ys fr fs same =
 cons_same : (r s : Resource) (rs ss : List Resource) → r ≡ s → rs ≡ ss → r ∷ rs ≡ s ∷ ss
 cons_same r s rs ss h t = cc
 
-pub resources_split : (rs ss : List Resource) (xs ys : List ℕ) → NumbersFit rs → NumbersFit ss → length rs ≡ length ss →
+pub resources_split : (rs ss : List Resource) (xs ys : List ℕ) → ResourcesFit rs → ResourcesFit ss → length rs ≡ length ss →
     flat_map resource_bytes rs ++ xs ≡ flat_map resource_bytes ss ++ ys → (rs ≡ ss) × (xs ≡ ys)
 resources_split [] [] xs ys fr fs many same = (refl, same)
 resources_split [] (s ∷ ss) xs ys fr fs many same = absurd (omega (arith, many))

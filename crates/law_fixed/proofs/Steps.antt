@@ -12,11 +12,8 @@ use Rattle.spec_run.specs.Begun.{Setting, Telling}
 use Rattle.spec_run.specs.Progress.{Progress, is_short, moved, cut_short, moved_to, progress_of, work_of, next_of}
 use Rattle.spec_run.specs.Turns.{Turn, Rests, Appends, EndsAtOnce, Goes, Marks, Run, IsChecking}
 use Rattle.law_fixed.specs.CheckTurns.{goes_on, check_turns}
+use Rattle.law_fixed.specs.Laws.{IsNeverShort}
 use Rattle.law_fixed.proofs.Due.{done_by, more_done, end_place, works_plain, works_told}
-
--- no item says that memory ran out
-abbrev pub IsNeverShort : List Entry → Type 0
-IsNeverShort entries = list_any is_short (items_of entries) ≡ false
 
 pub data Step (run : Setting) (s : ℕ) (old new : List Entry) (turn : Turn run s old new) : Type 0 where
   Rested : next_of run s (items_of old) ≡ None → items_of new ≡ items_of old → ((at i : ℕ) → goes_on at i turn ≡ false) → Step run s old new turn

@@ -9,29 +9,31 @@ use Rattle.spec_run.specs.Entries.{Entry, items_of}
 use Rattle.spec_run.specs.Begun.{Setting}
 use Rattle.spec_run.specs.Progress.{is_short}
 use Rattle.spec_run.specs.Turns.{AreTold, told_to, Run}
-use Rattle.law_fixed.specs.Widths.{FitWidths}
-use Rattle.law_fixed.specs.CheckTurns.{check_turns}
+use Rattle.law_fixed.specs.Widths.{ItemsFit}
+use Rattle.law_fixed.specs.CheckTurns.{HaveAsManyTurns}
 
--- two logs of the same bytes, each in its form, are the same
+-- two logs in their form that have the same bytes are the same
 abbrev pub BytesFixItems : Type 0
-BytesFixItems = (first second : List Record) → HaveForm first → FitWidths first → HaveForm second → FitWidths second →
-    log_bytes first ≡ log_bytes second → first ≡ second
+BytesFixItems = (log log' : List Record) → HaveForm log → ItemsFit log → HaveForm log' → ItemsFit log' → log_bytes log ≡ log_bytes log' → log ≡ log'
 
 -- so are two lists of items behind the same opened log, whatever that is
 abbrev pub BytesFixAppended : Type 0
-BytesFixAppended = (opened first second : List Record) → HaveForm first → FitWidths first → HaveForm second → FitWidths second →
-    log_bytes (first ++ opened) ≡ log_bytes (second ++ opened) → first ≡ second
+BytesFixAppended = (opened log log' : List Record) → HaveForm log → ItemsFit log → HaveForm log' → ItemsFit log' →
+    log_bytes (log ++ opened) ≡ log_bytes (log' ++ opened) → log ≡ log'
 
--- two histories have the same items, each session is told the same in both, and so has the same replies
-pub record IsSameTold (run : Setting) (first second : List Entry) : Type 0 where
-  pub items : items_of first ≡ items_of second
-  pub told : (s : ℕ) → told_to run s (items_of first) ≡ told_to run s (items_of second)
-  pub replies : (s : ℕ) (replies others : List Reply) → AreTold run.geometry (told_to run s (items_of first)) replies →
-      AreTold run.geometry (told_to run s (items_of second)) others → replies ≡ others
+-- no item stands for want of memory
+abbrev pub IsNeverShort : List Entry → Type 0
+IsNeverShort entries = list_any is_short (items_of entries) ≡ false
 
--- the same turns from the same entries, in which each check goes on in as many turns, and where memory never runs out,
--- make the same history but for its marks
+-- two histories have the same items, and tell each session the same, so that it has the same replies
+pub record IsSameButForMarks (run : Setting) (entries entries' : List Entry) : Type 0 where
+  pub items : items_of entries ≡ items_of entries'
+  pub told : (s : ℕ) → told_to run s (items_of entries) ≡ told_to run s (items_of entries')
+  pub replies : (s : ℕ) (given given' : List Reply) → AreTold run.geometry (told_to run s (items_of entries)) given →
+      AreTold run.geometry (told_to run s (items_of entries')) given' → given ≡ given'
+
+-- what the same turns make of the same entries is the same but for marks, where each check goes on in as many turns
+-- and memory never runs out
 abbrev pub TurnsFixHistory : Type 0
-TurnsFixHistory = (run : Setting) (turns : List ℕ) (old first second : List Entry) (made : Run run old turns first) (also : Run run old turns second) →
-    list_any is_short (items_of first) ≡ false → list_any is_short (items_of second) ≡ false →
-    ((s i : ℕ) → check_turns s i run old turns first made ≡ check_turns s i run old turns second also) → IsSameTold run first second
+TurnsFixHistory = (run : Setting) (turns : List ℕ) (old new new' : List Entry) (one : Run run old turns new) (other : Run run old turns new') →
+    IsNeverShort new → IsNeverShort new' → HaveAsManyTurns run turns old new old new' one other → IsSameButForMarks run new new'

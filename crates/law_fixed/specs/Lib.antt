@@ -1,3 +1,4 @@
 pub mod Widths
 pub mod CheckTurns
 pub mod Laws
+pub mod FewTurns

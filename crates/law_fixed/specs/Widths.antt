@@ -1,5 +1,5 @@
--- The numbers of an item fit the widths that the log gives them. What the form of an item bounds already isn't asked
--- again (this project's own).
+-- The numbers of an item are below what the types of its fields hold: a contract sees them as numbers without a bound.
+-- What the form of an item bounds closer isn't asked again (this project's own).
 use Rattle.std.specs.Prelude.{ℕ, ◌^◌, ◌<◌, List, [], ◌∷◌}
 use Rattle.spec_file.specs.declared.data.Resource.{Resource}
 use Rattle.spec_log.specs.declared.item.Cell.{Cell}
@@ -8,26 +8,27 @@ use Rattle.spec_log.specs.declared.item.Record.{Record}
 use Rattle.spec_log.specs.declared.item.Record.TheVariants.{Start, Change, Undo, Commit, Abort, Snap, Failed, CheckEnd}
 use Rattle.spec_log.specs.Items.{number_of}
 
-abbrev pub NumbersFit : List Resource → Type 0
-NumbersFit [] = Unit {0}
-NumbersFit (resource ∷ resources) = (number_of resource < 2 ^ 32) × NumbersFit resources
+abbrev pub ResourcesFit : List Resource → Type 0
+ResourcesFit [] = Unit {0}
+ResourcesFit (resource ∷ resources) = (number_of resource < 2 ^ 32) × ResourcesFit resources
 
+-- the page of a cell
 abbrev pub CellFits : Cell → Type 0
 CellFits (Bytes page off) = page.0 < 2 ^ 32
 CellFits (Bit page n) = page.0 < 2 ^ 32
 
-abbrev pub FitsWidths : Record → Type 0
-FitsWidths (Start session index tran number changes size takes) =
-    (session < 2 ^ 16) × (index < 2 ^ 32) × (tran.0 < 2 ^ 64) × (number < 2 ^ 16) × NumbersFit takes
-FitsWidths (Change tran cell before after) = (tran.0 < 2 ^ 64) × CellFits cell
-FitsWidths (Undo tran change) = (tran.0 < 2 ^ 64) × (change.0 < 2 ^ 64)
-FitsWidths (Commit tran) = tran.0 < 2 ^ 64
-FitsWidths (Abort tran) = tran.0 < 2 ^ 64
-FitsWidths (Snap session index) = (session < 2 ^ 16) × (index < 2 ^ 32)
-FitsWidths (Failed session index page) = (session < 2 ^ 16) × (index < 2 ^ 32) × (page.0 < 2 ^ 32)
-FitsWidths (CheckEnd session index outcome) = (session < 2 ^ 16) × (index < 2 ^ 32)
+abbrev pub ItemFits : Record → Type 0
+ItemFits (Start session index tran number changes size takes) =
+    (session < 2 ^ 16) × (index < 2 ^ 32) × (tran.0 < 2 ^ 64) × (number < 2 ^ 16) × ResourcesFit takes
+ItemFits (Change tran cell before after) = (tran.0 < 2 ^ 64) × CellFits cell
+ItemFits (Undo tran change) = (tran.0 < 2 ^ 64) × (change.0 < 2 ^ 64)
+ItemFits (Commit tran) = tran.0 < 2 ^ 64
+ItemFits (Abort tran) = tran.0 < 2 ^ 64
+ItemFits (Snap session index) = (session < 2 ^ 16) × (index < 2 ^ 32)
+ItemFits (Failed session index page) = (session < 2 ^ 16) × (index < 2 ^ 32) × (page.0 < 2 ^ 32)
+ItemFits (CheckEnd session index outcome) = (session < 2 ^ 16) × (index < 2 ^ 32)
 
--- each item's numbers fit
-abbrev pub FitWidths : List Record → Type 0
-FitWidths [] = Unit {0}
-FitWidths (x ∷ older) = FitsWidths x × FitWidths older
+-- the numbers of each item
+abbrev pub ItemsFit : List Record → Type 0
+ItemsFit [] = Unit {0}
+ItemsFit (x ∷ older) = ItemFits x × ItemsFit older

@@ -3,15 +3,15 @@
 
 ghost use Rattle.law_fixed.specs.Laws.{BytesFixAppended, BytesFixItems, TurnsFixHistory};
 
-/// Two logs in their form that have the same bytes have the same items. So have two that stand behind the same
-/// opened log.
+/// Two logs in their form that have the same bytes have the same items. So have two lists of items that stand
+/// behind the same opened log.
 pub fn bytes_law()
     ensures items { BytesFixItems }
     ensures appended { BytesFixAppended }
 {}
 
-/// The same turns, in which each check goes on in as many turns, make the same items and replies, unless memory
-/// runs out.
+/// The same turns, of which each check takes as many, make the same items, tellings and replies, unless memory
+/// runs out. Of marks nothing is said.
 pub fn turns_law()
     ensures { TurnsFixHistory }
 {}

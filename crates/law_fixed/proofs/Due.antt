@@ -9,7 +9,7 @@ use Rattle.spec_script.specs.declared.statement.Statement.{Statement}
 use Rattle.spec_plan.specs.declared.plan.Planned.{Planned}
 use Rattle.spec_run.specs.Shapes.{Shape, Refused, Faulted, Opening, Reading, Writing, Committing, RollingBack, Checking, plain_start, change_item, undo_items, items_by}
 use Rattle.spec_run.specs.Sessions.{session_of}
-use Rattle.spec_run.specs.Begun.{Setting, becomes, begun}
+use Rattle.spec_run.specs.Begun.{Setting, becomes}
 use Rattle.spec_run.specs.Progress.{Progress, script_of, with_statement, at_work, is_short, want_after, moved_to, cut_short, moved, progress_of, work_of, first_of, next_of}
 
 -- a CheckEnd among these items is the last, and has this place

@@ -1,6 +1,6 @@
 -- The same turns with as many turns of each check make the same items.
-use Rattle.std.proofs.Common.{◌≡◌, ◌⊎◌, ℕ, ◌+◌, ◌<◌, ◌≤◌, ◌==◌, ◌&&◌, Bool, true, false, List, [], ◌∷◌, length, Option, Some, None, refl, sym, ap, ◌∙◌, subst, arith, inl, inr, ⊎_elim}
-use Rattle.std.specs.Prelude.{if◌then◌else◌, reverse}
+use Rattle.std.proofs.Common.{◌≡◌, ℕ, ◌+◌, ◌==◌, ◌&&◌, Bool, true, false, List, [], ◌∷◌, Option, Some, None, refl, sym, ap, ◌∙◌, subst, arith}
+use Rattle.std.specs.Prelude.{if◌then◌else◌}
 use Rattle.std.proofs.lemmas.Bool.{and_from}
 use Rattle.spec_file.specs.declared.geometry.Geometry.{Geometry}
 use Rattle.spec_log.specs.declared.item.Record.{Record}
@@ -11,11 +11,11 @@ use Rattle.spec_script.specs.declared.reply.Reply.TheVariants.{Report}
 use Rattle.spec_run.specs.Entries.{Entry, items_of}
 use Rattle.spec_run.specs.Begun.{Setting, Telling, Answers, Reports, Tells}
 use Rattle.spec_run.specs.Progress.{is_short, next_of}
-use Rattle.spec_run.specs.Turns.{Turn, Run, AreTold, told_to}
+use Rattle.spec_run.specs.Turns.{Run, AreTold, told_to}
 use Rattle.law_check.proofs.ReportLaw.{one_report}
 use Rattle.law_fixed.specs.CheckTurns.{goes_on, check_turns, HaveAsManyTurns}
 use Rattle.law_fixed.specs.Laws.{IsNeverShort, IsSameButForMarks, TurnsFixHistory}
-use Rattle.law_fixed.proofs.Due.{done_by, end_place}
+use Rattle.law_fixed.proofs.Due.{done_by}
 use Rattle.law_fixed.proofs.Steps.{Step, Rested, Put, Went, step, run_never, count_more, none_past, eqb_self, ended}
 
 some_is : {X : Type 0} (x y : X) → Some x ≡ Some y → x ≡ y
@@ -84,7 +84,7 @@ alike run s turns old other new last made also same long long' many (Went index 
     absurd (apart run s turns old other new last made also same long' many index outcome a c x d e f g)
 alike run s turns old other new last made also same long long' many (Went index outcome a b c) (Went index' outcome' d e f) =
     let one : index ≡ index' =
-        index_is s index index' outcome outcome' (some_is (CheckEnd s index outcome) (CheckEnd s index' outcome') (sym a ∙ ap (next_of run s) same ∙ d)) in
+    index_is s index index' outcome outcome' (some_is (CheckEnd s index outcome) (CheckEnd s index' outcome') (sym a ∙ ap (next_of run s) same ∙ d)) in
     record { items = b ∙ same ∙ sym e; alike = λ at i. c at i ∙ ap (λ k. (s == at) && (k == i)) one ∙ sym (f at i) }
 
 same_items : (run : Setting) (turns : List ℕ) (old other new last : List Entry) (made : Run run old turns new) (also : Run run other turns last) →

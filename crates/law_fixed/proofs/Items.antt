@@ -1,8 +1,7 @@
 -- The bytes of an item fix it, and what stands behind them.
-use Rattle.std.proofs.Common.{◌≡◌, ℕ, zero, suc, ◌*◌, ◌<◌, ◌^◌, true, List, [], ◌∷◌, ◌++◌, length, refl, sym, ap, ◌∙◌, arith}
+use Rattle.std.proofs.Common.{◌≡◌, ℕ, true, List, ◌∷◌, ◌++◌, length, sym, ap, ◌∙◌, arith}
 use Rattle.std.specs.Prelude.{flat_map}
 use Rattle.std.proofs.lemmas.List.{append_assoc}
-use Rattle.byteorder.specs.Endian.{little_bytes}
 use Rattle.spec_file.specs.declared.data.Resource.{Resource}
 use Rattle.spec_file.specs.declared.data.PageNo.{PageNo}
 use Rattle.spec_file.specs.declared.data.Tran.{Tran}
@@ -13,8 +12,8 @@ use Rattle.spec_log.specs.declared.item.Record.{Record}
 use Rattle.spec_log.specs.declared.item.Record.TheVariants.{Start, Change, Undo, Commit, Abort, Snap, Failed, CheckEnd}
 use Rattle.spec_log.specs.Items.{has_form}
 use Rattle.spec_log.specs.Bytes.{item_bytes, resource_bytes}
-use Rattle.law_fixed.specs.Widths.{ResourcesFit, ItemFits}
-use Rattle.law_fixed.proofs.Numbers.{split, head_same, parts_same}
+use Rattle.law_fixed.specs.Widths.{ItemFits}
+use Rattle.law_fixed.proofs.Numbers.{split, parts_same}
 use Rattle.law_fixed.proofs.Resources.{resources_split}
 use Rattle.law_fixed.proofs.Forms.{start_small, bytes_small, bit_small}
 
@@ -133,9 +132,11 @@ bytes_split tran page off before after (Change tran' (Bytes page' off') before' 
     let b = split 4 page.0 page'.0 _ _ fits.1 fits'.1 (tails a.1) in
     let c = split 4 off off' _ _ (omega (arith, e)) (omega (arith, f)) b.1 in
     let d = split 2 (length after) (length after') ((before ++ after) ++ xs) ((before' ++ after') ++ ys) small.many small'.many c.1 in
-    let v = values_split before before' after after' xs ys (small.as_many ∙ d.0 ∙ sym small'.as_many) d.0 d.1 in
-    (change_is tran tran' (Bytes page off) (Bytes page' off') before before' after after' (tran_same tran tran' a.0)
-    (ap (λ p. Bytes p off) (page_same page page' b.0) ∙ ap (Bytes page') c.0) v.0 v.1, v.2)
+    let v = values_split before before' after after' xs ys (small.as_many ∙ d.0 ∙ sym small'.as_many) d.0 d.1 in (
+      change_is tran tran' (Bytes page off) (Bytes page' off') before before' after after' (tran_same tran tran' a.0)
+          (ap (λ p. Bytes p off) (page_same page page' b.0) ∙ ap (Bytes page') c.0) v.0 v.1,
+      v.2,
+    )
 bytes_split tran page off before after (Change tran' (Bit page' n') before' after') xs ys form fits form' fits' same =
     let a = split 8 tran.0 tran'.0 _ _ fits.0 fits'.0 (tails same) in
     absurd (omega (arith, heads a.1))
@@ -151,9 +152,11 @@ bit_split tran page n before after (Change tran' (Bit page' n') before' after') 
     let b = split 4 page.0 page'.0 _ _ fits.1 fits'.1 (tails a.1) in
     let c = split 4 n n' _ _ (omega (arith, e)) (omega (arith, f)) b.1 in
     let d = split 2 (length after) (length after') ((before ++ after) ++ xs) ((before' ++ after') ++ ys) small.many small'.many c.1 in
-    let v = values_split before before' after after' xs ys (small.as_many ∙ d.0 ∙ sym small'.as_many) d.0 d.1 in
-    (change_is tran tran' (Bit page n) (Bit page' n') before before' after after' (tran_same tran tran' a.0)
-    (ap (λ p. Bit p n) (page_same page page' b.0) ∙ ap (Bit page') c.0) v.0 v.1, v.2)
+    let v = values_split before before' after after' xs ys (small.as_many ∙ d.0 ∙ sym small'.as_many) d.0 d.1 in (
+      change_is tran tran' (Bit page n) (Bit page' n') before before' after after' (tran_same tran tran' a.0)
+          (ap (λ p. Bit p n) (page_same page page' b.0) ∙ ap (Bit page') c.0) v.0 v.1,
+      v.2,
+    )
 bit_split tran page n before after (Change tran' (Bytes page' off') before' after') xs ys form fits form' fits' same =
     let a = split 8 tran.0 tran'.0 _ _ fits.0 fits'.0 (tails same) in
     absurd (omega (arith, heads a.1))

@@ -1,14 +1,13 @@
 -- The bytes of a log fix its items.
-use Rattle.std.proofs.Common.{◌≡◌, ℕ, true, List, [], ◌∷◌, ◌++◌, length, refl, sym, ap, ◌∙◌, subst}
+use Rattle.std.proofs.Common.{◌≡◌, ℕ, List, [], ◌∷◌, ◌++◌, refl, sym, ap, ◌∙◌, subst}
 use Rattle.std.specs.Prelude.{flat_map, reverse}
 use Rattle.std.proofs.lemmas.List.{append_assoc, append-nil, append_cancel_left, reverse-append, reverse-reverse}
 use Rattle.std.proofs.lemmas.Grind.{flat_map-append}
 use Rattle.spec_log.specs.declared.item.Record.{Record}
 use Rattle.spec_log.specs.declared.item.Record.TheVariants.{Start, Change, Undo, Commit, Abort, Snap, Failed, CheckEnd}
-use Rattle.spec_log.specs.Items.{has_form}
 use Rattle.spec_log.specs.Bytes.{item_bytes, log_bytes}
 use Rattle.spec_log.specs.Rules.{HaveForm}
-use Rattle.law_fixed.specs.Widths.{ItemFits, ItemsFit}
+use Rattle.law_fixed.specs.Widths.{ItemsFit}
 use Rattle.law_fixed.specs.Laws.{BytesFixItems, BytesFixAppended}
 use Rattle.law_fixed.proofs.Items.{item_split}
 
@@ -79,3 +78,7 @@ pub bytes_fix_appended : BytesFixAppended
 bytes_fix_appended opened first second form fits form' fits' same =
     bytes_fix_items first second form fits form' fits'
     (append_cancel_left (log_bytes opened) (log_bytes first) (log_bytes second) (sym (log_append first opened) ∙ same ∙ log_append second opened))
+
+-- without the widths it wouldn't hold: the lowest two bytes of 65537 are those of 1
+low_bytes_agree : log_bytes (Snap 65537 1 ∷ []) ≡ log_bytes (Snap 1 1 ∷ [])
+low_bytes_agree = refl

@@ -1,5 +1,5 @@
 -- A number that fits its bytes can be read back from them, whatever stands behind.
-use Rattle.std.proofs.Common.{◌≡◌, ℕ, ◌^◌, ◌*◌, ◌<◌, zero, suc, refl, arith, List, [], ◌∷◌, ◌++◌, length, drop, sym, ap, ◌∙◌, subst}
+use Rattle.std.proofs.Common.{◌≡◌, ℕ, ◌^◌, ◌*◌, ◌<◌, refl, arith, List, [], ◌∷◌, ◌++◌, length, drop, sym, ap, ◌∙◌, subst}
 use Rattle.std.proofs.lemmas.List.{drop_at}
 use Rattle.byteorder.specs.Endian.{little_from, little_bytes}
 use Rattle.byteorder.specs.Numbers.{little_number-reads_back, length-bytes_low_first}
@@ -8,7 +8,7 @@ use Rattle.byteorder.proofs.Bytes.{pow256}
 pub split : (n x y : ℕ) (xs ys : List ℕ) → x < 2 ^ (8 * n) → y < 2 ^ (8 * n) → little_bytes n x ++ xs ≡ little_bytes n y ++ ys → (x ≡ y) × (xs ≡ ys)
 split n x y xs ys fx fy same = (
   sym (little_number-reads_back n x xs (subst (λ k. x < k) (sym (pow256 n)) fx)) ∙ ap (little_from 0 n) same
-  ∙ little_number-reads_back n y ys (subst (λ k. y < k) (sym (pow256 n)) fy),
+      ∙ little_number-reads_back n y ys (subst (λ k. y < k) (sym (pow256 n)) fy),
   sym (drop_at (little_bytes n x) xs n (length-bytes_low_first 0 n x)) ∙ ap (drop n) same ∙ drop_at (little_bytes n y) ys n (length-bytes_low_first 0 n y),
 )
 

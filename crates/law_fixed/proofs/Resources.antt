@@ -1,5 +1,5 @@
 -- The bytes of resources fix them.
-use Rattle.std.proofs.Common.{◌≡◌, ℕ, ◌*◌, ◌<◌, ◌^◌, zero, suc, List, [], ◌∷◌, ◌++◌, length, refl, sym, ap, ◌∙◌, arith, ◌==◌}
+use Rattle.std.proofs.Common.{◌≡◌, ℕ, ◌<◌, ◌^◌, List, [], ◌∷◌, ◌++◌, length, refl, sym, ap, ◌∙◌, arith, ◌==◌}
 use Rattle.std.specs.Prelude.{flat_map, if◌then◌else◌}
 use Rattle.std.proofs.lemmas.List.{append_assoc}
 use Rattle.byteorder.specs.Endian.{little_bytes}
@@ -42,8 +42,8 @@ resources_split [] [] xs ys fr fs many same = (refl, same)
 resources_split [] (s ∷ ss) xs ys fr fs many same = absurd (omega (arith, many))
 resources_split (r ∷ rs) [] xs ys fr fs many same = absurd (omega (arith, many))
 resources_split (r ∷ rs) (s ∷ ss) xs ys fr fs many same =
-    let whole : resource_bytes r ++ (flat_map resource_bytes rs ++ xs) ≡ resource_bytes s ++ (flat_map resource_bytes ss ++ ys) = 
-        sym (append_assoc (resource_bytes r) (flat_map resource_bytes rs) xs) ∙ same ∙ append_assoc (resource_bytes s) (flat_map resource_bytes ss) ys in
+    let whole : resource_bytes r ++ (flat_map resource_bytes rs ++ xs) ≡ resource_bytes s ++ (flat_map resource_bytes ss ++ ys) =
+    sym (append_assoc (resource_bytes r) (flat_map resource_bytes rs) xs) ∙ same ∙ append_assoc (resource_bytes s) (flat_map resource_bytes ss) ys in
     let first = resource_split r s _ _ fr.0 fs.0 whole in
     let rest = resources_split rs ss xs ys fr.1 fs.1 (omega (arith, many)) first.1 in
     (cons_same r s rs ss first.0 rest.0, rest.1)

@@ -1,16 +1,15 @@
 -- A turn where memory doesn't run out: the session rests, appends the item that is due, or its check goes on.
-use Rattle.std.proofs.Common.{◌≡◌, ◌⊎◌, ℕ, ◌+◌, ◌<◌, ◌≤◌, ◌==◌, ◌&&◌, ◌||◌, Bool, true, false, List, [], ◌∷◌, length, Some, None, refl, sym, ap, ◌∙◌, subst, arith, inl, inr, ⊎_elim}
+use Rattle.std.proofs.Common.{◌≡◌, ◌⊎◌, ℕ, ◌+◌, ◌≤◌, ◌==◌, ◌&&◌, ◌||◌, Bool, true, false, List, [], ◌∷◌, length, Some, None, refl, sym, ap, ◌∙◌, subst, arith, inl, inr}
 use Rattle.std.specs.Prelude.{if◌then◌else◌}
 use Rattle.std.specs.List.{list_any}
-use Rattle.std.proofs.lemmas.Bool.{false≢true, both_ways, or_right, and_parts, eqb-true, eq-eqb, false_from_ne_true}
+use Rattle.std.proofs.lemmas.Bool.{false≢true, both_ways, and_parts, eqb-true, eq-eqb, false_from_ne_true}
 use Rattle.spec_log.specs.declared.item.Record.{Record}
-use Rattle.spec_log.specs.declared.item.Record.TheVariants.{CheckEnd, Snap}
+use Rattle.spec_log.specs.declared.item.Record.TheVariants.{CheckEnd}
 use Rattle.spec_log.specs.Log.{rest_of}
-use Rattle.spec_run.specs.Entries.{Entry, Item, Undone, items_of}
-use Rattle.spec_run.specs.Sessions.{session_of}
+use Rattle.spec_run.specs.Entries.{Entry, Item, items_of}
 use Rattle.spec_run.specs.Begun.{Setting, Telling}
-use Rattle.spec_run.specs.Progress.{Progress, is_short, moved, cut_short, moved_to, progress_of, work_of, next_of}
-use Rattle.spec_run.specs.Turns.{Turn, Rests, Appends, EndsAtOnce, Goes, Marks, Run, IsChecking}
+use Rattle.spec_run.specs.Progress.{Progress, is_short, moved, cut_short, moved_to, progress_of, work_of, next_of, MayCome}
+use Rattle.spec_run.specs.Turns.{Turn, Rests, Appends, EndsAtOnce, Goes, Marks, Run}
 use Rattle.law_fixed.specs.CheckTurns.{goes_on, check_turns}
 use Rattle.law_fixed.specs.Laws.{IsNeverShort}
 use Rattle.law_fixed.proofs.Due.{done_by, more_done, end_place, works_plain, works_told}
@@ -26,7 +25,7 @@ never : (b c : Bool) → (b || c) ≡ false → (b ≡ false) × (c ≡ false)
 never false c e = (refl, e)
 never true c e = absurd (cc)
 
-put_step : (run : Setting) (s : ℕ) (old new : List Entry) (x : Record) (come : (next_of run s (items_of old) ≡ Some x) ⊎ ((work_of run s (items_of old)).want ≡ Some x)) (more : new ≡ Item x ∷ old) → IsNeverShort new →
+put_step : (run : Setting) (s : ℕ) (old new : List Entry) (x : Record) (come : MayCome (work_of run s (items_of old)) x) (more : new ≡ Item x ∷ old) → IsNeverShort new →
     Step run s old new (Appends x come more)
 put_step run s old new x (inl due) more long =
     let grown = ap items_of more in
@@ -45,7 +44,7 @@ step run s old new (EndsAtOnce index come more) long =
 step run s old new (Goes index checking same) long = Went index checking.outcome checking.is_next (ap items_of same) (λ at i. refl)
 step run s old new (Marks index checking first more) long = Went index checking.outcome checking.is_next (ap items_of more) (λ at i. refl)
 
--- what a turn leaves is longer
+-- where memory didn't run out after a turn, it hadn't before
 turn_never : (run : Setting) (s : ℕ) (old new : List Entry) → Turn run s old new → IsNeverShort new → IsNeverShort old
 turn_never run s old new (Rests done same) long = subst IsNeverShort same long
 turn_never run s old new (Appends x come more) long = (never (is_short x) (list_any is_short (items_of old)) (sym (ap (λ entries. list_any is_short (items_of entries)) more) ∙ long)).1
@@ -79,7 +78,7 @@ step_past run s i at old new turn (Went index outcome next same goes) past =
     let same_session = ap (λ t. done_by run t (items_of old)) here in
     omega (arith, place, now, same_session, past))
 
--- with how many turns are left
+-- how many turns a check takes, by the first of them
 pub count_more : (s i : ℕ) (run : Setting) (old : List Entry) (at : ℕ) (turns : List ℕ) (new : List Entry) (made : Run run old (at ∷ turns) new) (b : Bool) → goes_on s i made.1 ≡ b →
     check_turns s i run old (at ∷ turns) new made ≡ (if b then 1 else 0) + check_turns s i run made.0 turns new made.2
 count_more s i run old at turns new made b e = ap (λ c. (if c then 1 else 0) + check_turns s i run made.0 turns new made.2) e
@@ -115,6 +114,6 @@ ended run s older index outcome next long =
     let place = end_place run s older index outcome next in
     let at = place.0 in
     let now = done_own (progress_of run s older) (moved w x) (s == s) (eqb_self s) in
-    let then' = done_moved w x (rest_of w.due) (is_short x) long place.1 in
+    let after = done_moved w x (rest_of w.due) (is_short x) long place.1 in
     let told = ap (λ (told : List Telling). length told) (works_told run s older) in
-    omega (arith, at, now, then', told)
+    omega (arith, at, now, after, told)

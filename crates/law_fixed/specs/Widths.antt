@@ -2,25 +2,19 @@
 -- What the form of an item bounds closer isn't asked again (this project's own).
 use Rattle.std.specs.Prelude.{◌^◌, ◌<◌, List, [], ◌∷◌}
 use Rattle.spec_file.specs.declared.data.Resource.{Resource}
-use Rattle.spec_log.specs.declared.item.Cell.{Cell}
-use Rattle.spec_log.specs.declared.item.Cell.TheVariants.{Bytes, Bit}
 use Rattle.spec_log.specs.declared.item.Record.{Record}
 use Rattle.spec_log.specs.declared.item.Record.TheVariants.{Start, Change, Undo, Commit, Abort, Snap, Failed, CheckEnd}
 use Rattle.spec_log.specs.Items.{number_of}
+use Rattle.spec_log.specs.Images.{page_of_cell}
 
 abbrev pub ResourcesFit : List Resource → Type 0
 ResourcesFit [] = Unit {0}
 ResourcesFit (resource ∷ resources) = (number_of resource < 2 ^ 32) × ResourcesFit resources
 
--- the page of a cell
-abbrev pub CellFits : Cell → Type 0
-CellFits (Bytes page off) = page.0 < 2 ^ 32
-CellFits (Bit page n) = page.0 < 2 ^ 32
-
 abbrev pub ItemFits : Record → Type 0
 ItemFits (Start session index tran number changes size takes) =
     (session < 2 ^ 16) × (index < 2 ^ 32) × (tran.0 < 2 ^ 64) × (number < 2 ^ 16) × ResourcesFit takes
-ItemFits (Change tran cell before after) = (tran.0 < 2 ^ 64) × CellFits cell
+ItemFits (Change tran cell before after) = (tran.0 < 2 ^ 64) × (page_of_cell cell < 2 ^ 32)
 ItemFits (Undo tran change) = (tran.0 < 2 ^ 64) × (change.0 < 2 ^ 64)
 ItemFits (Commit tran) = tran.0 < 2 ^ 64
 ItemFits (Abort tran) = tran.0 < 2 ^ 64

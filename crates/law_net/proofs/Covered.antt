@@ -148,7 +148,7 @@ filter_none : (f : ℕ → Bool) (xs : List ℕ) → ((x : ℕ) → f x ≡ fals
 filter_none f [] none = refl
 filter_none f (x ∷ xs) none = ap (λ b. if b then x ∷ filter f xs else filter f xs) (none x) ∙ filter_none f xs none
 
-differing_none : (start now : Image) (p lo hi : ℕ) → page start p ≡ page now p → differing start now p lo hi ≡ []
+pub differing_none : (start now : Image) (p lo hi : ℕ) → page start p ≡ page now p → differing start now p lo hi ≡ []
 unfolding differing
 differing_none start now p lo hi e =
     filter_none (λ i. not (eqb (slice_index (page start p) i) (slice_index (page now p) i))) (range_with_len lo (hi - lo))

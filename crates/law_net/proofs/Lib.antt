@@ -20,3 +20,11 @@ pub mod ReadingLeaves
 pub mod InsertKeeps
 pub mod WordsKeep
 pub mod Statements
+pub mod RowPage
+pub mod RowWritten
+pub mod RowChanges
+pub mod RowPlanned
+pub mod AgreeWords
+pub mod AgreeReading
+pub mod AgreePlans
+pub mod Computed

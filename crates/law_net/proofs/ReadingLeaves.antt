@@ -1,6 +1,6 @@
 -- What only reads leaves the view as it was: the words of reading, the pages of a table, and COUNT.
 use Rattle.std.proofs.Common.{◌≡◌, ℕ, zero, suc, ◌+◌, ◌%◌, ◌<◌, ◌≤◌, Bool, true, eqb, not, ◌||◌, ◌&&◌, List, [], ◌∷◌, ◌++◌, length, Option, Some, None, refl, sym, ◌∙◌, subst, arith}
-use Rattle.std.specs.Prelude.{if◌then◌else◌, filter}
+use Rattle.std.specs.Prelude.{All, if◌then◌else◌, filter}
 use Rattle.std.specs.List.{range_with_len}
 use Rattle.std.proofs.lemmas.Bool.{and_parts, cond_both}
 use Rattle.spec_file.specs.declared.data.Resource.TheVariants as resource
@@ -11,7 +11,7 @@ use Rattle.spec_file.specs.CatalogRows.{CatalogRow, rows_of}
 use Rattle.spec_file.specs.Roles.{is_ordinary}
 use Rattle.spec_rows.specs.Slots.{slot_count}
 use Rattle.std.specs.Prelude.{sum_by}
-use Rattle.law_net.specs.Statements.{CountLeavesView}
+use Rattle.law_net.specs.Statements.{TablePagesLeaveView, CountLeavesView}
 use Rattle.spec_chain.specs.Chains.{is_last, next_of}
 use Rattle.spec_chain.specs.Uses.{pfs_byte, is_allocated}
 use Rattle.spec_plan.specs.Refusals.{bad_page, no_table}
@@ -24,12 +24,24 @@ use Rattle.spec_script.specs.declared.reply.Reply.TheVariants.{Rows}
 use Rattle.spec_words.specs.Words.{all_of, ◌then◌, give, refuse, sees, or_later, first_of}
 use Rattle.spec_words.specs.Tables.{table_of, is_chain_page, chain_from, chain_of, bytes_read, byte_pages, object_pages, table_pages}
 use Rattle.spec_words.specs.Heaps.{heap_page, room_on}
-use Rattle.law_net.specs.GoodViews.{Leads}
-use Rattle.law_net.proofs.WordLaws.{leads_all, leads_then, leads_give, leads_refuse, leads_sees, leads_held, leads_good, leads_look, leads_found, leads_weaker, leads_each}
+use Rattle.law_net.specs.GoodViews.{LookLeavesView, ReachLeavesView, HeldLeavesView, GoodLeavesView, Leads}
+use Rattle.law_net.proofs.WordLaws.{leads_reach, leads_all, leads_then, leads_give, leads_refuse, leads_sees, leads_held, leads_good, leads_look, leads_found, leads_weaker, leads_each}
 
 -- what only reads leaves the view
 abbrev pub Reads : {A : Type 0} → Plan A → View → (A → Type 0) → Type 0
 Reads plan v K = Leads plan v (λ x w. (w ≡ v) × K x)
+
+pub look_leaves_view : LookLeavesView
+look_leaves_view v r p = leads_look r p v _ (λ free. (refl, refl, free))
+
+pub reach_leaves_view : ReachLeavesView
+reach_leaves_view v p = leads_reach p v _ (refl, refl)
+
+pub held_leaves_view : HeldLeavesView
+held_leaves_view v r = leads_held r v _ (λ free. (refl, free))
+
+pub good_leaves_view : GoodLeavesView
+good_leaves_view v good p = leads_good good p v _ (λ e. (refl, e))
 
 pub table_reads : (name : List ℕ) (v : View) → Reads (table_of name) v (λ row. Unit {0})
 table_reads name v =
@@ -84,6 +96,16 @@ table_pages_reads shape row v =
     )))
     (bytes_reads shape (byte_pages shape chain v) v))))))
     (chain_reads (suc (suc shape.pages)) shape row [] 9 row.first_iam v))
+
+all_inside : (shape : FileShape) (ps : List ℕ) → Inside shape ps → All (λ p. p < shape.pages) ps
+all_inside shape [] h k d lt = absurd (omega (arith, lt))
+all_inside shape (p ∷ ps) h zero d lt = h.0
+all_inside shape (p ∷ ps) h (suc k) d lt = all_inside shape ps h.1 k d (omega (arith, lt))
+
+pub table_pages_leave_view : TablePagesLeaveView
+table_pages_leave_view shape row v =
+    leads_weaker (table_pages shape row) v (λ pages w. (w ≡ v) × Inside shape pages) (λ pages w. (w ≡ v) × All (λ p. p < shape.pages) pages)
+    (λ pages w h. (h.0, all_inside shape pages h.1)) (table_pages_reads shape row v)
 
 -- a page that is found is one of the file that objects may own
 abbrev pub IsFoundPage : FileShape → Option ℕ → Type 0

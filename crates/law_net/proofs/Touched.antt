@@ -1,14 +1,11 @@
 -- The net changes are found by looking only at what was touched.
-use Rattle.std.proofs.Common.{◌≡◌, ℕ, ltb, zero, suc, ◌+◌, ◌/◌, ◌<◌, ◌≤◌, Bool, true, eqb, not, ◌&&◌, List, [], ◌∷◌, ◌++◌, inl, inr, refl, sym, ap, ◌∙◌, subst, arith}
+use Rattle.std.proofs.Common.{◌≡◌, ℕ, zero, suc, ◌+◌, ◌/◌, ◌<◌, ◌≤◌, Bool, true, eqb, not, ◌&&◌, List, [], ◌∷◌, ◌++◌, inl, inr, refl, sym, ap, ◌∙◌, subst, arith}
 use Rattle.std.specs.Prelude.{if◌then◌else◌, ◌==◌, filter, map, flat_map}
 use Rattle.std.specs.List.{list_any, range_with_len}
-use Rattle.std.proofs.lemmas.Bool.{cases_eq, cond_both, and_parts, and_from, or_cases, or_left, or_right, eqb-true, eq-eqb, ltb-true, lt-ltb, false≢true, false_from_ne_true}
-use Rattle.spec_file.specs.declared.data.Resource.{Resource}
+use Rattle.std.proofs.lemmas.Bool.{cases_eq, cond_both, and_parts, or_cases, or_left, or_right, eqb-true, eq-eqb, false≢true, false_from_ne_true}
 use Rattle.spec_file.specs.declared.data.Resource.TheVariants as resource
-use Rattle.spec_log.specs.Items.{is_same, grain_of, number_of}
-use Rattle.spec_words.specs.Takes.{is_among, comes_before, in_order}
-use Rattle.law_net.proofs.Takes.{AllOf, Rise, Before, all_weaker, before_from, same_resource, rising_order, among_order}
-use Rattle.law_net.specs.Touched.{changes_among, numbers_like, ChangesAreUnder}
+use Rattle.spec_words.specs.Takes.{is_among}
+use Rattle.law_net.specs.Touched.{changes_among, extents_taken, bytes_taken, pages_taken, ChangesAreUnder}
 use Rattle.law_net.proofs.Images.{are_images}
 use Rattle.law_net.proofs.Under.{taken_byte, taken_page, taken_gam, taken_sgam}
 use Rattle.spec_file.specs.Image.{Image}
@@ -91,54 +88,43 @@ changes_are_among shape extents bytes pages start now t =
         ap (λ x. f x ++ (h b ++ (k c ++ (l d ++ (m ++ l e))))) p ∙ ap (λ x. f a' ++ (h x ++ (k c ++ (l d ++ (m ++ l e))))) q ∙ ap (λ x. f a' ++ (h b' ++ (k x ++ (l d ++ (m ++ l e))))) r
         ∙ ap (λ x. f a' ++ (h b' ++ (k c' ++ (l x ++ (m ++ l e))))) s ∙ ap (λ x. f a' ++ (h b' ++ (k c' ++ (l d' ++ (m ++ l x))))) t
 
-rise_numbers : (like : Resource) (limit lo : ℕ) (rs : List Resource) → Rise rs → AllOf (λ s. grain_of s ≡ grain_of like → lo ≤ number_of s) rs → RiseIn lo limit (numbers_like like limit rs)
-rise_numbers like limit lo [] r all = tt
-rise_numbers like limit lo (x ∷ rest) r all =
-    cond_both (eqb (grain_of x) (grain_of like) && ltb (number_of x) limit) (number_of x ∷ numbers_like like limit rest) (numbers_like like limit rest) (RiseIn lo limit)
-    (λ e.
-    let p = and_parts (eqb (grain_of x) (grain_of like)) (ltb (number_of x) limit) e in
-    let grain = eqb-true (grain_of x) (grain_of like) p.0 in (
-      all.0 grain,
-      ltb-true (number_of x) limit p.1,
-      rise_numbers like limit (number_of x + 1) rest r.1 (all_weaker (λ s. comes_before x s ≡ true) (λ s. grain_of s ≡ grain_of like → number_of x + 1 ≤ number_of s) rest (λ s h f. above s (before_from x s h) (grain ∙ sym f)) r.0),
-    ))
-    (λ e. rise_numbers like limit lo rest r.1 all.1)
-  where
-    above : (s : Resource) → Before x s → grain_of x ≡ grain_of s → number_of x + 1 ≤ number_of s
-    above s (inl lt) same = absurd (omega (arith, lt, same))
-    above s (inr p) same = let lt = p.1 in omega (arith, lt)
+-- the numbers of a range that pass a test rise, and are all of these
+rise_higher : (lo up hi : ℕ) (ts : List ℕ) → lo ≤ up → RiseIn up hi ts → RiseIn lo hi ts
+rise_higher lo up hi [] le r = tt
+rise_higher lo up hi (t ∷ ts) le r = (let a = r.0 in omega (arith, a, le), r.1, r.2)
 
-in_numbers : (like : Resource) (limit : ℕ) (rs : List Resource) (r : Resource) → is_among rs r ≡ true → grain_of r ≡ grain_of like → number_of r < limit → is_in (numbers_like like limit rs) (number_of r) ≡ true
-in_numbers like limit [] r h g lt = absurd (false≢true h)
-in_numbers like limit (s ∷ rest) r h g lt = elim (or_cases (is_same r s) (list_any (is_same r) rest) h) [
-  | inl e ↦ subst (λ q. is_in (numbers_like like limit (q ∷ rest)) (number_of r) ≡ true) (same_resource r s e)
-      (subst (λ b. is_in (if b then number_of r ∷ numbers_like like limit rest else numbers_like like limit rest) (number_of r) ≡ true)
-      (sym (and_from (eqb (grain_of r) (grain_of like)) (ltb (number_of r) limit) (eq-eqb (grain_of r) (grain_of like) g) (lt-ltb (number_of r) limit lt)))
-      (or_left (eqb (number_of r) (number_of r)) (is_in (numbers_like like limit rest) (number_of r)) (eq-eqb (number_of r) (number_of r) refl)))
-  | inr e ↦
-      let ih = in_numbers like limit rest r e g lt in
-      cond_both (eqb (grain_of s) (grain_of like) && ltb (number_of s) limit) (number_of s ∷ numbers_like like limit rest) (numbers_like like limit rest) (λ xs. is_in xs (number_of r) ≡ true)
-      (λ b. or_right (eqb (number_of s) (number_of r)) (is_in (numbers_like like limit rest) (number_of r)) ih) (λ b. ih)
+rise_filter : (test : ℕ → Bool) (n lo hi : ℕ) → lo + n ≡ hi → RiseIn lo hi (filter test (range_with_len lo n))
+rise_filter test zero lo hi e = tt
+rise_filter test (suc n) lo hi e =
+    let rest = filter test (range_with_len (lo + 1) n) in
+    let ih = rise_filter test n (lo + 1) hi (omega (arith, e)) in
+    cond_both (test lo) (lo ∷ rest) rest (RiseIn lo hi) (λ b. (omega arith, omega (arith, e), ih)) (λ b. rise_higher lo (lo + 1) hi rest (omega arith) ih)
+
+in_filter : (test : ℕ → Bool) (n lo hi x : ℕ) → lo + n ≡ hi → lo ≤ x → x < hi → test x ≡ true → is_in (filter test (range_with_len lo n)) x ≡ true
+in_filter test zero lo hi x e low high h = absurd (omega (arith, e, low, high))
+in_filter test (suc n) lo hi x e low high h = elim (cases_eq lo x) [
+  | inl same ↦ subst (λ b. is_in (if b then lo ∷ rest else rest) x ≡ true) (sym (subst (λ k. test k ≡ true) (sym same) h)) (or_left (eqb lo x) (is_in rest x) (eq-eqb lo x same))
+  | inr other ↦
+      let ih = in_filter test n (lo + 1) hi x (omega (arith, e)) (omega (arith, low, other)) high h in
+      cond_both (test lo) (lo ∷ rest) rest (λ xs. is_in xs x ≡ true) (λ b. or_right (eqb lo x) (is_in rest x) ih) (λ b. ih)
 ]
-
-none_low : (like : Resource) (rs : List Resource) → AllOf (λ s. grain_of s ≡ grain_of like → 0 ≤ number_of s) rs
-none_low like [] = tt
-none_low like (r ∷ rs) = ((λ e. omega arith), none_low like rs)
+  where
+    rest : List ℕ
+    rest = filter test (range_with_len (lo + 1) n)
 
 pub changes_are_under : ChangesAreUnder
 changes_are_under shape taken start now a b under =
     let images = are_images shape start now a b in
     let n = shape.pages in
-    let rs = in_order taken in
-    let extent = resource.Extent (record { 0 = 0 }) in
-    let byte = resource.Byte (record { 0 = 0 }) in
-    let one_page = resource.Page (record { 0 = 0 }) in
-    changes_are_among shape (numbers_like extent (n / 8) rs) (numbers_like byte n rs) (numbers_like one_page n rs) start now (record {
-      extents_rise = rise_numbers extent (n / 8) 0 rs (rising_order taken) (none_low extent rs);
-      bytes_rise = rise_numbers byte n 0 rs (rising_order taken) (none_low byte rs);
-      pages_rise = rise_numbers one_page n 0 rs (rising_order taken) (none_low one_page rs);
-      gams = λ e low lt h. in_numbers extent (n / 8) rs (resource.Extent (record { 0 = e })) (among_order taken (resource.Extent (record { 0 = e })) (taken_gam shape taken start now images under e lt h)) refl lt;
-      sgams = λ e low lt h. in_numbers extent (n / 8) rs (resource.Extent (record { 0 = e })) (among_order taken (resource.Extent (record { 0 = e })) (taken_sgam shape taken start now images under e lt h)) refl lt;
-      changed_bytes = λ p low lt h. in_numbers byte n rs (resource.Byte (record { 0 = p })) (among_order taken (resource.Byte (record { 0 = p })) (taken_byte shape taken start now images under p lt h)) refl lt;
-      changed_pages = λ p low lt h. in_numbers one_page n rs (resource.Page (record { 0 = p })) (among_order taken (resource.Page (record { 0 = p })) (taken_page shape taken start now images under p lt h)) refl lt;
+    let extent : ℕ → Bool = λ e. is_among taken (resource.Extent (record { 0 = e })) in
+    let byte : ℕ → Bool = λ p. is_among taken (resource.Byte (record { 0 = p })) in
+    let one_page : ℕ → Bool = λ p. is_among taken (resource.Page (record { 0 = p })) in
+    changes_are_among shape (extents_taken shape taken) (bytes_taken shape taken) (pages_taken shape taken) start now (record {
+      extents_rise = rise_filter extent (n / 8) 0 (n / 8) (omega arith);
+      bytes_rise = rise_filter byte n 0 n (omega arith);
+      pages_rise = rise_filter one_page n 0 n (omega arith);
+      gams = λ e low lt h. in_filter extent (n / 8) 0 (n / 8) e (omega arith) low lt (taken_gam shape taken start now images under e lt h);
+      sgams = λ e low lt h. in_filter extent (n / 8) 0 (n / 8) e (omega arith) low lt (taken_sgam shape taken start now images under e lt h);
+      changed_bytes = λ p low lt h. in_filter byte n 0 n p (omega arith) low lt (taken_byte shape taken start now images under p lt h);
+      changed_pages = λ p low lt h. in_filter one_page n 0 n p (omega arith) low lt (taken_page shape taken start now images under p lt h);
     })

@@ -3,3 +3,5 @@ pub mod NetLaw
 pub mod Touched
 pub mod GoodViews
 pub mod Statements
+pub mod Agreement
+pub mod Examples

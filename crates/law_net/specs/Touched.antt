@@ -1,13 +1,12 @@
 -- The net changes are found without looking at the whole file.
-use Rattle.std.specs.Prelude.{◌≡◌, ℕ, ◌/◌, ◌==◌, ◌&&◌, not, nat_lt, if◌then◌else◌, List, [], ◌∷◌, ◌++◌, filter, map, flat_map}
+use Rattle.std.specs.Prelude.{◌≡◌, ℕ, ◌&&◌, not, List, ◌++◌, filter, map, flat_map}
 use Rattle.spec_file.specs.declared.data.Resource.{Resource}
 use Rattle.spec_file.specs.declared.data.Resource.TheVariants as resource
 use Rattle.spec_file.specs.Image.{Image, page_size}
 use Rattle.spec_file.specs.Places.{gam_place, sgam_place}
-use Rattle.spec_log.specs.Items.{grain_of, number_of}
 use Rattle.spec_plan.specs.declared.plan.Planned.{Planned}
-use Rattle.spec_words.specs.NetChanges.{FileShape, is_turned, bit_change, begins_run, run_change, is_page_changed, is_iam, page_changes, part_changes, changes_of}
-use Rattle.spec_words.specs.Takes.{in_order}
+use Rattle.spec_words.specs.NetChanges.{FileShape, extents_of, pages_of, is_turned, bit_change, begins_run, run_change, is_page_changed, is_iam, page_changes, part_changes, changes_of}
+use Rattle.spec_words.specs.Takes.{is_among}
 use Rattle.law_net.specs.Files.{IsImageOf, DifferUnder}
 
 -- the net changes, looked for among these extents, PFS bytes and pages alone, and on page 9
@@ -20,20 +19,19 @@ changes_among shape extents bytes pages start now =
     ++ (part_changes start now 9 0 page_size
     ++ flat_map (page_changes shape.geometry start now) (filter (λ p. is_page_changed shape.geometry start now p && not (is_iam now p)) pages)))))
 
--- the numbers, below a limit, of the resources that are of the same grain as this one
-abbrev pub numbers_like : Resource → ℕ → List Resource → List ℕ
-numbers_like like limit [] = []
-numbers_like like limit (r ∷ rest) =
-    if (grain_of r == grain_of like) && nat_lt (number_of r) limit then number_of r ∷ numbers_like like limit rest else numbers_like like limit rest
+-- the extents, the PFS bytes and the pages of the file that were taken, rising
+abbrev pub extents_taken : FileShape → List Resource → List ℕ
+extents_taken shape taken = filter (λ e. is_among taken (resource.Extent (record { 0 = e }))) (extents_of shape)
+
+abbrev pub bytes_taken : FileShape → List Resource → List ℕ
+bytes_taken shape taken = filter (λ p. is_among taken (resource.Byte (record { 0 = p }))) (pages_of shape)
+
+abbrev pub pages_taken : FileShape → List Resource → List ℕ
+pages_taken shape taken = filter (λ p. is_among taken (resource.Page (record { 0 = p }))) (pages_of shape)
 
 -- the net changes, looked for only at what was taken
 abbrev pub changes_under : FileShape → List Resource → Image → Image → List Planned
-changes_under shape taken start now =
-    changes_among shape
-    (numbers_like (resource.Extent (record { 0 = 0 })) (shape.pages / 8) (in_order taken))
-    (numbers_like (resource.Byte (record { 0 = 0 })) shape.pages (in_order taken))
-    (numbers_like (resource.Page (record { 0 = 0 })) shape.pages (in_order taken))
-    start now
+changes_under shape taken start now = changes_among shape (extents_taken shape taken) (bytes_taken shape taken) (pages_taken shape taken) start now
 
 -- where the images differ only under what was taken, these are all
 abbrev pub ChangesAreUnder : Type 0

@@ -2,10 +2,12 @@
 //! word keeps what this needs.
 #![tactic(auto)]
 
+ghost use Rattle.law_net.specs.Agreement.{InsertIsPlanned, CountIsPlanned};
+ghost use Rattle.law_net.specs.Examples.{RunsStayInExtents, CellsGoToTheLast, SlotsBeginByTheGreater, PagesBecomeAllocated, OthersDoNot, TakesAreInOrder, ChangesAreListedOnce};
 ghost use Rattle.law_net.specs.NetLaw.{NetChangesAreGood};
 ghost use Rattle.law_net.specs.Touched.{ChangesAreUnder};
-ghost use Rattle.law_net.specs.GoodViews.{TakeKeepsGood, GamKeepsGood, SgamKeepsGood, PfsKeepsGood, PageKeepsGood, CatalogKeepsGood};
-ghost use Rattle.law_net.specs.Statements.{InsertIsGood, CountLeavesView};
+ghost use Rattle.law_net.specs.GoodViews.{LookLeavesView, ReachLeavesView, HeldLeavesView, GoodLeavesView, TakeKeepsGood, GamKeepsGood, SgamKeepsGood, PfsKeepsGood, PageKeepsGood, CatalogKeepsGood};
+ghost use Rattle.law_net.specs.Statements.{InsertIsGood, TablePagesLeaveView, CountLeavesView};
 
 /// The net changes of two images of a file that differ only under what was taken make the one from the other,
 /// find their bytes, have the form of a log's changes, are covered by what is held or taken, and are few; the takes
@@ -19,8 +21,12 @@ pub fn touched_law()
     ensures { ChangesAreUnder }
 {}
 
-/// Each word that takes or writes leaves a good view good.
+/// Each word that reads or asks leaves the view; each that takes or writes leaves a good view good.
 pub fn word_laws()
+    ensures look { LookLeavesView }
+    ensures reach { ReachLeavesView }
+    ensures held { HeldLeavesView }
+    ensures good { GoodLeavesView }
     ensures take { TakeKeepsGood }
     ensures gam { GamKeepsGood }
     ensures sgam { SgamKeepsGood }
@@ -29,9 +35,29 @@ pub fn word_laws()
     ensures catalog { CatalogKeepsGood }
 {}
 
-/// Where INSERT gives a reply, its changes and takes are good, and nobody else holds what it takes. COUNT leaves
-/// the view as it was.
+/// A table's pages are read without the view's being moved. Where INSERT gives a reply, its changes and takes are
+/// good, and nobody else holds what it takes. COUNT leaves the view as it was.
 pub fn statement_laws()
+    ensures pages { TablePagesLeaveView }
     ensures insert { InsertIsGood }
     ensures count { CountLeavesView }
+{}
+
+/// INSERT and COUNT in words end as their outcomes over a sight say: with the same refusal, the same number of rows,
+/// or the same takes and changes.
+pub fn agreement_laws()
+    ensures insert { InsertIsPlanned }
+    ensures count { CountIsPlanned }
+{}
+
+/// Small files, worked by hand: how runs of PFS bytes, cells of a page and slots are cut, which page becomes
+/// allocated, in which order takes stand, and that nothing is listed twice.
+pub fn examples()
+    ensures runs { RunsStayInExtents }
+    ensures cells { CellsGoToTheLast }
+    ensures slots { SlotsBeginByTheGreater }
+    ensures allocated { PagesBecomeAllocated }
+    ensures others { OthersDoNot }
+    ensures takes { TakesAreInOrder }
+    ensures once { ChangesAreListedOnce }
 {}

@@ -1,2 +1,3 @@
 pub mod SameKeys
 pub mod Freed
+pub mod PlanLaws

@@ -2,6 +2,8 @@
 #![tactic(auto)]
 
 mod key;
+mod plan_pages;
 mod table;
 
+pub use plan_pages::{PageStop, PlanPages};
 pub use table::{Held, LockTable};

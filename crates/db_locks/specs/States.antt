@@ -1,0 +1,38 @@
+-- What a view stands for while a statement is planned on it.
+use Rattle.std.specs.Prelude.{◌≡◌, ℕ, nat_lt, ◌==◌, Bool, true, if◌then◌else◌, List, [], ◌∷◌}
+use Rattle.spec_file.specs.declared.data.Resource.{Resource}
+use Rattle.spec_file.specs.Image.{Image, page}
+use Rattle.spec_words.specs.Takes.{is_among}
+use Rattle.spec_words.specs.Views.{View}
+use Rattle.law_net.specs.Files.{IsImageOf}
+use Rattle.db_locks.specs.Guards.{AgreeUnder}
+
+-- the device's failures so far; what the statement's transaction sees, holds and takes; the pages as they are shown, which
+-- may have what other transactions wrote; the pages as they were shown before each one's first put; and the pages that
+-- were put, rising. told: what is seen and shown is known. The shape, the holders and what was taken are known always
+pub record PlanState : Type 0 where
+  pub told : Bool
+  pub faults : ℕ
+  pub view : View
+  pub shown : Image
+  pub first : Image
+  pub put : List ℕ
+
+-- the pages that are told are those of the file; and what the statement took is shown as it is seen, now and before
+pub record AreImages (state : PlanState) : Type 0 where
+  pub start : IsImageOf state.view.shape state.view.start
+  pub now : IsImageOf state.view.shape state.view.now
+  pub shown : IsImageOf state.view.shape state.shown
+  pub taken : (r : Resource) → is_among state.view.taken r ≡ true → (p : ℕ) → AgreeUnder r state.view.shape p (page state.shown p) (page state.view.now p)
+  pub before : (r : Resource) → is_among state.view.taken r ≡ true → (p : ℕ) → AgreeUnder r state.view.shape p (page state.first p) (page state.view.start p)
+
+-- a rising list of numbers with one more
+abbrev pub with_number : ℕ → List ℕ → List ℕ
+with_number p [] = p ∷ []
+with_number p (q ∷ rest) = if p == q then q ∷ rest else (if nat_lt p q then p ∷ (q ∷ rest) else q ∷ with_number p rest)
+
+-- what is shown stays
+pub record KeepsShown (old new : PlanState) : Type 0 where
+  pub shown : new.shown ≡ old.shown
+  pub first : new.first ≡ old.first
+  pub put : new.put ≡ old.put

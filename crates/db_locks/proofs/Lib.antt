@@ -1,3 +1,4 @@
 pub mod SameKeys
 pub mod Freed
 pub mod PlanLaws
+pub mod WordLaws

@@ -2,3 +2,4 @@ pub mod SameKeys
 pub mod Freed
 pub mod PlanLaws
 pub mod WordLaws
+pub mod LoopLaws

@@ -3,3 +3,4 @@ pub mod Freed
 pub mod PlanLaws
 pub mod WordLaws
 pub mod LoopLaws
+pub mod PageLaws

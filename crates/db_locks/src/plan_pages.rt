@@ -1,6 +1,7 @@
 //! The view of a transaction while a statement is planned.
 ghost use Rattle.std.specs.Prelude.{◌≡◌, ◌<◌, ℕ, IsTrue, None, Contains, IfErr, OnOk, OnErr, map, take as front, slice_set};
 ghost use Rattle.spec_file.specs.Image.{page, maps_start};
+ghost use Rattle.spec_file.specs.Places.{HasShape};
 ghost use Rattle.spec_words.specs.Words.{look, take, with_taken};
 ghost use Rattle.db_locks.specs.Guards.{AgreeUnder, DifferOnPage, tells_header};
 ghost use Rattle.db_locks.specs.States.{PlanState, AreImages, KeepsShown, with_number};
@@ -24,6 +25,9 @@ pub enum PageStop {
 pub trait PlanPages {
     /// All that the view stands for.
     ghost state: { Self → PlanState };
+
+    /// The file has whole extents, and no more pages than its geometry allows.
+    ghost size: { (v : Self) → HasShape (state v).view.shape.geometry (state v).view.shape.pages };
 
     ghost images: { (v : Self) → IsTrue (state v).told → AreImages (state v) };
 

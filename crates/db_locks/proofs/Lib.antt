@@ -4,3 +4,4 @@ pub mod PlanLaws
 pub mod WordLaws
 pub mod LoopLaws
 pub mod PageLaws
+pub mod CellSteps

@@ -4,3 +4,4 @@ pub mod Guards
 pub mod States
 pub mod Does
 pub mod Calls
+pub mod Cells

@@ -5,3 +5,5 @@ pub mod WordLaws
 pub mod LoopLaws
 pub mod PageLaws
 pub mod CellSteps
+pub mod ViewLaws
+pub mod MemoryImages

@@ -26,13 +26,13 @@ use Rattle.db_locks.specs.Guards.{AgreeUnder, DifferOnPage, carried}
 
 -- ---- what a put changes
 
-turned : (s a : ℕ) → bit_xor s (bit_xor s a) ≡ a
+pub turned : (s a : ℕ) → bit_xor s (bit_xor s a) ≡ a
 turned s a = sym (xor_assoc s s a) ∙ ap (λ z. bit_xor z a) (xor_self s) ∙ xor_zero_l a
 
 kept : (s b : ℕ) → bit_xor s (bit_xor b b) ≡ s
 kept s b = ap (λ z. bit_xor s z) (xor_self b) ∙ xor_zero_r s
 
-abbrev turned_at : List ℕ → List ℕ → List ℕ → ℕ → ℕ
+abbrev pub turned_at : List ℕ → List ℕ → List ℕ → ℕ → ℕ
 turned_at before after seen i = bit_xor (slice_index seen i) (bit_xor (slice_index before i) (slice_index after i))
 
 -- what is carried over is known by its bytes

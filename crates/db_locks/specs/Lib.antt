@@ -5,3 +5,6 @@ pub mod States
 pub mod Does
 pub mod Calls
 pub mod Cells
+pub mod MemImages
+pub mod Memory
+pub mod MemoryLaws

@@ -3,6 +3,7 @@
 
 mod cells;
 mod key;
+mod memory;
 mod plan_pages;
 mod table;
 

@@ -1,19 +1,21 @@
 -- What puts leave of the pages of a view in memory.
-use Rattle.std.proofs.Common.{◌≡◌, ◌≢◌, ◌⊎◌, ℕ, ◌<◌, ◌≤◌, ◌==◌, nat_lt, Bool, true, false, IsTrue, List, [], ◌∷◌, length, Contains, refl, zero, suc, subst, sym, ap, ◌∙◌, arith, inl, inr, get_or, get_or-set_same, get_or-set_other, length-set, All, eqb}
+use Rattle.std.proofs.Common.{◌≡◌, ◌⊎◌, ℕ, ◌<◌, ◌≤◌, ◌==◌, nat_lt, Bool, true, false, List, [], ◌∷◌, length, Contains, refl, zero, suc, subst, sym, ap, ◌∙◌, arith, inl, inr, get_or, get_or-set_same, get_or-set_other, length-set, All}
 use Rattle.std.specs.Prelude.{slice_set, slice_index, if◌then◌else◌, filter, not}
 use Rattle.std.proofs.lemmas.Bool.{cases_eq, cases_lt, eqb-true}
-use Rattle.std.proofs.lemmas.Bool.Decides.{nat_tests}
-use Rattle.std.proofs.lemmas.List.{ext_get_or, get_or_past}
+use Rattle.std.proofs.lemmas.List.{ext_get_or, get_or_past, length-map}
 use Rattle.std.proofs.lemmas.List.FromFn.{length-map-range_with_len, get_or-map-range_with_len}
 use Rattle.std.proofs.lemmas.List.Elements.{All-set, Contains-append_left, Contains-append_right, Contains-append_cases, Contains-push, Contains-push_cases}
 use Rattle.spec_file.specs.declared.data.PageNo.{PageNo}
 use Rattle.spec_file.specs.declared.data.Resource.{Resource}
+use Rattle.spec_file.specs.declared.geometry.Geometry.{Geometry}
 use Rattle.spec_file.specs.Image.{Image, AreBytes, page, page_size}
+use Rattle.spec_file.specs.Places.{HasShape}
+use Rattle.pg_base.specs.declared.page.Page.{Page}
 use Rattle.spec_words.specs.NetChanges.{FileShape}
 use Rattle.law_net.specs.Files.{IsImageOf}
 use Rattle.db_locks.specs.Guards.{carried}
 use Rattle.db_locks.specs.States.{with_page}
-use Rattle.db_locks.specs.MemImages.{DifferWherePut}
+use Rattle.db_locks.specs.MemImages.{shape_of, image_of, DifferWherePut}
 use Rattle.db_locks.proofs.PageLaws.{turned, turned_at}
 
 -- a page that is shown as it is seen, once it is put, is seen as it was put
@@ -119,3 +121,35 @@ differ_put put first now p bytes lt h = record {
 -- the number of pages stays
 pub image_of_more : (shape : FileShape) (image : Image) (pages : ℕ) → pages ≡ shape.pages → IsImageOf shape image → IsImageOf (record { geometry = shape.geometry; version = shape.version; pages = pages }) image
 image_of_more shape image pages same is = subst (λ n. IsImageOf (record { geometry = shape.geometry; version = shape.version; pages = n }) image) (sym same) is
+
+-- ---- the pages at the beginning
+
+abbrev pub IsWholePage : Page → Type 0
+IsWholePage p = (length p.bytes ≡ page_size) × AreBytes p.bytes
+
+rest_whole : (p : Page) (pages : List Page) → All IsWholePage (p ∷ pages) → All IsWholePage pages
+rest_whole p pages whole k d lt = whole (suc k) d (omega (arith, lt))
+
+images_whole : (pages : List Page) → All IsWholePage pages → All (λ (bytes : List ℕ). length bytes ≡ page_size) (image_of pages)
+images_whole [] whole k d lt = absurd (omega (arith, lt))
+images_whole (p ∷ pages) whole zero d lt = (whole 0 p (omega arith)).0
+images_whole (p ∷ pages) whole (suc k) d lt = images_whole pages (rest_whole p pages whole) k d (omega (arith, lt))
+
+no_bytes : AreBytes []
+no_bytes i = subst (λ x. x < 256) (sym (get_or_past [] i 0 (omega arith))) (omega arith)
+
+images_low : (pages : List Page) (p : ℕ) → All IsWholePage pages → AreBytes (page (image_of pages) p)
+images_low [] p whole = subst AreBytes (sym (get_or_past [] p [] (omega arith))) no_bytes
+images_low (q ∷ pages) zero whole = (whole 0 q (omega arith)).1
+images_low (q ∷ pages) (suc p) whole = images_low pages p (rest_whole q pages whole)
+
+pub image_begins : (geometry : Geometry) (version : ℕ) (pages : List Page) → HasShape geometry (length pages) → All IsWholePage pages → IsImageOf (shape_of geometry version pages) (image_of pages)
+image_begins geometry version pages file whole = record {
+  file = file;
+  pages = length-map pages (λ (p : Page). p.bytes);
+  whole = images_whole pages whole;
+  bytes = λ p. images_low pages p whole;
+}
+
+pub none_put : (image : Image) → DifferWherePut [] image image
+none_put image = record { inside = λ p none. absurd (omega (arith, none.1)); others = λ p none. refl }

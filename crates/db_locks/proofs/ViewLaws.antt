@@ -6,7 +6,7 @@ use Rattle.spec_words.specs.Takes.{is_among}
 use Rattle.spec_file.specs.declared.data.Resource.{Resource}
 use Rattle.spec_file.specs.declared.data.Tran.{Tran}
 use Rattle.spec_file.specs.Image.{page}
-use Rattle.spec_words.specs.Views.{View, End, Gives, Outcome}
+use Rattle.spec_words.specs.Views.{View, Gives, Outcome}
 use Rattle.spec_words.specs.Words.{ended, by_holder, look, take, with_taken}
 use Rattle.db_locks.specs.declared.plan_pages.PageStop.TheVariants.{Held}
 use Rattle.db_locks.specs.Guards.{carried}

@@ -1,11 +1,7 @@
 -- What a view in memory holds, and what it stands for.
-use Rattle.std.specs.Prelude.{◌≡◌, ℕ, ◌<◌, true, false, List, length, map, Contains, Option}
-use Rattle.std.specs.Option.{option_map}
-use Rattle.spec_file.specs.declared.data.PageNo.{PageNo}
-use Rattle.spec_file.specs.Image.{Image, page}
-use Rattle.pg_base.specs.declared.page.Page.{Page}
+use Rattle.std.specs.Prelude.{true, false}
 use Rattle.db_locks.specs.declared.memory.MemView.{MemView}
-use Rattle.db_locks.specs.Locks.{holder_of}
+use Rattle.db_locks.specs.Locks.{others_of}
 use Rattle.db_locks.specs.MemImages.{shape_of, image_of}
 use Rattle.db_locks.specs.States.{PlanState}
 
@@ -18,7 +14,7 @@ state_of m = record {
     shape = shape_of m.geometry m.version m.pages.items;
     start = image_of m.first.items;
     now = image_of m.pages.items;
-    other = λ r. option_map (λ t. t.0) (holder_of m.locks r);
+    other = others_of m.locks;
     own = λ r. false;
     taken = m.taken.items;
   };

@@ -2,7 +2,7 @@
 use Rattle.std.specs.Prelude.{IsTrue, refl}
 use Rattle.spec_file.specs.Places.{HasShape}
 use Rattle.db_locks.specs.declared.memory.MemView.{MemView}
-use Rattle.db_locks.specs.States.{PlanState, AreImages}
+use Rattle.db_locks.specs.States.{AreImages}
 use Rattle.db_locks.specs.Memory.{state_of}
 
 pub size_of : (m : MemView) → HasShape (state_of m).view.shape.geometry (state_of m).view.shape.pages

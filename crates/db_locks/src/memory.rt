@@ -1,17 +1,20 @@
 //! A view in memory, for tests: of a transaction that holds nothing when its statement begins, over pages
 //! that nobody else has written.
-ghost use Rattle.std.specs.Prelude.{◌≡◌, ◌<◌, ◌∷◌, length, vec_len, slice_set, OnOk, OnErr};
+ghost use Rattle.std.specs.Prelude.{◌≡◌, ◌<◌, ◌∷◌, length, vec_len, slice_set, [], false, IfOk, OnOk, OnErr};
 ghost use Rattle.spec_file.specs.Image.{page};
+ghost use Rattle.spec_file.specs.Places.{HasShape};
+ghost use Rattle.spec_words.specs.Views.{beginning};
 ghost use Rattle.spec_log.specs.Items.{is_same as same_resource};
 ghost use Rattle.spec_words.specs.Takes.{in_order as takes_in_order, is_among, comes_before as before_resource, with_resource};
 ghost use Rattle.law_net.specs.Files.{IsImageOf};
 ghost use Rattle.db_locks.specs.MemImages.{shape_of, image_of, DifferWherePut};
 ghost use Rattle.db_locks.specs.States.{with_page};
+ghost use Rattle.db_locks.specs.Locks.{others_of};
 
 use crate::key::key;
 use crate::{LockTable, PageStop, PlanPages};
-use pg_base::{Geometry, Page, PageNo, Resource, is_whole};
-use std::alloc::AllocError;
+use pg_base::{Geometry, NoMemory, Page, PageNo, Resource, is_whole};
+use std::alloc::{AllocError, Global};
 
 fn comes_before(r: Resource, s: Resource) -> bool
     ensures { result ≡ before_resource r s }
@@ -117,6 +120,39 @@ pub struct MemView {
     ghost began: { IsImageOf (shape_of geometry version pages.items) (image_of first.items) },
     ghost differ: { DifferWherePut put.items (image_of first.items) (image_of pages.items) },
     ghost ordered: { in_order.items ≡ takes_in_order taken.items },
+}
+
+impl MemView {
+    ghost use Rattle.db_locks.specs.Memory.{state_of};
+
+    /// A statement begins on these pages.
+    pub fn begin(
+        alloc: Global,
+        geometry: Geometry,
+        version: u32,
+        pages: Vec<Page>,
+        locks: LockTable,
+    ) -> Result<MemView, NoMemory>
+        requires { HasShape geometry (length pages.items) }
+        ensures view { IfOk result (λ m. (state_of m).view ≡ beginning (shape_of geometry version pages.items) (image_of pages.items) (others_of locks) (λ r. false)) }
+        ensures put { IfOk result (λ m. (state_of m).put ≡ []) }
+    {
+        let mut first = Vec::new(alloc);
+        for page in &pages {
+            is_whole(page);
+            first.push(Page { bytes: page.bytes })?;
+        }
+        Ok(MemView {
+            geometry,
+            version,
+            pages,
+            first,
+            put: Vec::new(alloc),
+            locks,
+            taken: Vec::new(alloc),
+            in_order: Vec::new(alloc),
+        })
+    }
 }
 
 impl PlanPages for MemView {

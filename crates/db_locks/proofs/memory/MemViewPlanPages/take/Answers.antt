@@ -1,9 +1,8 @@
-use Rattle.std.proofs.Common.{◌≡◌, ◌∷◌, true, false, List, arith, refl, ap, sym, ◌∙◌}
+use Rattle.std.proofs.Common.{◌≡◌, true, false, List, arith, refl, ap, sym, ◌∙◌}
 use Rattle.std.specs.Option.{option_map}
 use Rattle.spec_file.specs.declared.data.Resource.{Resource}
 use Rattle.spec_file.specs.declared.data.Tran.{Tran}
 use Rattle.spec_words.specs.Takes.{is_among}
-use Rattle.spec_words.specs.Views.{View}
 use Rattle.db_locks.specs.Memory.{state_of}
 use Rattle.db_locks.proofs.PlanLaws.{stays_same}
 use Rattle.db_locks.proofs.ViewLaws.{take_free, take_held, taken_already, taken_new}

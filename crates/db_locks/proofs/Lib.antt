@@ -5,5 +5,6 @@ pub mod WordLaws
 pub mod LoopLaws
 pub mod PageLaws
 pub mod CellSteps
+pub mod Headers
 pub mod ViewLaws
 pub mod MemoryImages

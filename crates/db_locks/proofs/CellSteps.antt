@@ -24,7 +24,7 @@ use Rattle.db_locks.specs.Cells.{pfs_byte_read}
 use Rattle.db_locks.proofs.PlanLaws.{does_after, does_then, does_give, does_more, does_exit}
 use Rattle.db_locks.proofs.LoopLaws.{does_further}
 use Rattle.db_locks.proofs.WordLaws.{does_write, does_write_after_look, does_put}
-use Rattle.db_locks.proofs.PageLaws.{carried_byte, carried_page, told_byte, told_page, byte_differs, page_differs}
+use Rattle.db_locks.proofs.PageLaws.{carried_byte, carried_page, told_byte, told_page, told_catalog, byte_differs, page_differs}
 
 -- a value that is the plan's where the view is told
 pub does_valued : {A E : Type 0} {meaning : E → Stop} {looked : List ℕ} {a b : PlanState} {plan : Plan A} {x : A} (y : A) → (IsTrue a.told → y ≡ x)
@@ -42,6 +42,12 @@ pub page_shown : (a : PlanState) (p : ℕ) (bytes : List ℕ) → (IsTrue a.told
 page_shown a p bytes images lt ordinary low long agree told =
     let now = (images told).now in
     told_page a.view.shape p bytes (page a.view.now p) lt ordinary low (now.bytes p) long (seen_long a.view.shape a.view.now p now lt) (agree told)
+
+pub catalog_shown : (a : PlanState) (bytes : List ℕ) → (IsTrue a.told → AreImages a) → 9 < a.view.shape.pages → AreBytes bytes → length bytes ≡ page_size
+    → (IsTrue a.told → AgreeUnder resource.Catalog a.view.shape 9 bytes (page a.view.now 9)) → IsTrue a.told → bytes ≡ page a.view.now 9
+catalog_shown a bytes images lt low long agree told =
+    let now = (images told).now in
+    told_catalog a.view.shape bytes (page a.view.now 9) lt low (now.bytes 9) long (seen_long a.view.shape a.view.now 9 now lt) (agree told)
 
 -- ---- a PFS byte
 

@@ -7,7 +7,10 @@ mod memory;
 mod plan_pages;
 mod table;
 
-pub use cells::{check_free, check_pfs_page, look_page, put_page, read_pfs_byte, set_pfs_byte};
+pub use cells::{
+    check_free, check_pfs_page, check_pfs_pages, look_catalog, look_page, put_page, read_pfs_byte,
+    set_pfs_byte,
+};
 pub use memory::MemView;
 pub use plan_pages::{PageStop, PlanPages};
 pub use table::{Held, LockTable};

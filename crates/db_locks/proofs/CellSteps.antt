@@ -1,15 +1,19 @@
 -- What each call on a view says, put together to what a cell of a page is.
-use Rattle.std.proofs.Common.{◌≡◌, ℕ, ◌<◌, true, IsTrue, List, [], ◌∷◌, length, Contains, Result, Ok, Err, refl, sym, ap, ◌∙◌, subst}
+use Rattle.std.proofs.Common.{◌≡◌, ℕ, ◌<◌, ◌%◌, true, IsTrue, List, [], ◌∷◌, length, Contains, Some, Result, Ok, Err, refl, sym, ap, ◌∙◌, subst}
 use Rattle.std.specs.Prelude.{slice_index, slice_set, IsErrAnd}
 use Rattle.std.proofs.lemmas.Bool.{cond_both}
 use Rattle.spec_file.specs.declared.data.Resource.{Resource}
 use Rattle.spec_file.specs.declared.data.Resource.TheVariants as resource
 use Rattle.spec_file.specs.Image.{Image, AreBytes, page, page_size}
-use Rattle.spec_file.specs.Places.{HasShape, pfs_place}
+use Rattle.spec_file.specs.Places.{Place, HasShape, pfs_place}
 use Rattle.spec_file.specs.Roles.{is_ordinary}
 use Rattle.spec_log.specs.declared.item.Cell.{Cell}
-use Rattle.spec_log.specs.declared.item.Cell.TheVariants.{Bytes}
-use Rattle.spec_log.specs.Cells.{with_bytes}
+use Rattle.spec_log.specs.declared.item.Cell.TheVariants.{Bytes, Bit}
+use Rattle.spec_log.specs.Cells.{with_bytes, with_map_bit}
+use Rattle.spec_log.specs.Cover.{bit_guard}
+use Rattle.spec_file.specs.declared.sizes.TheConstants.{BIT_COUNT}
+use Rattle.std.specs.Int.{bit_at}
+use Rattle.db_locks.proofs.BitLaws.{byte_of, bit_inside, told_bit, bit_differs, carried_bit}
 use Rattle.spec_words.specs.NetChanges.{FileShape}
 use Rattle.spec_words.specs.Takes.{is_among}
 use Rattle.spec_words.specs.Views.{View, Plan, Gives}
@@ -203,3 +207,35 @@ page_written b c d p after looked result images lt ordinary long before t put =
     (ap (λ (shown : List ℕ). carried shown after (page c.view.now p)) (taken_shown b c p lt ordinary (images told) t)
     ∙ carried_page (page c.view.now p) after (long ∙ sym (seen_long c.view.shape c.view.now p now lt'))))
     (does_more looked put))))
+
+-- ---- a bit of an extent
+
+pub bit_may_be_put : (a b c : PlanState) (q n v : ℕ) (r : Resource) (bytes : List ℕ) → n < BIT_COUNT → bit_guard a.view.shape.geometry a.view.shape.pages q n ≡ Some r
+    → LooksAt a b r q bytes → Takes b c r → IsTrue c.told → DifferOnPage c.view.taken c.view.shape q (page c.shown q) (with_map_bit bytes n v)
+bit_may_be_put a b c q n v r bytes lt guard l t told =
+    let here = bit_differs a.view.shape q n v r c.view.taken bytes guard (mine r t) (subst (λ k. byte_of n < k) (sym l.long) (bit_inside n lt)) in
+    subst (λ s. DifferOnPage c.view.taken s q (page c.shown q) (with_map_bit bytes n v)) (sym (shape_kept r t ∙ ap (λ (v : View). v.shape) l.view))
+    (subst (λ s. DifferOnPage c.view.taken a.view.shape q s (with_map_bit bytes n v)) (still_shown r q bytes l t told) here)
+
+pub bit_written : (a b c d : PlanState) (q n v : ℕ) (r : Resource) (bytes looked : List ℕ) (result : Result (Unit {0}) PageStop) → n < BIT_COUNT
+    → bit_guard a.view.shape.geometry a.view.shape.pages q n ≡ Some r → (IsTrue a.told → Contains looked q) → LooksAt a b r q bytes → Takes b c r
+    → Does c d (carry q (page c.shown q) (with_map_bit bytes n v)) result → DoesAfter looked a d (write r (Bit (record { 0 = q }) n) (v ∷ [])) result
+bit_written a b c d q n v r bytes looked result lt guard before l t put =
+    let cell = Bit (record { 0 = q }) n in
+    write_looked a b d r q cell (v ∷ []) looked result before l.look
+    (does_write r cell (v ∷ [])
+    (does_after _ (does_more looked t.take)
+    (does_further _
+    (does_put q (page c.shown q) (with_map_bit bytes n v) cell (v ∷ []) (λ told. before (early r q bytes l t told))
+    (λ told. ap (λ (page : List ℕ). slice_set c.view.now q page)
+    (subst (λ shown. carried shown (with_map_bit bytes n v) (page c.view.now q) ≡ with_map_bit (page c.view.now q) n v) (still_shown r q bytes l t told)
+    (carried_bit bytes (page c.view.now q) n v (subst (λ k. byte_of n < k) (sym l.long) (bit_inside n lt))
+    (told_bit a.view.shape q n r bytes (page a.view.now q) lt guard (l.guarded (early r q bytes l t told)) ∙ ap (λ m. bit_at (slice_index m (byte_of n)) (n % 8)) (still_seen r q bytes l t)))))
+    (does_more looked put)))))
+
+-- the words of writing a bit name its place
+pub as_place : (a d : PlanState) (r : Resource) (q at v : ℕ) (place : Place) (looked : List ℕ) (result : Result (Unit {0}) PageStop) → q ≡ place.page → at ≡ place.at
+    → DoesAfter looked a d (write r (Bit (record { 0 = q }) at) (v ∷ [])) result → DoesAfter looked a d (write r (Bit (record { 0 = place.page }) place.at) (v ∷ [])) result
+as_place a d r q at v place looked result eq ea h =
+    subst (λ k. DoesAfter looked a d (write r (Bit (record { 0 = k }) place.at) (v ∷ [])) result) eq
+    (subst (λ k. DoesAfter looked a d (write r (Bit (record { 0 = q }) k) (v ∷ [])) result) ea h)

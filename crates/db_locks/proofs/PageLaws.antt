@@ -29,7 +29,7 @@ use Rattle.db_locks.specs.Guards.{AgreeUnder, DifferOnPage, carried}
 pub turned : (s a : ℕ) → bit_xor s (bit_xor s a) ≡ a
 turned s a = sym (xor_assoc s s a) ∙ ap (λ z. bit_xor z a) (xor_self s) ∙ xor_zero_l a
 
-kept : (s b : ℕ) → bit_xor s (bit_xor b b) ≡ s
+pub kept : (s b : ℕ) → bit_xor s (bit_xor b b) ≡ s
 kept s b = ap (λ z. bit_xor s z) (xor_self b) ∙ xor_zero_r s
 
 abbrev pub turned_at : List ℕ → List ℕ → List ℕ → ℕ → ℕ
@@ -78,7 +78,7 @@ carried_page seen after same = carried_bytes seen after seen 0 after (λ i lt.
 
 -- ---- what a look tells
 
-fits_some : (o : Option Resource) (r : Resource) (Fits : Resource → Type 0) → o ≡ Some r → Fits r → IsSomeAnd o Fits
+pub fits_some : (o : Option Resource) (r : Resource) (Fits : Resource → Type 0) → o ≡ Some r → Fits r → IsSomeAnd o Fits
 fits_some o r Fits e h = subst (λ (o : Option Resource). IsSomeAnd o Fits) (sym e) h
 
 -- a PFS byte stands inside its page

@@ -1,0 +1,11 @@
+pub mod SameKeys
+pub mod Freed
+pub mod PlanLaws
+pub mod WordLaws
+pub mod LoopLaws
+pub mod PageLaws
+pub mod BitLaws
+pub mod CellSteps
+pub mod Headers
+pub mod ViewLaws
+pub mod MemoryImages

@@ -1,0 +1,10 @@
+pub mod Keys
+pub mod Locks
+pub mod Guards
+pub mod States
+pub mod Does
+pub mod Calls
+pub mod Cells
+pub mod MemImages
+pub mod Memory
+pub mod MemoryLaws

@@ -11,6 +11,7 @@ use Rattle.std.proofs.lemmas.Result.{err_from_is_err_and}
 use Rattle.std.proofs.lemmas.List.Elements.{Contains-append_right, Contains-push}
 use Rattle.spec_file.specs.declared.data.Resource.{Resource}
 use Rattle.db_alloc.specs.Results.{value_as}
+use Rattle.db_locks.proofs.LoopLaws.{Leads}
 use Rattle.db_locks.proofs.PlanLaws.{stays_same, does_stop, does_give, does_refuse}
 
 -- ---- plans
@@ -94,3 +95,19 @@ found_some looked a o x other e = rw e (does_give looked a x)
 pub found_none : {A E : Type 0} {meaning : E → Stop} (looked : List ℕ) (a : PlanState) (o : Option A) (refusal : Refusal) (e : E) → o ≡ None → meaning e ≡ WasRefused refusal
     → DoesAs meaning looked a a (found_or o (refuse refusal)) (Err e)
 found_none looked a o refusal e none means = rw none (does_refuse looked a refusal e means)
+
+-- memory was short behind a call
+pub short_after : {A B E D : Type 0} {meaning : E → Stop} {reading : D → Stop} {looked : List ℕ} {a b : PlanState} {plan : Plan A} {result : Result A E} (other : Plan B) (e : D)
+    → reading e ≡ WasShort → DoesAs meaning looked a b plan result → DoesAs reading looked a b other (Err e)
+short_after {looked = looked} {a} {b} other e means d = record {
+  exact = λ told. subst (λ (s : Stop). MayStop looked (other a.view) s) (sym means) tt;
+  stays = d.stays;
+  cause = subst (λ (s : Stop). HasCause a b s) (sym means) tt;
+}
+
+-- a step of a plan stopped, and `?` hands that on, where the value stands for another
+pub leads_exit_as : {A B C E : Type 0} {meaning : E → Stop} {looked : List ℕ} {a b c : PlanState} {whole : Plan B} {plan : Plan A} (next : A → Plan B) (f : C → B) {stop : E} (r : Result C E)
+    → Leads meaning looked a b whole (plan then next) → DoesAs meaning looked b c plan (Err stop) → IsErrAnd r (λ s. s ≡ stop) → DoesAs meaning looked a c whole (value_as f r)
+leads_exit_as {B = B} {C} {E} {meaning} {looked} {a} {b} {c} {whole} next f {stop} r l d h =
+    let p = err_from_is_err_and r h in
+    subst (λ (q : Result C E). DoesAs {A = B} meaning looked a c whole (value_as f q)) (sym (p.1 ∙ ap Err p.2)) (l.lead c (Err stop) (does_stop meaning next stop refl d))

@@ -2,7 +2,12 @@
 #![tactic(auto)]
 
 mod buffer;
+mod chain;
 mod find;
+mod iam;
+mod list;
 mod look;
+mod table;
 
 pub use find::{FindStop, find_table};
+pub use table::Table;

@@ -1,7 +1,8 @@
 // Pages read on the view of a statement.
-ghost use Rattle.std.specs.Prelude.{◌≡◌, ◌<◌, IsTrue, OnOk, None, Contains, List, ℕ};
+ghost use Rattle.std.specs.Prelude.{◌≡◌, ◌<◌, true, IsTrue, OnOk, None, Contains, List, ℕ};
 ghost use Rattle.spec_file.specs.declared.data.Resource.TheVariants as resource;
 ghost use Rattle.spec_file.specs.Image.{page};
+ghost use Rattle.spec_file.specs.Roles.{is_ordinary};
 ghost use Rattle.spec_words.specs.Words.{look, unless_held};
 ghost use Rattle.db_locks.specs.Does.{Does, DoesAfter, filled};
 
@@ -32,5 +33,17 @@ pub(crate) fn test_free<P: PlanPages>(
     ensures view { (P.state v.new).view ≡ (P.state v.old).view }
 {
     v.look(p, r, into)?;
+    Ok(())
+}
+
+/// Reads page p, which an object may own.
+pub(crate) fn look_page<P: PlanPages>(v: &mut P, p: PageNo, into: &mut Page) -> Result<(), PageStop>
+    requires { p.0 < (P.state v.old).view.shape.pages }
+    ensures look { Does (P.state v.old) (P.state v.new) (look (resource.Page p) p.0) (filled (page (P.state v.old).view.now p.0) result) }
+    ensures told { OnOk result (IsTrue (P.state v.old).told → is_ordinary (P.state v.old).view.shape.geometry p.0 ≡ true → into.new.bytes ≡ page (P.state v.old).view.now p.0) }
+    ensures view { (P.state v.new).view ≡ (P.state v.old).view }
+{
+    v.look(p, Resource::Page(p), into)?;
+    is_whole(into);
     Ok(())
 }

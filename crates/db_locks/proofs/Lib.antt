@@ -4,3 +4,6 @@ pub mod PlanLaws
 pub mod WordLaws
 pub mod LoopLaws
 pub mod PageLaws
+pub mod CellSteps
+pub mod ViewLaws
+pub mod MemoryImages

@@ -1,8 +1,8 @@
 -- Loops over numbers do what plans over lists say: of a part that is done and a part that is to come.
-use Rattle.std.proofs.Common.{◌≡◌, ℕ, IsTrue, List, [], ◌∷◌, ◌++◌, Contains, Option, Some, None, Result, Ok, Err, inl, inr, refl, sym, ap, ◌∙◌, subst}
+use Rattle.std.proofs.Common.{◌≡◌, ℕ, List, [], ◌∷◌, ◌++◌, Contains, Option, Some, None, Result, Ok, Err, refl, sym, ap, ◌∙◌, subst}
 use Rattle.std.specs.Prelude.{IsErrAnd}
 use Rattle.std.proofs.lemmas.List.{append_assoc, append-nil}
-use Rattle.std.proofs.lemmas.List.Elements.{Contains-append_left, Contains-append_cases}
+use Rattle.std.proofs.lemmas.List.Elements.{Contains-append_left}
 use Rattle.spec_words.specs.Views.{View, End, Gives, Stops, Outcome, Plan}
 use Rattle.spec_words.specs.Words.{ended, gone_on, ◌then◌, give, first_of, for_each, all_of}
 use Rattle.db_locks.specs.States.{PlanState}
@@ -19,7 +19,7 @@ pub leads_none : {A E : Type 0} (meaning : E → Stop) (looked : List ℕ) (a : 
 leads_none meaning looked a whole = record { stays = stays_same a; lead = λ c result d. d }
 
 -- pages that were reached count as well where more were
-does_further : {A E : Type 0} {meaning : E → Stop} {looked : List ℕ} (reached : List ℕ) {a b : PlanState} {plan : Plan A} {result : Result A E}
+pub does_further : {A E : Type 0} {meaning : E → Stop} {looked : List ℕ} (reached : List ℕ) {a b : PlanState} {plan : Plan A} {result : Result A E}
     → DoesAs meaning looked a b plan result → DoesAs meaning (looked ++ reached) a b plan result
 does_further {looked = looked} reached d = does_within (looked ++ reached) (λ told p h. Contains-append_left looked reached p h) d
 
@@ -105,8 +105,8 @@ step_of each found x xs = each x then (λ first. rest_of each (found ++ first �
 
 others_as : {A : Type 0} (found : List A) (y : A) (before reached : List ℕ) (ending : End (List A))
     → let given = gone_on reached ending (λ rest. give (y ∷ rest)) in
-      gone_on (before ++ given.reached) given.ending (λ rest. give (found ++ rest))
-      ≡ ended (before ++ (gone_on reached ending (λ rest. give ((found ++ y ∷ []) ++ rest))).reached) (gone_on reached ending (λ rest. give ((found ++ y ∷ []) ++ rest))).ending
+    gone_on (before ++ given.reached) given.ending (λ rest. give (found ++ rest))
+    ≡ ended (before ++ (gone_on reached ending (λ rest. give ((found ++ y ∷ []) ++ rest))).reached) (gone_on reached ending (λ rest. give ((found ++ y ∷ []) ++ rest))).ending
 unfolding give
 others_as found y before reached (Gives ys w) =
     ap (λ ps. ended ps (Gives (found ++ (y ∷ ys)) w)) (append-nil (before ++ (reached ++ [])))
@@ -115,7 +115,7 @@ others_as found y before reached (Stops refusal) = refl
 
 steps_as : {A : Type 0} (each : ℕ → Plan A) (found : List A) (xs : List ℕ) (before : List ℕ) (ending : End A)
     → let given = gone_on before ending (λ first. all_of each xs then (λ rest. give (first ∷ rest))) in
-      gone_on given.reached given.ending (λ rest. give (found ++ rest)) ≡ gone_on before ending (λ first. rest_of each (found ++ first ∷ []) xs)
+    gone_on given.reached given.ending (λ rest. give (found ++ rest)) ≡ gone_on before ending (λ first. rest_of each (found ++ first ∷ []) xs)
 unfolding ◌then◌
 steps_as each found xs before (Gives y v) = others_as found y before (all_of each xs v).reached (all_of each xs v).ending
 steps_as each found xs before (Stops refusal) = refl

@@ -1,5 +1,5 @@
 -- Bytes of pages: what a look tells of them, and what a put changes.
-use Rattle.std.proofs.Common.{◌≡◌, ◌≢◌, ℕ, ◌+◌, ◌-◌, ◌<◌, ◌≤◌, ◌^◌, eqb, leb, ltb, ◌&&◌, Bool, true, false, List, [], ◌∷◌, length, Option, Some, get_or, get_or-set_same, get_or-set_other, length-set, inl, inr, refl, sym, ap, ◌∙◌, subst, arith}
+use Rattle.std.proofs.Common.{◌≡◌, ◌≢◌, ℕ, ◌+◌, ◌-◌, ◌<◌, leb, ltb, ◌&&◌, true, List, [], ◌∷◌, length, Option, Some, get_or-set_same, get_or-set_other, inl, inr, refl, sym, ap, ◌∙◌, subst, arith}
 use Rattle.std.specs.Prelude.{slice_index, slice_set, IsSomeAnd, ◌⊎◌}
 use Rattle.std.specs.Int.{bit_at}
 use Rattle.std.specs.Int.Bits.{bit_xor, xor_self, xor_zero_l, xor_zero_r, xor_assoc}
@@ -16,7 +16,7 @@ use Rattle.spec_file.specs.Image.{AreBytes, page_size}
 use Rattle.spec_file.specs.Places.{HasShape, pfs_place}
 use Rattle.spec_file.specs.Roles.{is_ordinary}
 use Rattle.spec_log.specs.Cells.{with_bytes, byte_with}
-use Rattle.spec_log.specs.Cover.{byte_guard, bit_guard}
+use Rattle.spec_log.specs.Cover.{byte_guard}
 use Rattle.law_cover.proofs.Places.{pages_guard_bytes}
 use Rattle.law_cover.proofs.Pages.{pages_guard_themselves}
 use Rattle.spec_words.specs.NetChanges.{FileShape}
@@ -26,13 +26,13 @@ use Rattle.db_locks.specs.Guards.{AgreeUnder, DifferOnPage, carried}
 
 -- ---- what a put changes
 
-turned : (s a : ℕ) → bit_xor s (bit_xor s a) ≡ a
+pub turned : (s a : ℕ) → bit_xor s (bit_xor s a) ≡ a
 turned s a = sym (xor_assoc s s a) ∙ ap (λ z. bit_xor z a) (xor_self s) ∙ xor_zero_l a
 
 kept : (s b : ℕ) → bit_xor s (bit_xor b b) ≡ s
 kept s b = ap (λ z. bit_xor s z) (xor_self b) ∙ xor_zero_r s
 
-abbrev turned_at : List ℕ → List ℕ → List ℕ → ℕ → ℕ
+abbrev pub turned_at : List ℕ → List ℕ → List ℕ → ℕ → ℕ
 turned_at before after seen i = bit_xor (slice_index seen i) (bit_xor (slice_index before i) (slice_index after i))
 
 -- what is carried over is known by its bytes
@@ -81,9 +81,13 @@ carried_page seen after same = carried_bytes seen after seen 0 after (λ i lt.
 fits_some : (o : Option Resource) (r : Resource) (Fits : Resource → Type 0) → o ≡ Some r → Fits r → IsSomeAnd o Fits
 fits_some o r Fits e h = subst (λ (o : Option Resource). IsSomeAnd o Fits) (sym e) h
 
-low_offset : (g : Geometry) (p : ℕ) → (pfs_place g p).at < page_size
+-- a PFS byte stands inside its page
+pub low_offset : (g : Geometry) (p : ℕ) → (pfs_place g p).at < page_size
 low_offset Standard p = omega arith
 low_offset Small p = omega arith
+
+pub inside_page : (g : Geometry) (p at : ℕ) (bytes : List ℕ) → at ≡ (pfs_place g p).at → length bytes ≡ page_size → at < length bytes
+inside_page g p at bytes e long = subst (λ k. k < length bytes) (sym e) (subst (λ n. (pfs_place g p).at < n) (sym long) (low_offset g p))
 
 -- the resource of a page's PFS byte guards its bits
 byte_guarded : (shape : FileShape) (p j : ℕ) (Fits : Resource → Type 0) → HasShape shape.geometry shape.pages → p < shape.pages → Fits (resource.Byte (record { 0 = p }))

@@ -1,19 +1,17 @@
 -- What a call that looked, took or put did, by the words of plans that look, reach, take and write.
 use Rattle.std.proofs.Common.{◌≡◌, ℕ, IsTrue, List, [], ◌∷◌, ◌++◌, Contains, Option, Some, None, Result, Ok, Err, inl, inr, refl, sym, ap, ◌∙◌, subst, arith}
-use Rattle.std.specs.Prelude.{slice_set, IfErr}
+use Rattle.std.specs.Prelude.{slice_set}
 use Rattle.std.proofs.lemmas.List.Elements.{Contains-append_left, Contains-append_right, Contains-append_cases, Contains-push_cases}
 use Rattle.spec_file.specs.declared.data.Resource.{Resource}
 use Rattle.spec_file.specs.Image.{Image, page}
 use Rattle.spec_log.specs.declared.item.Cell.{Cell}
 use Rattle.spec_log.specs.Cells as cells
-use Rattle.spec_script.specs.declared.reply.Refusal.{Refusal}
 use Rattle.spec_plan.specs.Refusals.{held_by}
-use Rattle.spec_words.specs.Views.{View, End, Gives, Stops, Outcome, Plan}
+use Rattle.spec_words.specs.Views.{View, Gives, Stops, Outcome, Plan}
 use Rattle.spec_words.specs.Words.{ended, gone_on, by_holder, ◌then◌, give, look, reach, take, unless_held, write, written, with_taken}
 use Rattle.db_locks.specs.Guards.{carried}
 use Rattle.db_locks.specs.States.{PlanState}
-use Rattle.db_locks.specs.Does.{Stop, WasHeld, WasRefused, HasFailed, WasShort, MayStop, MayAnswer, HasCause, Stays, DoesAs, filled, carry}
-use Rattle.db_locks.proofs.PlanLaws.{stays_same}
+use Rattle.db_locks.specs.Does.{Stop, WasHeld, WasRefused, HasFailed, WasShort, MayStop, MayAnswer, DoesAs, carry}
 
 -- ---- the same by another plan
 
@@ -63,8 +61,8 @@ looked_again : {A : Type 0} (looked : List ℕ) (r : Resource) (p : ℕ) (next :
     → ((t : ℕ) → o ≡ Some t → other ≡ ended [] (Stops (held_by r t)))
     → (o ≡ None → ((next (page view.now p) view).ending ≡ other.ending) × ((next (page view.now p) view).reached ≡ other.reached))
     → let first : Outcome (List ℕ) = by_holder r o (ended (p ∷ []) (Gives (page view.now p) view)) in
-      ((gone_on first.reached first.ending next).ending ≡ other.ending)
-      × ((q : ℕ) → Contains (looked ++ (gone_on first.reached first.ending next).reached) q → Contains (looked ++ other.reached) q)
+    ((gone_on first.reached first.ending next).ending ≡ other.ending)
+    × ((q : ℕ) → Contains (looked ++ (gone_on first.reached first.ending next).reached) q → Contains (looked ++ other.reached) q)
 looked_again looked r p next other view None before held free =
     let (ends, reaches) = free refl in
     (ends, λ q h. subst (λ (ps : List ℕ). Contains (looked ++ ps) q) reaches (again looked (next (page view.now p) view).reached p q before h))

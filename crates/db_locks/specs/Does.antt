@@ -5,7 +5,7 @@ use Rattle.spec_file.specs.Image.{page}
 use Rattle.spec_script.specs.declared.reply.Refusal.{Refusal}
 use Rattle.spec_plan.specs.Refusals.{held_by, bad_page}
 use Rattle.pg_base.specs.Faults.{Rose}
-use Rattle.spec_words.specs.Views.{View, End, Gives, Stops, Outcome, Plan}
+use Rattle.spec_words.specs.Views.{View, Gives, Stops, Outcome, Plan}
 use Rattle.spec_words.specs.Words.{ended}
 use Rattle.db_locks.specs.declared.plan_pages.PageStop.{PageStop}
 use Rattle.db_locks.specs.declared.plan_pages.PageStop.TheVariants.{Held, Fault, Bad, NoMemory}

@@ -4,3 +4,7 @@ pub mod Guards
 pub mod States
 pub mod Does
 pub mod Calls
+pub mod Cells
+pub mod MemImages
+pub mod Memory
+pub mod MemoryLaws

@@ -1,5 +1,6 @@
 -- What a lock table says.
 use Rattle.std.specs.Prelude.{◌≡◌, ◌≢◌, ℕ, ◌==◌, if◌then◌else◌, Option, Some, None}
+use Rattle.std.specs.Option.{option_map}
 use Rattle.std.specs.HashMap.{get, spare}
 use Rattle.spec_file.specs.declared.data.Resource.{Resource}
 use Rattle.spec_file.specs.declared.data.Tran.{Tran}
@@ -26,3 +27,7 @@ HoldSame old new = (r : Resource) → holder_of new r ≡ holder_of old r
 -- both tables say the same of all resources but one
 abbrev pub HoldSameBeside : Resource → LockTable → LockTable → Type 0
 HoldSameBeside r old new = (other : Resource) → other ≢ r → holder_of new other ≡ holder_of old other
+
+-- who holds a resource, as the numbers of transactions
+abbrev pub others_of : LockTable → Resource → Option ℕ
+others_of table r = option_map (λ t. t.0) (holder_of table r)

@@ -1,5 +1,6 @@
 -- What a view stands for while a statement is planned on it.
 use Rattle.std.specs.Prelude.{◌≡◌, ℕ, nat_lt, ◌==◌, Bool, true, if◌then◌else◌, List, [], ◌∷◌}
+use Rattle.spec_file.specs.declared.data.PageNo.{PageNo}
 use Rattle.spec_file.specs.declared.data.Resource.{Resource}
 use Rattle.spec_file.specs.Image.{Image, page}
 use Rattle.spec_words.specs.Takes.{is_among}
@@ -16,7 +17,7 @@ pub record PlanState : Type 0 where
   pub view : View
   pub shown : Image
   pub first : Image
-  pub put : List ℕ
+  pub put : List PageNo
 
 -- the pages that are told are those of the file; and what the statement took is shown as it is seen, now and before
 pub record AreImages (state : PlanState) : Type 0 where
@@ -26,10 +27,10 @@ pub record AreImages (state : PlanState) : Type 0 where
   pub taken : (r : Resource) → is_among state.view.taken r ≡ true → (p : ℕ) → AgreeUnder r state.view.shape p (page state.shown p) (page state.view.now p)
   pub before : (r : Resource) → is_among state.view.taken r ≡ true → (p : ℕ) → AgreeUnder r state.view.shape p (page state.first p) (page state.view.start p)
 
--- a rising list of numbers with one more
-abbrev pub with_number : ℕ → List ℕ → List ℕ
-with_number p [] = p ∷ []
-with_number p (q ∷ rest) = if p == q then q ∷ rest else (if nat_lt p q then p ∷ (q ∷ rest) else q ∷ with_number p rest)
+-- pages that rise, with one more
+abbrev pub with_page : PageNo → List PageNo → List PageNo
+with_page p [] = p ∷ []
+with_page p (q ∷ rest) = if p.0 == q.0 then q ∷ rest else (if nat_lt p.0 q.0 then p ∷ (q ∷ rest) else q ∷ with_page p rest)
 
 -- what is shown stays
 pub record KeepsShown (old new : PlanState) : Type 0 where

@@ -7,8 +7,8 @@ use pg_base::Resource;
 /// The grain and the number of a resource, by which its holder is found.
 #[derive(Clone, Copy, Debug, PartialEq, Eq, Hash)]
 pub(crate) struct ResourceKey {
-    grain: u8,
-    number: u32,
+    pub(crate) grain: u8,
+    pub(crate) number: u32,
 }
 
 /// What a resource's holder is found by.

@@ -1,10 +1,11 @@
 //! The view of a transaction while a statement is planned.
-ghost use Rattle.std.specs.Prelude.{◌≡◌, ◌<◌, ℕ, IsTrue, None, Contains, IfErr, OnOk, OnErr, map, take as front, slice_set};
+ghost use Rattle.std.specs.Prelude.{◌≡◌, ◌<◌, ℕ, IsTrue, None, Contains, IfErr, OnOk, OnErr, take as front, slice_set};
+ghost use Rattle.spec_file.specs.declared.data.PageNo.{PageNo};
 ghost use Rattle.spec_file.specs.Image.{page, maps_start};
 ghost use Rattle.spec_file.specs.Places.{HasShape};
 ghost use Rattle.spec_words.specs.Words.{look, take, with_taken};
 ghost use Rattle.db_locks.specs.Guards.{AgreeUnder, DifferOnPage, tells_header};
-ghost use Rattle.db_locks.specs.States.{PlanState, AreImages, KeepsShown, with_number};
+ghost use Rattle.db_locks.specs.States.{PlanState, AreImages, KeepsShown, with_page};
 ghost use Rattle.db_locks.specs.Does.{Does, carry, filled};
 ghost use Rattle.db_locks.specs.Calls.{NamesPage, NamesResource, NamesBoth, newly_taken};
 
@@ -52,7 +53,7 @@ pub trait PlanPages {
         ensures names { IfErr result (NamesPage p.0) }
         ensures shown { OnOk result (IsTrue (state self.old).told → (state self.new).shown ≡ slice_set (state self.old).shown p.0 from.now.bytes) }
         ensures first { (state self.new).first ≡ (state self.old).first }
-        ensures changed { OnOk result ((state self.new).put ≡ with_number p.0 (state self.old).put) }
+        ensures changed { OnOk result ((state self.new).put ≡ with_page p (state self.old).put) }
         ensures taken { (state self.new).view.taken ≡ (state self.old).view.taken };
 
     /// Takes a resource, which may be one that the transaction holds. Changes nothing where it is refused.
@@ -66,13 +67,13 @@ pub trait PlanPages {
 
     /// The pages that were put for this statement, rising. Every other page is shown as at the beginning.
     fn changed(&self) -> &[PageNo]
-        ensures pages { map (λ p. p.0) result.now ≡ (state self.now).put }
-        ensures inside { (p : ℕ) → Contains (state self.now).put p → p < (state self.now).view.shape.pages }
-        ensures others { IsTrue (state self.now).told → (p : ℕ) → (Contains (state self.now).put p → ⊥) → page (state self.now).first p ≡ page (state self.now).shown p };
+        ensures pages { result.now ≡ (state self.now).put }
+        ensures inside { (p : PageNo) → Contains (state self.now).put p → p.0 < (state self.now).view.shape.pages }
+        ensures others { IsTrue (state self.now).told → (p : PageNo) → (Contains (state self.now).put p → ⊥) → page (state self.now).first p.0 ≡ page (state self.now).shown p.0 };
 
     /// Page `p` as it was shown before its first put.
     fn before(&self, p: PageNo, into: &mut Page)
-        requires { Contains (state self.now).put p.0 }
+        requires { Contains (state self.now).put p }
         ensures { IsTrue (state self.now).told → into.new.bytes ≡ page (state self.now).first p.0 };
 
     /// What this statement took and its transaction didn't hold, in the order of takes.

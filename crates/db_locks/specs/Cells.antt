@@ -1,0 +1,12 @@
+-- Parts of a file as plans read them.
+use Rattle.std.specs.Prelude.{ℕ, slice_index}
+use Rattle.spec_file.specs.declared.data.Resource.TheVariants as resource
+use Rattle.spec_file.specs.Places.{pfs_place}
+use Rattle.spec_words.specs.NetChanges.{FileShape}
+use Rattle.spec_words.specs.Views.{Plan}
+use Rattle.spec_words.specs.Words.{◌then◌, give, look}
+
+-- the PFS byte of page p, under its own resource
+abbrev pub pfs_byte_read : FileShape → ℕ → Plan ℕ
+pfs_byte_read shape p =
+    look (resource.Byte (record { 0 = p })) (pfs_place shape.geometry p).page then (λ bytes. give (slice_index bytes (pfs_place shape.geometry p).at))

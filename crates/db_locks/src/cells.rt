@@ -1,0 +1,90 @@
+//! PFS bytes and whole pages, read and written as the words of plans say.
+ghost use Rattle.std.specs.Prelude.{◌≡◌, ◌<◌, ℕ, List, IsTrue, Contains, true};
+ghost use Rattle.spec_file.specs.declared.data.Resource.TheVariants as resource;
+ghost use Rattle.spec_file.specs.Places.{pfs_page};
+ghost use Rattle.spec_file.specs.Roles.{is_ordinary};
+ghost use Rattle.spec_words.specs.Words.{look, unless_held, put_pfs, put_page as page_put};
+ghost use Rattle.db_locks.specs.Cells.{pfs_byte_read};
+ghost use Rattle.db_locks.specs.Does.{Does, DoesAfter, filled};
+
+use crate::{PageStop, PlanPages};
+use pg_base::{Geometry, Page, PageNo, Resource, is_whole};
+use pg_geom::pfs_of;
+
+/// Fills `into` with a page that objects may own, under its own resource.
+pub fn look_page<P: PlanPages>(view: &mut P, p: PageNo, into: &mut Page) -> Result<(), PageStop>
+    requires inside { p.0 < (P.state view.old).view.shape.pages }
+    requires ordinary { is_ordinary (P.state view.old).view.shape.geometry p.0 ≡ true }
+    ensures does { Does (P.state view.old) (P.state view.new) (look (resource.Page p) p.0) (filled into.new.bytes result) }
+    ensures view { (P.state view.new).view ≡ (P.state view.old).view }
+{
+    view.look(p, Resource::Page(p), into)?;
+    is_whole(into);
+    Ok(())
+}
+
+/// Whether another transaction holds a resource, asked by one more look at a page that the statement has
+/// reached.
+pub fn check_free<P: PlanPages>(
+    view: &mut P,
+    p: PageNo,
+    r: Resource,
+    buffer: &mut Page,
+) -> Result<(), PageStop>
+    requires { p.0 < (P.state view.old).view.shape.pages }
+    ensures does { (looked : List ℕ) → (IsTrue (P.state view.old).told → Contains looked p.0) → DoesAfter looked (P.state view.old) (P.state view.new) (unless_held r) result }
+    ensures view { (P.state view.new).view ≡ (P.state view.old).view }
+{
+    view.look(p, r, buffer)?;
+    Ok(())
+}
+
+/// The PFS byte of page `p`. The PFS page is read into `buffer`.
+pub fn read_pfs_byte<P: PlanPages>(
+    view: &mut P,
+    geometry: Geometry,
+    p: PageNo,
+    buffer: &mut Page,
+) -> Result<u8, PageStop>
+    requires geometry { geometry ≡ (P.state view.old).view.shape.geometry }
+    requires inside { p.0 < (P.state view.old).view.shape.pages }
+    ensures does { Does (P.state view.old) (P.state view.new) (pfs_byte_read (P.state view.old).view.shape p.0) result }
+    ensures view { (P.state view.new).view ≡ (P.state view.old).view }
+{
+    let (page, at) = pfs_of(geometry, p);
+    view.look(page, Resource::Byte(p), buffer)?;
+    is_whole(buffer);
+    Ok(buffer.bytes[at as usize])
+}
+
+/// Takes and writes the PFS byte of page `p`. The PFS page, which the statement has reached, is read into
+/// `buffer` once more, and put.
+pub fn set_pfs_byte<P: PlanPages>(
+    view: &mut P,
+    geometry: Geometry,
+    p: PageNo,
+    byte: u8,
+    buffer: &mut Page,
+) -> Result<(), PageStop>
+    requires geometry { geometry ≡ (P.state view.old).view.shape.geometry }
+    requires inside { p.0 < (P.state view.old).view.shape.pages }
+    ensures { (looked : List ℕ) → (IsTrue (P.state view.old).told → Contains looked (pfs_page geometry p.0)) → DoesAfter looked (P.state view.old) (P.state view.new) (put_pfs (P.state view.old).view.shape p.0 byte) result }
+{
+    let (page, at) = pfs_of(geometry, p);
+    view.look(page, Resource::Byte(p), buffer)?;
+    is_whole(buffer);
+    view.take(Resource::Byte(p))?;
+    buffer.bytes[at as usize] = byte;
+    view.put(page, buffer)
+}
+
+/// Takes and replaces a page that objects may own, which the statement has reached.
+pub fn put_page<P: PlanPages>(view: &mut P, p: PageNo, from: &Page) -> Result<(), PageStop>
+    requires inside { p.0 < (P.state view.old).view.shape.pages }
+    requires ordinary { is_ordinary (P.state view.old).view.shape.geometry p.0 ≡ true }
+    ensures { (looked : List ℕ) → (IsTrue (P.state view.old).told → Contains looked p.0) → DoesAfter looked (P.state view.old) (P.state view.new) (page_put p.0 from.now.bytes) result }
+{
+    view.take(Resource::Page(p))?;
+    is_whole(from);
+    view.put(p, from)
+}

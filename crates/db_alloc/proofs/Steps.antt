@@ -2,7 +2,7 @@
 use Rattle.std.proofs.Common.{◌≡◌, ℕ, Bool, true, false, IsTrue, List, [], ◌∷◌, ◌++◌, Contains, Result, Ok, Err, refl, sym, ap, ◌∙◌, subst}
 use Rattle.std.proofs.lemmas.List.{append_assoc}
 use Rattle.spec_words.specs.Views.{View, End, Gives, Stops, Outcome, Plan}
-use Rattle.spec_words.specs.Words.{ended, gone_on, ◌then◌, give, refuse, found_or, look}
+use Rattle.spec_words.specs.Words.{ended, gone_on, ◌then◌, give, refuse, found_or, look, for_each}
 use Rattle.db_locks.specs.States.{PlanState}
 use Rattle.db_locks.specs.Does.{Stop, WasRefused, WasShort, MayStop, MayAnswer, HasCause, DoesAs}
 use Rattle.std.specs.Prelude.{IsErrAnd, Option, Some, None}
@@ -111,3 +111,9 @@ pub leads_exit_as : {A B C E : Type 0} {meaning : E → Stop} {looked : List ℕ
 leads_exit_as {B = B} {C} {E} {meaning} {looked} {a} {b} {c} {whole} next f {stop} r l d h =
     let p = err_from_is_err_and r h in
     subst (λ (q : Result C E). DoesAs {A = B} meaning looked a c whole (value_as f q)) (sym (p.1 ∙ ap Err p.2)) (l.lead c (Err stop) (does_stop meaning next stop refl d))
+
+-- one of a list was done, or stopped where the value stands for another
+pub each_exit_as : {C E : Type 0} {meaning : E → Stop} {looked : List ℕ} {a b c : PlanState} {whole : Plan (Unit {0})} (each : ℕ → Plan (Unit {0})) (x : ℕ) (xs : List ℕ) (f : C → Unit {0}) {stop : E} (r : Result C E)
+    → Leads meaning looked a b whole (for_each each (x ∷ xs)) → DoesAs meaning looked b c (each x) (Err stop) → IsErrAnd r (λ s. s ≡ stop) → DoesAs meaning looked a c whole (value_as f r)
+unfolding for_each
+each_exit_as each x xs f r l d h = leads_exit_as (λ _. for_each each xs) f r l d h

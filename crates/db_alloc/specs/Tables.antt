@@ -3,7 +3,9 @@ use Rattle.std.specs.Prelude.{ℕ, ◌==◌, ◌||◌, not, List, length, map, B
 use Rattle.std.specs.Global.{Global}
 use Rattle.spec_file.specs.declared.data.PageNo.{PageNo}
 use Rattle.spec_file.specs.declared.data.Resource.TheVariants as resource
-use Rattle.spec_file.specs.Places.{is_inside}
+use Rattle.spec_file.specs.Places.{is_inside, pfs_page}
+use Rattle.spec_file.specs.Header.{says}
+use Rattle.spec_file.specs.declared.page_type.TheConstants.{PFS_TYPE}
 use Rattle.spec_file.specs.CatalogRows.{CatalogRow, rows_of}
 use Rattle.spec_chain.specs.Chains.{next_of}
 use Rattle.spec_plan.specs.Refusals.{no_table}
@@ -39,3 +41,9 @@ chain_link shape row met from p =
     sees (λ view. not (length met == 0) || are_slots_inside view.now p) then (λ slots.
     where_good slots p then (λ _.
     give (next_of bytes))))))
+
+-- the PFS byte of page p is read: 1222, and 824 where its PFS page isn't one
+abbrev pub byte_looked : FileShape → ℕ → Plan (Unit {0})
+byte_looked shape p =
+    look (resource.Byte (record { 0 = p })) (pfs_page shape.geometry p) then (λ bytes.
+    where_good (says PFS_TYPE (pfs_page shape.geometry p) bytes) (pfs_page shape.geometry p))

@@ -127,6 +127,7 @@ pub(crate) fn read_chain<P: PlanPages>(
     requires geometry { table.now.geometry ≡ (P.state v.old).view.shape.geometry }
     requires pages { table.now.pages ≡ (P.state v.old).view.shape.pages }
     ensures does { Does (P.state v.old) (P.state v.new) (spec.chain_of (P.state v.old).view.shape (row_of table.now.row)) (value_as (λ chain. numbers chain.numbers.items) result) }
+    ensures some { IfOk result (λ chain. 1 ≤ length chain.numbers.items) }
     ensures told { IfOk result (λ chain. IsTrue (P.state v.old).told → bytes_of chain.pages.items ≡ map (page (P.state v.old).view.now) (numbers chain.numbers.items)) }
     ensures view { (P.state v.new).view ≡ (P.state v.old).view }
 {

@@ -10,9 +10,9 @@ ghost use Rattle.db_alloc.specs.Results.{find_stop, value_as};
 ghost use Rattle.db_alloc.specs.Tables.{catalog_rows, named_row};
 
 use crate::buffer::page_room;
-use crate::look::{look_catalog, test_free};
+use crate::look::look_catalog;
 use db_cat::{CatRow, CatStop, read_catalog};
-use db_locks::{PageStop, PlanPages};
+use db_locks::{PageStop, PlanPages, check_free};
 use law_rows::row_laws;
 use pg_base::{BOOT_TYPE, Page, PageNo, Resource, is_page_of};
 use spec_script::Name;
@@ -91,7 +91,7 @@ fn find_by<P: PlanPages>(
 {
     look_catalog(v, buffer)?;
     let row = read_named(alloc, buffer, name)?;
-    test_free(v, Resource::Table(row.id), PageNo(9), buffer)?;
+    check_free(v, PageNo(9), Resource::Table(row.id), buffer)?;
     Ok(row)
 }
 

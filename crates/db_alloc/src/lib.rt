@@ -7,7 +7,10 @@ mod find;
 mod iam;
 mod list;
 mod look;
+mod marks;
+mod pages;
 mod table;
 
 pub use find::{FindStop, find_table};
+pub use pages::pages_of;
 pub use table::Table;

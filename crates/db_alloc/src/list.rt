@@ -1,8 +1,10 @@
 // Lists of page numbers.
-ghost use Rattle.std.specs.Prelude.{◌≡◌, ◌==◌};
+ghost use Rattle.std.specs.Prelude.{◌≡◌, ◌==◌, ◌++◌, ◌∷◌, [], IfErr, OnOk, if◌then◌else◌};
 ghost use Rattle.std.specs.List.{list_any};
+ghost use Rattle.db_locks.specs.declared.plan_pages.PageStop.TheVariants as stop;
 ghost use Rattle.db_alloc.specs.Tables.{numbers};
 
+use db_locks::PageStop;
 use pg_base::PageNo;
 
 /// Whether page p is among these.
@@ -15,4 +17,15 @@ pub(crate) fn has_page(pages: &[PageNo], p: PageNo) -> bool
         }
     }
     false
+}
+
+/// One page more, at the end, if so.
+pub(crate) fn push_if(pages: &mut Vec<PageNo>, p: PageNo, yes: bool) -> Result<(), PageStop>
+    ensures pages { OnOk result (numbers pages.new.items ≡ numbers pages.old.items ++ (if yes then p.0 ∷ [] else [])) }
+    ensures short { IfErr result (λ e. e ≡ stop.NoMemory) }
+{
+    if yes && pages.push(p).is_err() {
+        return Err(PageStop::NoMemory);
+    }
+    Ok(())
 }

@@ -22,8 +22,8 @@ returns-in_err-row g c =
     (does_told next (λ told. c.in_ok-look_catalog.ensures.told (sym c.in_ok-look_catalog.ensures.look.stays.told ∙ told))
     (does_exit_as held_test row_of c.in_err-row.field-0.0 _ refl (does_more _ (c.in_err-row.ensures b)) c.from_residual-in_err-row.ensures.1)))
 
-pub returns-in_err-test_free : goal.returns-in_err-test_free
-returns-in_err-test_free g c =
+pub returns-in_err-check_free : goal.returns-in_err-check_free
+returns-in_err-check_free g c =
     let a = g.P.PlanPages.state c.args.v.now in
     let b = g.P.PlanPages.state c.look_catalog.new.v in
     let next = λ (boot : List ℕ). named_row c.args.name.now boot then held_test in
@@ -31,7 +31,7 @@ returns-in_err-test_free g c =
     does_plan (table_parts c.args.name.now) (does_after next (does_ok c.in_ok-look_catalog.ensures.look)
     (does_told next (λ told. c.in_ok-look_catalog.ensures.told (sym c.in_ok-look_catalog.ensures.look.stays.told ∙ told))
     (does_after held_test (does_more _ (c.in_ok-row.ensures b))
-    (does_exit_as _ row_of (Page c.in_err-test_free.field-0.0) _ refl (c.in_err-test_free.ensures.does _ (Contains-append_left _ _ 9 before)) c.from_residual-in_err-test_free.ensures.1))))
+    (does_exit_as _ row_of (Page c.in_err-check_free.field-0.0) _ refl (c.in_err-check_free.ensures.does _ (λ told. Contains-append_left _ _ 9 before)) c.from_residual-in_err-check_free.ensures.1))))
 
 pub returns : goal.returns
 returns g c =
@@ -42,4 +42,4 @@ returns g c =
     does_plan (table_parts c.args.name.now) (does_after next (does_ok c.in_ok-look_catalog.ensures.look)
     (does_told next (λ told. c.in_ok-look_catalog.ensures.told (sym c.in_ok-look_catalog.ensures.look.stays.told ∙ told))
     (does_after held_test (does_more _ (c.in_ok-row.ensures b))
-    (does_after _ (does_ok (c.in_ok-test_free.ensures.does _ (Contains-append_left _ _ 9 before))) (does_give _ _ _)))))
+    (does_after _ (does_ok (c.in_ok-check_free.ensures.does _ (λ told. Contains-append_left _ _ 9 before))) (does_give _ _ _)))))

@@ -1,7 +1,6 @@
 -- The chain, page by page.
 use Rattle.std.proofs.lemmas.List.{map-append}
-use Rattle.std.proofs.Common.{◌≡◌, refl, ℕ, suc, ◌+◌, ◌-◌, ◌<◌, ◌≤◌, true, false, List, [], ◌∷◌, ◌++◌, length, map, Result, Ok, Err, ap, sym, ◌∙◌, subst, arith}
-use Rattle.spec_file.specs.declared.data.PageNo.{PageNo}
+use Rattle.std.proofs.Common.{◌≡◌, refl, ℕ, suc, ◌+◌, ◌-◌, ◌<◌, ◌≤◌, true, false, List, [], ◌∷◌, ◌++◌, length, map, ap, sym, ◌∙◌, subst, arith}
 use Rattle.spec_file.specs.CatalogRows.{CatalogRow}
 use Rattle.spec_chain.specs.Chains.{is_last}
 use Rattle.spec_words.specs.NetChanges.{FileShape}
@@ -9,11 +8,9 @@ use Rattle.spec_words.specs.Views.{Plan}
 use Rattle.spec_words.specs.Words.{◌then◌, give, refuse}
 use Rattle.spec_words.specs.Tables.{chain_from, chain_of}
 use Rattle.spec_plan.specs.Refusals.{bad_page}
-use Rattle.db_locks.specs.declared.plan_pages.PageStop.TheVariants.{Bad}
 use Rattle.db_locks.specs.States.{PlanState}
-use Rattle.db_locks.specs.Does.{Stop, Does, stop_of}
-use Rattle.db_locks.proofs.PlanLaws.{does_give, does_refuse}
-use Rattle.db_locks.proofs.LoopLaws.{Leads, leads_none}
+use Rattle.db_locks.specs.Does.{Stop}
+use Rattle.db_locks.proofs.LoopLaws.{Leads}
 use Rattle.db_alloc.specs.Tables.{chain_link}
 use Rattle.db_alloc.proofs.Steps.{then_assoc, then_same, give_then}
 

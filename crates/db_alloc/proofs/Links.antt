@@ -1,5 +1,5 @@
 -- A page of a chain.
-use Rattle.std.proofs.Common.{◌≡◌, refl, ℕ, ◌==◌, Bool, ◌<◌, true, false, not, IsTrue, List, [], length, subst, arith, Result, Ok, Err, ap, sym, ◌∙◌}
+use Rattle.std.proofs.Common.{◌≡◌, refl, ℕ, ◌==◌, Bool, ◌<◌, true, false, not, IsTrue, List, [], length, subst, arith, Ok, Err, ap, sym, ◌∙◌}
 use Rattle.std.specs.Prelude.{◌&&◌, ◌||◌, is_none, nat_lt}
 use Rattle.std.proofs.lemmas.Bool.{and_parts, ltb-true, false≢true}
 use Rattle.std.specs.List.{list_any, list_all}
@@ -14,8 +14,7 @@ use Rattle.spec_file.specs.Roles.{is_ordinary}
 use Rattle.spec_chain.specs.Chains.{fault_of_bytes, next_of}
 use Rattle.spec_plan.specs.Reading.{are_slots_inside}
 use Rattle.spec_words.specs.NetChanges.{FileShape}
-use Rattle.spec_words.specs.Views.{View, Plan}
-use Rattle.spec_words.specs.Words.{◌then◌, give, look, where_good}
+use Rattle.spec_words.specs.Words.{give, look}
 use Rattle.spec_words.specs.Tables.{is_chain_page}
 use Rattle.db_locks.specs.declared.plan_pages.PageStop.TheVariants.{Bad}
 use Rattle.db_locks.specs.States.{PlanState}

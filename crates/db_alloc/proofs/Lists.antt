@@ -1,6 +1,5 @@
 -- Lists of pages.
-use Rattle.std.proofs.Common.{◌≡◌, refl, ℕ, ◌+◌, ◌<◌, ◌≤◌, true, false, Bool, List, [], ◌∷◌, length, get_or, drop, take, map, ◌++◌, subst, All, ap, sym, ◌∙◌, arith, add-one, drop-cons, if◌then◌else◌, filter, ◌||◌, ◌&&◌, not}
-use Rattle.std.specs.Prelude.{◌==◌}
+use Rattle.std.proofs.Common.{◌≡◌, refl, ℕ, ◌+◌, ◌<◌, ◌≤◌, true, false, Bool, List, [], ◌∷◌, length, get_or, drop, take, map, ◌++◌, subst, All, ap, sym, ◌∙◌, arith, add-one, drop-cons, if◌then◌else◌, filter, ◌||◌, ◌&&◌}
 use Rattle.std.proofs.lemmas.List.{drop_all, take_more, take_all, length-map, map-append}
 use Rattle.std.proofs.Math.ListN.{get_or-map}
 use Rattle.std.proofs.lemmas.List.FromFn.{length-range_with_len, get_or-range_with_len}

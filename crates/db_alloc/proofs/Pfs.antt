@@ -1,5 +1,5 @@
 -- PFS pages and their bytes.
-use Rattle.std.proofs.Common.{◌≡◌, refl, ℕ, ◌*◌, ◌/◌, ◌<◌, ◌≤◌, eqb, Bool, true, false, IsTrue, List, [], take, Result, Ok, Err, inl, inr, sym, ap, ◌∙◌, subst, arith}
+use Rattle.std.proofs.Common.{◌≡◌, refl, ℕ, ◌*◌, ◌/◌, eqb, true, false, IsTrue, List, [], take, Result, Ok, Err, inl, inr, sym, ap, ◌∙◌, subst, arith}
 use Rattle.std.specs.Prelude.{◌==◌, ◌&&◌, if◌then◌else◌, slice_index, IsErrAnd}
 use Rattle.std.proofs.lemmas.Bool.{cases_eq, eq-eqb, ne_eqb}
 use Rattle.spec_file.specs.declared.data.PageNo.{PageNo}
@@ -18,8 +18,8 @@ use Rattle.db_locks.specs.Guards.{tells_header}
 use Rattle.db_locks.specs.declared.plan_pages.PageStop.{PageStop}
 use Rattle.db_locks.specs.declared.plan_pages.PageStop.TheVariants.{Bad}
 use Rattle.db_locks.specs.States.{PlanState}
-use Rattle.db_locks.specs.Does.{Does, stop_of}
-use Rattle.db_locks.proofs.PlanLaws.{does_then, does_stop, does_good, does_bad}
+use Rattle.db_locks.specs.Does.{Does}
+use Rattle.db_locks.proofs.PlanLaws.{does_then, does_good, does_bad}
 use Rattle.db_alloc.specs.Tables.{byte_looked}
 use Rattle.db_alloc.specs.Results.{value_as}
 use Rattle.db_alloc.proofs.Steps.{does_exit_as}

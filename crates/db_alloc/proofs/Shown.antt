@@ -1,18 +1,16 @@
 -- What a look tells of the image of a view.
-use Rattle.std.proofs.Common.{◌≡◌, ℕ, ◌<◌, true, List, [], length, Some, refl, sym, ap, ◌∙◌, subst, arith, inl}
+use Rattle.std.proofs.Common.{◌≡◌, ℕ, ◌<◌, true, List, [], length, refl, sym, ◌∙◌, subst, arith, inl}
 use Rattle.std.specs.Prelude.{slice_index, IsSomeAnd}
 use Rattle.std.proofs.lemmas.Grind.{same_number_lists}
 use Rattle.std.proofs.lemmas.Nat.Bits.{same_from_bits_below}
 use Rattle.spec_file.specs.declared.data.Resource.TheVariants as resource
 use Rattle.spec_file.specs.Image.{Image, AreBytes, page, page_size}
-use Rattle.spec_file.specs.Places.{HasShape, pfs_place}
 use Rattle.spec_file.specs.Roles.{is_ordinary}
-use Rattle.spec_log.specs.Cover.{byte_guard}
 use Rattle.law_cover.proofs.Pages.{catalog_guards_boot}
 use Rattle.spec_words.specs.NetChanges.{FileShape}
 use Rattle.law_net.specs.Files.{IsImageOf}
 use Rattle.db_locks.specs.Guards.{AgreeUnder}
-use Rattle.db_locks.proofs.PageLaws.{told_page, told_byte}
+use Rattle.db_locks.proofs.PageLaws.{told_page}
 
 -- how long a page of the image is
 page_long : (shape : FileShape) (image : Image) → IsImageOf shape image → (p : ℕ) → p < shape.pages → length (page image p) ≡ page_size

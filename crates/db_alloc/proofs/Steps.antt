@@ -1,10 +1,10 @@
 -- How plans and what calls did are put together beyond the laws of db_locks.
-use Rattle.std.proofs.Common.{◌≡◌, ℕ, Bool, true, false, IsTrue, List, [], ◌∷◌, ◌++◌, Contains, Result, Ok, Err, refl, sym, ap, ◌∙◌, subst}
+use Rattle.std.proofs.Common.{◌≡◌, ℕ, IsTrue, List, [], ◌∷◌, ◌++◌, Contains, Result, Ok, Err, refl, sym, ap, ◌∙◌, subst}
 use Rattle.std.proofs.lemmas.List.{append_assoc}
-use Rattle.spec_words.specs.Views.{View, End, Gives, Stops, Outcome, Plan}
+use Rattle.spec_words.specs.Views.{View, End, Gives, Stops, Plan}
 use Rattle.spec_words.specs.Words.{ended, gone_on, ◌then◌, give, refuse, found_or, look, for_each}
 use Rattle.db_locks.specs.States.{PlanState}
-use Rattle.db_locks.specs.Does.{Stop, WasRefused, WasShort, MayStop, MayAnswer, HasCause, DoesAs}
+use Rattle.db_locks.specs.Does.{Stop, WasRefused, MayAnswer, DoesAs}
 use Rattle.std.specs.Prelude.{IsErrAnd, Option, Some, None}
 use Rattle.spec_script.specs.declared.reply.Refusal.{Refusal}
 use Rattle.std.proofs.lemmas.Result.{err_from_is_err_and}
@@ -12,7 +12,7 @@ use Rattle.std.proofs.lemmas.List.Elements.{Contains-append_right, Contains-push
 use Rattle.spec_file.specs.declared.data.Resource.{Resource}
 use Rattle.db_alloc.specs.Results.{value_as}
 use Rattle.db_locks.proofs.LoopLaws.{Leads}
-use Rattle.db_locks.proofs.PlanLaws.{stays_same, does_stop, does_give, does_refuse}
+use Rattle.db_locks.proofs.PlanLaws.{does_stop, does_give, does_refuse}
 
 -- ---- plans
 
@@ -54,15 +54,6 @@ does_told {meaning = meaning} {looked} {a} {b} next {x} {y} {result} same d = re
   cause = d.cause;
 }
 
--- memory is short
-pub does_short : {A E : Type 0} {meaning : E → Stop} {looked : List ℕ} (a : PlanState) (plan : Plan A) (e : E) → meaning e ≡ WasShort
-    → DoesAs meaning looked a a plan (Err e)
-does_short {meaning = meaning} {looked} a plan e means = record {
-  exact = λ told. subst (λ (s : Stop). MayStop looked (plan a.view) s) (sym means) tt;
-  stays = stays_same a;
-  cause = subst (λ (s : Stop). HasCause a a s) (sym means) tt;
-}
-
 -- a value says nothing of errors
 pub does_ok : {A E D : Type 0} {meaning : E → Stop} {reading : D → Stop} {looked : List ℕ} {a b : PlanState} {plan : Plan A} {x : A}
     → DoesAs {E = E} meaning looked a b plan (Ok x) → DoesAs {E = D} reading looked a b plan (Ok x)
@@ -74,13 +65,6 @@ pub does_exit_as : {A B C D E : Type 0} {meaning : E → Stop} {reading : D → 
 does_exit_as {B} {C} {D} {reading = reading} {looked} {a} {b} {plan} next f other r same d h =
     let p = err_from_is_err_and r h in
     subst (λ (q : Result C D). DoesAs {A = B} reading looked a b (plan then next) (value_as f q)) (sym (p.1 ∙ ap Err p.2)) (does_stop reading next other same d)
-
--- the same, where memory was short
-pub short_exit : {B C D : Type 0} {reading : D → Stop} {looked : List ℕ} (a : PlanState) (plan : Plan B) (f : C → B) (other : D) (r : Result C D)
-    → reading other ≡ WasShort → IsErrAnd r (λ s. s ≡ other) → DoesAs reading looked a a plan (value_as f r)
-short_exit {B} {C} {D} {reading} {looked} a plan f other r same h =
-    let p = err_from_is_err_and r h in
-    subst (λ (q : Result C D). DoesAs {A = B} reading looked a a plan (value_as f q)) (sym (p.1 ∙ ap Err p.2)) (does_short a plan other same)
 
 -- a look reaches its page
 pub look_reached : (looked : List ℕ) (r : Resource) (p : ℕ) (view : View) → view.other r ≡ None → Contains (looked ++ (look r p view).reached) p
@@ -95,15 +79,6 @@ found_some looked a o x other e = rw e (does_give looked a x)
 pub found_none : {A E : Type 0} {meaning : E → Stop} (looked : List ℕ) (a : PlanState) (o : Option A) (refusal : Refusal) (e : E) → o ≡ None → meaning e ≡ WasRefused refusal
     → DoesAs meaning looked a a (found_or o (refuse refusal)) (Err e)
 found_none looked a o refusal e none means = rw none (does_refuse looked a refusal e means)
-
--- memory was short behind a call
-pub short_after : {A B E D : Type 0} {meaning : E → Stop} {reading : D → Stop} {looked : List ℕ} {a b : PlanState} {plan : Plan A} {result : Result A E} (other : Plan B) (e : D)
-    → reading e ≡ WasShort → DoesAs meaning looked a b plan result → DoesAs reading looked a b other (Err e)
-short_after {looked = looked} {a} {b} other e means d = record {
-  exact = λ told. subst (λ (s : Stop). MayStop looked (other a.view) s) (sym means) tt;
-  stays = d.stays;
-  cause = subst (λ (s : Stop). HasCause a b s) (sym means) tt;
-}
 
 -- a step of a plan stopped, and `?` hands that on, where the value stands for another
 pub leads_exit_as : {A B C E : Type 0} {meaning : E → Stop} {looked : List ℕ} {a b c : PlanState} {whole : Plan B} {plan : Plan A} (next : A → Plan B) (f : C → B) {stop : E} (r : Result C E)

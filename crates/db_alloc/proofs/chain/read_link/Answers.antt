@@ -1,4 +1,4 @@
-use Rattle.std.proofs.Common.{◌≡◌, ℕ, [], refl, sym, ap, ◌∙◌, true, IsTrue, length}
+use Rattle.std.proofs.Common.{ℕ, [], refl, sym, ap, ◌∙◌, IsTrue}
 use Rattle.spec_file.specs.declared.header.Header.{Header}
 use Rattle.spec_file.specs.Image.{page}
 use Rattle.spec_file.specs.Places.{is_inside}

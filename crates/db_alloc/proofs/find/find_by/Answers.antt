@@ -1,7 +1,7 @@
 use Rattle.std.proofs.Common.{refl, sym, ◌∙◌, ℕ, List, []}
 use Rattle.std.proofs.lemmas.List.Elements.{Contains-append_left}
 use Rattle.spec_file.specs.declared.data.Resource.TheVariants as resource
-use Rattle.spec_words.specs.Words.{give, ◌then◌, look}
+use Rattle.spec_words.specs.Words.{◌then◌}
 use Rattle.db_cat.specs.Rows.{row_of}
 use Rattle.db_locks.proofs.PlanLaws.{does_after, does_more, does_give}
 use Rattle.db_alloc.specs.declared.find.FindStop.TheVariants.{Page}

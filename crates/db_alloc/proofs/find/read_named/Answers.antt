@@ -1,8 +1,5 @@
 use Rattle.std.proofs.Common.{refl, sym, ap, ◌∙◌, map}
-use Rattle.spec_file.specs.CatalogRows.{CatalogRow}
 use Rattle.spec_plan.specs.Reading.{named_among}
-use Rattle.spec_plan.specs.Refusals.{no_table}
-use Rattle.spec_words.specs.Words.{refuse, found_or}
 use Rattle.db_cat.specs.Rows.{row_of}
 use Rattle.db_locks.proofs.PlanLaws.{does_then}
 use Rattle.db_alloc.specs.declared.find.FindStop.TheVariants.{Page, NoTable}

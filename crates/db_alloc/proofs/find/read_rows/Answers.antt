@@ -1,4 +1,4 @@
-use Rattle.std.proofs.Common.{sym, ◌∙◌, refl}
+use Rattle.std.proofs.Common.{sym, ◌∙◌}
 use Rattle.db_alloc.proofs.Rows.{passes, says_other, fails, rows_good, rows_bad}
 use Rattle.db_alloc.proofs.find.read_rows.Goals as goal
 

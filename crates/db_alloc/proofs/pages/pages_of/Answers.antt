@@ -1,8 +1,7 @@
-use Rattle.std.proofs.Common.{◌≡◌, ℕ, ◌≤◌, subst, ◌||◌, List, [], IsTrue, sym, ap, ◌∙◌, refl, filter, map}
+use Rattle.std.proofs.Common.{ℕ, ◌≤◌, subst, ◌||◌, [], IsTrue, sym, ap, ◌∙◌, refl, filter}
 use Rattle.std.proofs.lemmas.List.{length-map}
 use Rattle.spec_file.specs.declared.data.PageNo.{PageNo}
 use Rattle.std.proofs.lemmas.Result.{IfOk-weaker}
-use Rattle.spec_file.specs.Image.{page}
 use Rattle.spec_chain.specs.Uses.{is_allocated}
 use Rattle.spec_words.specs.Views.{View}
 use Rattle.spec_words.specs.Tables.{bytes_read, byte_pages, object_pages}

@@ -1,4 +1,4 @@
-use Rattle.std.proofs.Common.{◌≡◌, ℕ, ◌+◌, ◌<◌, ◌||◌, List, [], ◌∷◌, ◌++◌, sym, ap, ◌∙◌, refl, get_or, take, drop, arith, if◌then◌else◌}
+use Rattle.std.proofs.Common.{◌+◌, ◌<◌, ◌||◌, [], ◌∷◌, ◌++◌, sym, ap, ◌∙◌, refl, get_or, take, arith, if◌then◌else◌}
 use Rattle.spec_chain.specs.Uses.{is_allocated}
 use Rattle.spec_words.specs.Views.{View}
 use Rattle.spec_words.specs.Words.{for_each}

@@ -1,15 +1,19 @@
 -- What each call on a view says, put together to what a cell of a page is.
-use Rattle.std.proofs.Common.{◌≡◌, ℕ, ◌<◌, true, IsTrue, List, [], ◌∷◌, length, Contains, Result, Ok, Err, refl, sym, ap, ◌∙◌, subst}
+use Rattle.std.proofs.Common.{◌≡◌, ℕ, ◌<◌, ◌%◌, true, IsTrue, List, [], ◌∷◌, length, Contains, Some, Result, Ok, Err, refl, sym, ap, ◌∙◌, subst}
 use Rattle.std.specs.Prelude.{slice_index, slice_set, IsErrAnd}
 use Rattle.std.proofs.lemmas.Bool.{cond_both}
 use Rattle.spec_file.specs.declared.data.Resource.{Resource}
 use Rattle.spec_file.specs.declared.data.Resource.TheVariants as resource
 use Rattle.spec_file.specs.Image.{Image, AreBytes, page, page_size}
-use Rattle.spec_file.specs.Places.{HasShape, pfs_place}
+use Rattle.spec_file.specs.Places.{Place, HasShape, pfs_place}
 use Rattle.spec_file.specs.Roles.{is_ordinary}
 use Rattle.spec_log.specs.declared.item.Cell.{Cell}
-use Rattle.spec_log.specs.declared.item.Cell.TheVariants.{Bytes}
-use Rattle.spec_log.specs.Cells.{with_bytes}
+use Rattle.spec_log.specs.declared.item.Cell.TheVariants.{Bytes, Bit}
+use Rattle.spec_log.specs.Cells.{with_bytes, with_map_bit}
+use Rattle.spec_log.specs.Cover.{bit_guard}
+use Rattle.spec_file.specs.declared.sizes.TheConstants.{BIT_COUNT}
+use Rattle.std.specs.Int.{bit_at}
+use Rattle.db_locks.proofs.BitLaws.{byte_of, bit_inside, told_bit, bit_differs, carried_bit}
 use Rattle.spec_words.specs.NetChanges.{FileShape}
 use Rattle.spec_words.specs.Takes.{is_among}
 use Rattle.spec_words.specs.Views.{View, Plan, Gives}
@@ -24,7 +28,7 @@ use Rattle.db_locks.specs.Cells.{pfs_byte_read}
 use Rattle.db_locks.proofs.PlanLaws.{does_after, does_then, does_give, does_more, does_exit}
 use Rattle.db_locks.proofs.LoopLaws.{does_further}
 use Rattle.db_locks.proofs.WordLaws.{does_write, does_write_after_look, does_put}
-use Rattle.db_locks.proofs.PageLaws.{carried_byte, carried_page, told_byte, told_page, byte_differs, page_differs}
+use Rattle.db_locks.proofs.PageLaws.{carried_byte, carried_page, told_byte, told_page, told_catalog, byte_differs, page_differs}
 
 -- a value that is the plan's where the view is told
 pub does_valued : {A E : Type 0} {meaning : E → Stop} {looked : List ℕ} {a b : PlanState} {plan : Plan A} {x : A} (y : A) → (IsTrue a.told → y ≡ x)
@@ -42,6 +46,12 @@ pub page_shown : (a : PlanState) (p : ℕ) (bytes : List ℕ) → (IsTrue a.told
 page_shown a p bytes images lt ordinary low long agree told =
     let now = (images told).now in
     told_page a.view.shape p bytes (page a.view.now p) lt ordinary low (now.bytes p) long (seen_long a.view.shape a.view.now p now lt) (agree told)
+
+pub catalog_shown : (a : PlanState) (bytes : List ℕ) → (IsTrue a.told → AreImages a) → 9 < a.view.shape.pages → AreBytes bytes → length bytes ≡ page_size
+    → (IsTrue a.told → AgreeUnder resource.Catalog a.view.shape 9 bytes (page a.view.now 9)) → IsTrue a.told → bytes ≡ page a.view.now 9
+catalog_shown a bytes images lt low long agree told =
+    let now = (images told).now in
+    told_catalog a.view.shape bytes (page a.view.now 9) lt low (now.bytes 9) long (seen_long a.view.shape a.view.now 9 now lt) (agree told)
 
 -- ---- a PFS byte
 
@@ -197,3 +207,35 @@ page_written b c d p after looked result images lt ordinary long before t put =
     (ap (λ (shown : List ℕ). carried shown after (page c.view.now p)) (taken_shown b c p lt ordinary (images told) t)
     ∙ carried_page (page c.view.now p) after (long ∙ sym (seen_long c.view.shape c.view.now p now lt'))))
     (does_more looked put))))
+
+-- ---- a bit of an extent
+
+pub bit_may_be_put : (a b c : PlanState) (q n v : ℕ) (r : Resource) (bytes : List ℕ) → n < BIT_COUNT → bit_guard a.view.shape.geometry a.view.shape.pages q n ≡ Some r
+    → LooksAt a b r q bytes → Takes b c r → IsTrue c.told → DifferOnPage c.view.taken c.view.shape q (page c.shown q) (with_map_bit bytes n v)
+bit_may_be_put a b c q n v r bytes lt guard l t told =
+    let here = bit_differs a.view.shape q n v r c.view.taken bytes guard (mine r t) (subst (λ k. byte_of n < k) (sym l.long) (bit_inside n lt)) in
+    subst (λ s. DifferOnPage c.view.taken s q (page c.shown q) (with_map_bit bytes n v)) (sym (shape_kept r t ∙ ap (λ (v : View). v.shape) l.view))
+    (subst (λ s. DifferOnPage c.view.taken a.view.shape q s (with_map_bit bytes n v)) (still_shown r q bytes l t told) here)
+
+pub bit_written : (a b c d : PlanState) (q n v : ℕ) (r : Resource) (bytes looked : List ℕ) (result : Result (Unit {0}) PageStop) → n < BIT_COUNT
+    → bit_guard a.view.shape.geometry a.view.shape.pages q n ≡ Some r → (IsTrue a.told → Contains looked q) → LooksAt a b r q bytes → Takes b c r
+    → Does c d (carry q (page c.shown q) (with_map_bit bytes n v)) result → DoesAfter looked a d (write r (Bit (record { 0 = q }) n) (v ∷ [])) result
+bit_written a b c d q n v r bytes looked result lt guard before l t put =
+    let cell = Bit (record { 0 = q }) n in
+    write_looked a b d r q cell (v ∷ []) looked result before l.look
+    (does_write r cell (v ∷ [])
+    (does_after _ (does_more looked t.take)
+    (does_further _
+    (does_put q (page c.shown q) (with_map_bit bytes n v) cell (v ∷ []) (λ told. before (early r q bytes l t told))
+    (λ told. ap (λ (page : List ℕ). slice_set c.view.now q page)
+    (subst (λ shown. carried shown (with_map_bit bytes n v) (page c.view.now q) ≡ with_map_bit (page c.view.now q) n v) (still_shown r q bytes l t told)
+    (carried_bit bytes (page c.view.now q) n v (subst (λ k. byte_of n < k) (sym l.long) (bit_inside n lt))
+    (told_bit a.view.shape q n r bytes (page a.view.now q) lt guard (l.guarded (early r q bytes l t told)) ∙ ap (λ m. bit_at (slice_index m (byte_of n)) (n % 8)) (still_seen r q bytes l t)))))
+    (does_more looked put)))))
+
+-- the words of writing a bit name its place
+pub as_place : (a d : PlanState) (r : Resource) (q at v : ℕ) (place : Place) (looked : List ℕ) (result : Result (Unit {0}) PageStop) → q ≡ place.page → at ≡ place.at
+    → DoesAfter looked a d (write r (Bit (record { 0 = q }) at) (v ∷ [])) result → DoesAfter looked a d (write r (Bit (record { 0 = place.page }) place.at) (v ∷ [])) result
+as_place a d r q at v place looked result eq ea h =
+    subst (λ k. DoesAfter looked a d (write r (Bit (record { 0 = k }) place.at) (v ∷ [])) result) eq
+    (subst (λ k. DoesAfter looked a d (write r (Bit (record { 0 = q }) k) (v ∷ [])) result) ea h)

@@ -4,6 +4,8 @@ pub mod PlanLaws
 pub mod WordLaws
 pub mod LoopLaws
 pub mod PageLaws
+pub mod BitLaws
 pub mod CellSteps
+pub mod Headers
 pub mod ViewLaws
 pub mod MemoryImages

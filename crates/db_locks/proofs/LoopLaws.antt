@@ -1,5 +1,8 @@
 -- Loops over numbers do what plans over lists say: of a part that is done and a part that is to come.
-use Rattle.std.proofs.Common.{◌≡◌, ℕ, List, [], ◌∷◌, ◌++◌, Contains, Option, Some, None, Result, Ok, Err, refl, sym, ap, ◌∙◌, subst}
+use Rattle.std.proofs.Common.{◌≡◌, ℕ, List, [], ◌∷◌, ◌++◌, Contains, Option, Some, None, Result, Ok, Err, refl, sym, ap, ◌∙◌, subst, ◌<◌, ◌≤◌, ◌+◌, suc, length, map, drop, get_or, arith}
+use Rattle.std.proofs.Math.Seq.{drop-cons}
+use Rattle.std.proofs.Math.ListN.{drop_of_length-le}
+use Rattle.spec_file.specs.declared.data.PageNo.{PageNo}
 use Rattle.std.specs.Prelude.{IsErrAnd}
 use Rattle.std.proofs.lemmas.List.{append_assoc, append-nil}
 use Rattle.std.proofs.lemmas.List.Elements.{Contains-append_left}
@@ -139,3 +142,14 @@ none_left each found view = ap (λ all. ended [] (Gives all view)) (sym (append-
 pub all_end : {A E : Type 0} {meaning : E → Stop} {looked : List ℕ} {a b : PlanState} {whole : Plan (List A)} (each : ℕ → Plan A) (found : List A)
     → Leads meaning looked a b whole (rest_of each found []) → DoesAs meaning looked a b whole (Ok found)
 all_end {looked = looked} {b = b} each found l = (leads_as (give found) (none_left each found) l).lead b (Ok found) (does_give looked b found)
+
+-- ---- numbers of pages that a loop goes over
+
+abbrev pub numbers : List PageNo → List ℕ
+numbers pages = map (λ p. p.0) pages
+
+pub numbers_step : (pages : List PageNo) (i : ℕ) (d : PageNo) → i < length pages → numbers (drop i pages) ≡ (get_or pages i d).0 ∷ numbers (drop (i + 1) pages)
+numbers_step pages i d lt = let next : suc i ≡ i + 1 = omega arith in ap numbers (drop-cons pages i d lt) ∙ ap (λ k. (get_or pages i d).0 ∷ numbers (drop k pages)) next
+
+pub numbers_end : (pages : List PageNo) (i : ℕ) → length pages ≤ i → numbers (drop i pages) ≡ []
+numbers_end pages i ge = ap numbers (drop_of_length-le pages ge)

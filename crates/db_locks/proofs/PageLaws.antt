@@ -18,7 +18,7 @@ use Rattle.spec_file.specs.Roles.{is_ordinary}
 use Rattle.spec_log.specs.Cells.{with_bytes, byte_with}
 use Rattle.spec_log.specs.Cover.{byte_guard}
 use Rattle.law_cover.proofs.Places.{pages_guard_bytes}
-use Rattle.law_cover.proofs.Pages.{pages_guard_themselves}
+use Rattle.law_cover.proofs.Pages.{pages_guard_themselves, catalog_guards_boot}
 use Rattle.spec_words.specs.NetChanges.{FileShape}
 use Rattle.spec_words.specs.Takes.{is_among}
 use Rattle.law_net.specs.Files.{IsGuardedBy}
@@ -29,7 +29,7 @@ use Rattle.db_locks.specs.Guards.{AgreeUnder, DifferOnPage, carried}
 pub turned : (s a : ℕ) → bit_xor s (bit_xor s a) ≡ a
 turned s a = sym (xor_assoc s s a) ∙ ap (λ z. bit_xor z a) (xor_self s) ∙ xor_zero_l a
 
-kept : (s b : ℕ) → bit_xor s (bit_xor b b) ≡ s
+pub kept : (s b : ℕ) → bit_xor s (bit_xor b b) ≡ s
 kept s b = ap (λ z. bit_xor s z) (xor_self b) ∙ xor_zero_r s
 
 abbrev pub turned_at : List ℕ → List ℕ → List ℕ → ℕ → ℕ
@@ -78,7 +78,7 @@ carried_page seen after same = carried_bytes seen after seen 0 after (λ i lt.
 
 -- ---- what a look tells
 
-fits_some : (o : Option Resource) (r : Resource) (Fits : Resource → Type 0) → o ≡ Some r → Fits r → IsSomeAnd o Fits
+pub fits_some : (o : Option Resource) (r : Resource) (Fits : Resource → Type 0) → o ≡ Some r → Fits r → IsSomeAnd o Fits
 fits_some o r Fits e h = subst (λ (o : Option Resource). IsSomeAnd o Fits) (sym e) h
 
 -- a PFS byte stands inside its page
@@ -114,6 +114,15 @@ pub told_page : (shape : FileShape) (p : ℕ) (shown seen : List ℕ) → p < sh
 told_page shape p shown seen lt ordinary a b long long' agree = ext_get_or 0 shown seen (long ∙ sym long') (λ i here.
     same_from_bits_below 8 (slice_index shown i) (slice_index seen i) (a i) (b i)
     (λ j low. agree i j (subst (λ n. i < n) long here) low (page_guarded shape p i j (λ s. s ≡ resource.Page (record { 0 = p })) lt ordinary refl)))
+
+-- a look under the catalog's resource tells page 9
+pub told_catalog : (shape : FileShape) (shown seen : List ℕ) → 9 < shape.pages → AreBytes shown → AreBytes seen → length shown ≡ page_size → length seen ≡ page_size
+    → AgreeUnder resource.Catalog shape 9 shown seen → shown ≡ seen
+told_catalog shape shown seen lt a b long long' agree =
+    ext_get_or 0 shown seen (long ∙ sym long')
+    (λ i here. same_from_bits_below 8 (slice_index shown i) (slice_index seen i) (a i) (b i)
+    (λ j low. agree i j (subst (λ n. i < n) long here) low
+    (inl (fits_some (byte_guard shape.geometry shape.pages 9 i) resource.Catalog (λ s. s ≡ resource.Catalog) (catalog_guards_boot shape.geometry shape.pages i lt) refl))))
 
 -- ---- what may be put
 

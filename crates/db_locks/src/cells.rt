@@ -1,14 +1,15 @@
 //! PFS bytes and whole pages, read and written as the words of plans say.
-ghost use Rattle.std.specs.Prelude.{◌≡◌, ◌<◌, ℕ, List, IsTrue, Contains, true};
+ghost use Rattle.std.specs.Prelude.{◌≡◌, ◌<◌, ℕ, List, IsTrue, Contains, All, map, true};
 ghost use Rattle.spec_file.specs.declared.data.Resource.TheVariants as resource;
 ghost use Rattle.spec_file.specs.Places.{pfs_page};
 ghost use Rattle.spec_file.specs.Roles.{is_ordinary};
 ghost use Rattle.spec_words.specs.Words.{look, unless_held, put_pfs, put_page as page_put};
-ghost use Rattle.db_locks.specs.Cells.{pfs_byte_read};
+ghost use Rattle.spec_words.specs.Tables.{bytes_read};
+ghost use Rattle.db_locks.specs.Cells.{pfs_byte_read, pfs_page_read};
 ghost use Rattle.db_locks.specs.Does.{Does, DoesAfter, filled};
 
 use crate::{PageStop, PlanPages};
-use pg_base::{Geometry, Page, PageNo, Resource, is_whole};
+use pg_base::{Geometry, PFS_TYPE, Page, PageNo, Resource, is_page_of, is_whole};
 use pg_geom::pfs_of;
 
 /// Fills `into` with a page that objects may own, under its own resource.
@@ -19,6 +20,16 @@ pub fn look_page<P: PlanPages>(view: &mut P, p: PageNo, into: &mut Page) -> Resu
     ensures view { (P.state view.new).view ≡ (P.state view.old).view }
 {
     view.look(p, Resource::Page(p), into)?;
+    is_whole(into);
+    Ok(())
+}
+
+/// Fills `into` with page 9, under the catalog's resource.
+pub fn look_catalog<P: PlanPages>(view: &mut P, into: &mut Page) -> Result<(), PageStop>
+    ensures does { Does (P.state view.old) (P.state view.new) (look resource.Catalog 9) (filled into.new.bytes result) }
+    ensures view { (P.state view.new).view ≡ (P.state view.old).view }
+{
+    view.look(PageNo(9), Resource::Catalog, into)?;
     is_whole(into);
     Ok(())
 }
@@ -36,6 +47,45 @@ pub fn check_free<P: PlanPages>(
     ensures view { (P.state view.new).view ≡ (P.state view.old).view }
 {
     view.look(p, r, buffer)?;
+    Ok(())
+}
+
+/// Looks at the PFS page of page `p`, for the byte of `p`: `Bad` where it doesn't say that it is a PFS page,
+/// and which.
+pub fn check_pfs_page<P: PlanPages>(
+    view: &mut P,
+    geometry: Geometry,
+    p: PageNo,
+    buffer: &mut Page,
+) -> Result<(), PageStop>
+    requires geometry { geometry ≡ (P.state view.old).view.shape.geometry }
+    requires inside { p.0 < (P.state view.old).view.shape.pages }
+    ensures does { Does (P.state view.old) (P.state view.new) (pfs_page_read (P.state view.old).view.shape p.0) result }
+    ensures view { (P.state view.new).view ≡ (P.state view.old).view }
+{
+    let (page, _at) = pfs_of(geometry, p);
+    view.look(page, Resource::Byte(p), buffer)?;
+    if !is_page_of(buffer, PFS_TYPE, page) {
+        return Err(PageStop::Bad(page));
+    }
+    Ok(())
+}
+
+/// Looks at the PFS pages of these pages, one after another.
+pub fn check_pfs_pages<P: PlanPages>(
+    view: &mut P,
+    geometry: Geometry,
+    pages: &[PageNo],
+    buffer: &mut Page,
+) -> Result<(), PageStop>
+    requires geometry { geometry ≡ (P.state view.old).view.shape.geometry }
+    requires inside { All (λ p. p.0 < (P.state view.old).view.shape.pages) pages.now }
+    ensures does { Does (P.state view.old) (P.state view.new) (bytes_read (P.state view.old).view.shape (map (λ p. p.0) pages.now)) result }
+    ensures view { (P.state view.new).view ≡ (P.state view.old).view }
+{
+    for p in pages {
+        check_pfs_page(view, geometry, *p, buffer)?;
+    }
     Ok(())
 }
 

@@ -30,6 +30,7 @@ pub trait PlanPages {
     /// The file has whole extents, and no more pages than its geometry allows.
     ghost size: { (v : Self) → HasShape (state v).view.shape.geometry (state v).view.shape.pages };
 
+    /// The pages that are told are those of the file, and what was taken is shown as it is seen.
     ghost images: { (v : Self) → IsTrue (state v).told → AreImages (state v) };
 
     /// Fills `into` with page `p` as it is shown. What `r` guards there is as the transaction sees it.

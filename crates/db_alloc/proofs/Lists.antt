@@ -54,6 +54,22 @@ all_range n k d lt =
 pub all_filtered : (f : ℕ → Bool) (ps : List ℕ) (n m : ℕ) → ps ≡ filter f (range_with_len 0 n) → n ≡ m → All (λ p. p < m) ps
 all_filtered f ps n m e same = subst (λ k. All (λ p. p < k) ps) same (subst (All (λ p. p < n)) (sym e) (All-filter f (λ p. p < n) (range_with_len 0 n) (all_range n)))
 
+short_step : (f : ℕ → Bool) (x : ℕ) (xs : List ℕ) → length (filter f xs) ≤ length xs → (b : Bool) → f x ≡ b → length (filter f (x ∷ xs)) ≤ length (x ∷ xs)
+short_step f x xs le true e = rw e (omega (arith, le))
+short_step f x xs le false e = rw e (omega (arith, le))
+
+length_kept : (f : ℕ → Bool) (xs : List ℕ) → length (filter f xs) ≤ length xs
+length_kept f [] = omega arith
+length_kept f (x ∷ xs) = short_step f x xs (length_kept f xs) (f x) refl
+
+-- as many pages as numbers that are kept
+pub few_filtered : (f : ℕ → Bool) (ps : List PageNo) (n : ℕ) → numbers ps ≡ filter f (range_with_len 0 n) → length ps ≤ n
+few_filtered f ps n e =
+    let count : length ps ≡ length (filter f (range_with_len 0 n)) = sym (length-map ps (λ (p : PageNo). p.0)) ∙ ap length e in
+    let kept : length (filter f (range_with_len 0 n)) ≤ length (range_with_len 0 n) = length_kept f (range_with_len 0 n) in
+    let all : length (range_with_len 0 n) ≡ n = length-range_with_len 0 n in
+    omega arith
+
 finer_step : (f g h : ℕ → Bool) (x : ℕ) (xs : List ℕ) → filter g (filter f xs) ≡ filter h xs → (a b : Bool) → f x ≡ a → g x ≡ b → (f x && g x) ≡ h x
     → filter g (filter f (x ∷ xs)) ≡ filter h (x ∷ xs)
 finer_step f g h x xs rest true true ea eb e = let eh : h x ≡ true = sym e ∙ rw (ea, eb) refl in rw (ea, eb, eh) (ap (λ ks. x ∷ ks) rest)

@@ -1,5 +1,5 @@
 // The pages that the chain of a table gives it: those in single-page slots, and those of marked extents.
-ghost use Rattle.std.specs.Prelude.{◌≡◌, ◌<◌, ◌++◌, ◌∷◌, [], IfOk, IfErr, filter, All};
+ghost use Rattle.std.specs.Prelude.{◌≡◌, ◌<◌, ◌++◌, ◌∷◌, [], ◌≤◌, IfOk, IfErr, filter, length, All};
 ghost use Rattle.std.specs.List.{list_any, range_with_len};
 ghost use Rattle.spec_file.specs.declared.sizes.TheConstants.{BIT_COUNT};
 ghost use Rattle.spec_file.specs.Iam.{iam_mark};
@@ -79,6 +79,7 @@ pub(crate) fn byte_pages(
 ) -> Result<Vec<PageNo>, PageStop>
     ensures pages { IfOk result (λ pages. numbers pages.items ≡ filter (spec.has_byte table.now.geometry (bytes_of chain.now.pages.items)) (range_with_len 0 table.now.pages)) }
     ensures inside { IfOk result (λ pages. All (λ p. p < table.now.pages) (numbers pages.items)) }
+    ensures few { IfOk result (λ pages. length pages.items ≤ table.now.pages) }
     ensures short { IfErr result (λ e. e ≡ stop.NoMemory) }
 {
     let slots = chain_slots(chain);

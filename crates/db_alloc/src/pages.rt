@@ -1,5 +1,5 @@
 // The pages of a table.
-ghost use Rattle.std.specs.Prelude.{◌≡◌, ◌<◌, ◌||◌, ◌++◌, ◌∷◌, [], IsTrue, IfOk, OnOk, filter, if◌then◌else◌, All};
+ghost use Rattle.std.specs.Prelude.{◌≡◌, ◌<◌, ◌||◌, ◌++◌, ◌∷◌, [], IsTrue, ◌+◌, ◌≤◌, ℕ, IfOk, OnOk, filter, length, if◌then◌else◌, All};
 ghost use Rattle.spec_chain.specs.Uses as uses;
 ghost use Rattle.spec_words.specs.Tables as spec;
 ghost use Rattle.db_cat.specs.Rows.{row_of};
@@ -33,6 +33,8 @@ fn add_page<P: PlanPages>(
     ensures does { Does (P.state v.old) (P.state v.new) (byte_looked (P.state v.old).view.shape p.0) result }
     ensures told { OnOk result (IsTrue (P.state v.old).told → numbers found.new.items ≡ numbers found.old.items
         ++ (if is_in_slot (numbers slots.now) p.0 || uses.is_allocated (P.state v.old).view.shape.geometry (P.state v.old).view.now p.0 then p.0 ∷ [] else [])) }
+    ensures inside { OnOk result ((n : ℕ) → p.0 < n → All (λ q. q < n) (numbers found.old.items) → All (λ q. q < n) (numbers found.new.items)) }
+    ensures few { OnOk result (length found.new.items ≤ length found.old.items + 1) }
     ensures view { (P.state v.new).view ≡ (P.state v.old).view }
 {
     let byte = look_byte(v, geometry, p, buffer)?;
@@ -55,6 +57,8 @@ fn read_pages<P: PlanPages>(
     ensures does { Does (P.state v.old) (P.state v.new) (spec.bytes_read (P.state v.old).view.shape (numbers pages.now)) (value_as (λ found. tt) result) }
     ensures told { IfOk result (λ found. IsTrue (P.state v.old).told → numbers found.items
         ≡ filter (λ p. is_in_slot (numbers slots.now) p || uses.is_allocated (P.state v.old).view.shape.geometry (P.state v.old).view.now p) (numbers pages.now)) }
+    ensures inside { IfOk result (λ found. All (λ p. p < table.now.pages) (numbers found.items)) }
+    ensures few { IfOk result (λ found. length found.items ≤ length pages.now) }
     ensures view { (P.state v.new).view ≡ (P.state v.old).view }
 {
     let mut found = Vec::new(alloc);
@@ -72,7 +76,9 @@ pub fn pages_of<P: PlanPages>(
 ) -> Result<Vec<PageNo>, PageStop>
     requires geometry { table.now.geometry ≡ (P.state v.old).view.shape.geometry }
     requires pages { table.now.pages ≡ (P.state v.old).view.shape.pages }
-    ensures { Does (P.state v.old) (P.state v.new) (spec.table_pages (P.state v.old).view.shape (row_of table.now.row)) (value_as (λ found. numbers found.items) result) }
+    ensures does { Does (P.state v.old) (P.state v.new) (spec.table_pages (P.state v.old).view.shape (row_of table.now.row)) (value_as (λ found. numbers found.items) result) }
+    ensures inside { IfOk result (λ found. All (λ p. p < table.now.pages) (numbers found.items)) }
+    ensures few { IfOk result (λ found. length found.items ≤ table.now.pages) }
 {
     let mut buffer = page_room(alloc)?;
     let chain = read_chain(alloc, v, table)?;

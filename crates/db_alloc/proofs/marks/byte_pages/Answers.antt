@@ -6,7 +6,7 @@ use Rattle.std.specs.List.{range_with_len}
 use Rattle.law_rows.proofs.Parts.{range_more}
 use Rattle.db_alloc.specs.Marks.{has_byte}
 use Rattle.db_alloc.specs.Tables.{bytes_of}
-use Rattle.db_alloc.proofs.Lists.{filter_more, all_filtered}
+use Rattle.db_alloc.proofs.Lists.{filter_more, all_filtered, few_filtered}
 use Rattle.db_alloc.proofs.marks.byte_pages.Goals as goal
 
 pub loop-p-preserved : goal.loop-p-preserved
@@ -19,3 +19,9 @@ pub returns-clause-inside : goal.returns-clause-inside
 returns-clause-inside c =
     let all : c.loop-p.p ≡ c.args.table.now.pages = omega arith in
     all_filtered _ _ _ _ c.loop-p.invariant all
+
+pub returns-clause-few : goal.returns-clause-few
+returns-clause-few c =
+    let all : c.loop-p.p ≡ c.args.table.now.pages = omega arith in
+    let few = few_filtered _ c.loop-p.pages.items c.loop-p.p c.loop-p.invariant in
+    omega (arith, few, all)

@@ -1,4 +1,4 @@
-use Rattle.std.proofs.Common.{ℕ, ◌≤◌, subst, ◌||◌, [], IsTrue, sym, ap, ◌∙◌, refl, filter}
+use Rattle.std.proofs.Common.{ℕ, ◌≤◌, subst, ◌||◌, [], IsTrue, sym, ap, ◌∙◌, refl, filter, length, arith}
 use Rattle.std.proofs.lemmas.List.{length-map}
 use Rattle.spec_file.specs.declared.data.PageNo.{PageNo}
 use Rattle.std.proofs.lemmas.Result.{IfOk-weaker}
@@ -13,11 +13,11 @@ use Rattle.db_alloc.proofs.PageSteps.{pages_then}
 use Rattle.db_alloc.proofs.Steps.{does_plan, does_exit_as}
 use Rattle.db_alloc.proofs.pages.pages_of.Goals as goal
 
-pub returns-in_err-chain : goal.returns-in_err-chain
-returns-in_err-chain g c = does_exit_as _ _ c.in_err-chain.field-0.0 _ refl c.in_err-chain.ensures.does c.from_residual-in_err-chain.ensures.1
+pub returns-in_err-chain-clause-does : goal.returns-in_err-chain-clause-does
+returns-in_err-chain-clause-does g c = does_exit_as _ _ c.in_err-chain.field-0.0 _ refl c.in_err-chain.ensures.does c.from_residual-in_err-chain.ensures.1
 
-pub returns : goal.returns
-returns g c =
+pub returns-clause-does : goal.returns-clause-does
+returns-clause-does g c =
     let a = g.P.PlanPages.state c.args.v.now in
     let b = g.P.PlanPages.state c.read_chain.new.v in
     let chain = numbers c.in_ok-chain.chain.numbers.items in
@@ -38,3 +38,9 @@ returns g c =
     (is told_b ∙ ap (λ (v : View). filter (λ p. is_in_slot slots p || is_allocated v.shape.geometry v.now p) pages) c.in_ok-chain.ensures.view)
     ∙ ap (object_pages a.view.shape chain) (sym (c.read_pages.ensures.view ∙ c.in_ok-chain.ensures.view)))
     c.read_pages.ensures.told)))
+
+pub returns-clause-few : goal.returns-clause-few
+returns-clause-few g c = IfOk-weaker c.read_pages.result _ _ (λ found few.
+    let within = c.in_ok-pages.ensures.few in
+    let same = ap length c.deref-2.ensures.value in
+    omega (arith, few, within, same)) c.read_pages.ensures.few

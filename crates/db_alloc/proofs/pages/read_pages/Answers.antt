@@ -36,6 +36,8 @@ loop-p-preserved g c =
           _ _ _ (take_at c.args.pages.now c.loop-p.p-index (record { 0 = 0 }) c.loop-p-test.true) refl (c.loop-p.invariant.told told)
           (c.in_ok-add_page.ensures.told (c.loop-p.invariant.leads.stays.told ∙ told)
           ∙ ap (λ (v : View). numbers c.loop-p.found.items ++ (if is_in_slot (numbers c.args.slots.now) (get_or c.args.pages.now c.loop-p.p-index (record { 0 = 0 })).0 || is_allocated v.shape.geometry v.now (get_or c.args.pages.now c.loop-p.p-index (record { 0 = 0 })).0 then (get_or c.args.pages.now c.loop-p.p-index (record { 0 = 0 })).0 ∷ [] else [])) c.loop-p.invariant.view);
+      inside = c.in_ok-add_page.ensures.inside c.args.table.now.pages (all_at (λ p. p < c.args.table.now.pages) c.args.pages.now c.loop-p.p-index (record { 0 = 0 }) c.loop-p-test.true c.requires.inside) c.loop-p.invariant.inside;
+      few = let before = c.loop-p.invariant.few in let more = c.in_ok-add_page.ensures.few in omega (arith, before, more);
       view = c.add_page.ensures.view ∙ c.loop-p.invariant.view;
     }
 

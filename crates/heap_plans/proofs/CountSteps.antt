@@ -9,7 +9,7 @@ use Rattle.spec_script.specs.declared.reply.Reply.{Reply}
 use Rattle.spec_script.specs.declared.reply.Reply.TheVariants.{Rows}
 use Rattle.spec_words.specs.NetChanges.{FileShape}
 use Rattle.spec_words.specs.Views.{Plan}
-use Rattle.spec_words.specs.Words.{◌then◌, give, all_of}
+use Rattle.spec_words.specs.Words.{all_of}
 use Rattle.spec_words.specs.Heaps.{heap_page}
 use Rattle.db_locks.specs.declared.plan_pages.PageStop.{PageStop}
 use Rattle.db_locks.specs.States.{PlanState}

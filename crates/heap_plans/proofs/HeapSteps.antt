@@ -1,21 +1,19 @@
 -- A page of a heap is read, and its rows are counted.
-use Rattle.std.proofs.Common.{◌≡◌, refl, ℕ, ◌+◌, ◌*◌, ◌≤◌, Bool, true, false, IsTrue, List, [], ◌∷◌, ◌++◌, Result, Ok, Err, sym, ap, ◌∙◌, subst, arith}
-use Rattle.std.specs.Prelude.{◌&&◌, IsErrAnd, sum_by}
+use Rattle.std.proofs.Common.{◌≡◌, refl, ℕ, Bool, true, false, List, [], Result, Ok, Err, sym, ap, ◌∙◌, subst}
+use Rattle.std.specs.Prelude.{◌&&◌, IsErrAnd}
 use Rattle.std.proofs.lemmas.Result.{err_from_is_err_and}
 use Rattle.spec_file.specs.declared.data.PageNo.{PageNo}
 use Rattle.spec_file.specs.declared.data.Resource.TheVariants as resource
 use Rattle.spec_file.specs.CatalogRows.{CatalogRow}
 use Rattle.spec_file.specs.Roles.{is_ordinary}
 use Rattle.spec_plan.specs.Rows.{passes_page}
-use Rattle.spec_words.specs.NetChanges.{FileShape}
-use Rattle.spec_words.specs.Views.{Plan}
-use Rattle.spec_words.specs.Words.{◌then◌, give, look, where_good}
+use Rattle.spec_words.specs.Words.{look}
 use Rattle.spec_words.specs.Heaps.{heap_page}
 use Rattle.db_locks.specs.declared.plan_pages.PageStop.{PageStop}
 use Rattle.db_locks.specs.declared.plan_pages.PageStop.TheVariants.{Bad}
 use Rattle.db_locks.specs.States.{PlanState}
 use Rattle.db_locks.specs.Does.{Does, stop_of, filled}
-use Rattle.db_locks.proofs.PlanLaws.{does_then, does_stop, does_give, does_good, does_bad, does_exit}
+use Rattle.db_locks.proofs.PlanLaws.{does_then, does_stop, does_give, does_good, does_bad}
 
 -- a look stopped
 pub page_exit : {a b : PlanState} (row : CatalogRow) (p : ℕ) (bytes : List ℕ) {stop : PageStop} (r : Result (Unit {0}) PageStop)

@@ -1,4 +1,4 @@
-use Rattle.std.proofs.Common.{◌≡◌, ℕ, ◌+◌, ◌<◌, refl, sym, ap, ◌∙◌, arith, get_or}
+use Rattle.std.proofs.Common.{◌<◌, sym, ap, ◌∙◌, arith}
 use Rattle.spec_words.specs.NetChanges.{FileShape}
 use Rattle.db_cat.specs.Rows.{row_of}
 use Rattle.db_alloc.specs.Tables.{numbers}

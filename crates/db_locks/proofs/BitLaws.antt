@@ -1,23 +1,17 @@
 -- One bit of a page of maps: what a look tells of it, and what a put of it changes.
-use Rattle.std.proofs.Common.{◌≡◌, ◌≢◌, ◌⊎◌, ℕ, ◌+◌, ◌-◌, ◌*◌, ◌/◌, ◌%◌, ◌^◌, ◌<◌, eqb, Bool, true, false, List, length, None, Some, ltb, get_or, get_or-set_same, get_or-set_other, length-set, inl, inr, refl, sym, ap, ◌∙◌, subst, arith}
+use Rattle.std.proofs.Common.{◌≡◌, ◌≢◌, ◌⊎◌, ℕ, ◌+◌, ◌-◌, ◌*◌, ◌/◌, ◌%◌, ◌^◌, ◌<◌, eqb, Bool, true, false, List, length, Some, get_or, get_or-set_same, get_or-set_other, length-set, inl, inr, refl, sym, ap, ◌∙◌, subst, arith}
 use Rattle.std.specs.Prelude.{slice_index, slice_set, if◌then◌else◌}
 use Rattle.std.specs.Int.{bit_at}
 use Rattle.std.specs.Int.Bits.{bit_xor}
-use Rattle.std.proofs.lemmas.Bool.{cases_eq, cond_both, ltb-true}
+use Rattle.std.proofs.lemmas.Bool.{cases_eq, cond_both}
 use Rattle.std.proofs.lemmas.Nat.Bits.{bit_at_xor, bit_at-pow_other, bit_at-lt}
 use Rattle.std.proofs.lemmas.List.{ext_get_or}
 use Rattle.std.proofs.lemmas.List.FromFn.{length-map-range_with_len, get_or-map-range_with_len}
 use Rattle.spec_file.specs.declared.data.Resource.{Resource}
-use Rattle.spec_file.specs.declared.data.Resource.TheVariants as resource
 use Rattle.spec_file.specs.declared.sizes.TheConstants.{BIT_COUNT}
 use Rattle.spec_file.specs.Image.{maps_start, page_size}
 use Rattle.spec_log.specs.Cells.{with_bit, with_map_bit}
-use Rattle.spec_log.specs.Cover.{bit_guard, bit_guard_by}
-use Rattle.spec_file.specs.declared.geometry.Geometry.{Geometry}
-use Rattle.spec_file.specs.declared.geometry.Geometry.TheVariants.{Standard, Small}
-use Rattle.spec_file.specs.Places.{HasShape, gam_place, sgam_place}
-use Rattle.spec_file.specs.Roles.{role_of}
-use Rattle.law_cover.proofs.Places.{extents_guard_bits}
+use Rattle.spec_log.specs.Cover.{bit_guard}
 use Rattle.spec_words.specs.NetChanges.{FileShape}
 use Rattle.spec_words.specs.Takes.{is_among}
 use Rattle.law_net.specs.Files.{IsGuardedBy}

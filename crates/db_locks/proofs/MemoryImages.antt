@@ -1,7 +1,8 @@
 -- What puts leave of the pages of a view in memory.
 use Rattle.std.proofs.Common.{◌≡◌, ◌⊎◌, ℕ, ◌<◌, ◌≤◌, ◌==◌, nat_lt, Bool, true, false, List, [], ◌∷◌, length, Contains, refl, zero, suc, subst, sym, ap, ◌∙◌, arith, inl, inr, get_or, get_or-set_same, get_or-set_other, length-set, All}
 use Rattle.std.specs.Prelude.{slice_set, slice_index, if◌then◌else◌, filter, not}
-use Rattle.std.proofs.lemmas.Bool.{cases_eq, cases_lt, eqb-true}
+use Rattle.std.proofs.lemmas.Bool.{cases_eq, cases_lt, eqb-true, and_parts, and_from}
+use Rattle.std.proofs.lemmas.Bool.Decides.{nat_tests}
 use Rattle.std.proofs.lemmas.List.{ext_get_or, get_or_past, length-map}
 use Rattle.std.proofs.lemmas.List.FromFn.{length-map-range_with_len, get_or-map-range_with_len}
 use Rattle.std.proofs.lemmas.List.Elements.{All-set, Contains-append_left, Contains-append_right, Contains-append_cases, Contains-push, Contains-push_cases}
@@ -14,7 +15,7 @@ use Rattle.pg_base.specs.declared.page.Page.{Page}
 use Rattle.spec_words.specs.NetChanges.{FileShape}
 use Rattle.law_net.specs.Files.{IsImageOf}
 use Rattle.db_locks.specs.Guards.{carried}
-use Rattle.db_locks.specs.States.{with_page}
+use Rattle.db_locks.specs.States.{begins_above, are_rising, with_page}
 use Rattle.db_locks.specs.MemImages.{shape_of, image_of, DifferWherePut}
 use Rattle.db_locks.proofs.PageLaws.{turned, turned_at}
 
@@ -103,6 +104,29 @@ old_at p q y xs rest false false f h = elim (Contains-cons_cases q xs y h) [
 pub with_page-old : (p : PageNo) (xs : List PageNo) (y : PageNo) → Contains xs y → Contains (with_page p xs) y
 with_page-old p [] y h = Contains-tail p [] y h
 with_page-old p (q ∷ xs) y h = old_at p q y xs (with_page p xs) (p.0 == q.0) (nat_lt p.0 q.0) (with_page-old p xs y) h
+
+-- one page more keeps them rising
+above_at : (n : ℕ) (p x : PageNo) (xs rest : List PageNo) (b c : Bool) → nat_lt n x.0 ≡ true → nat_lt n p.0 ≡ true
+    → begins_above n (if b then x ∷ xs else (if c then p ∷ (x ∷ xs) else x ∷ rest)) ≡ true
+above_at n p x xs rest true c old new = old
+above_at n p x xs rest false true old new = new
+above_at n p x xs rest false false old new = old
+
+above_put : (n : ℕ) (p : PageNo) (xs : List PageNo) → begins_above n xs ≡ true → nat_lt n p.0 ≡ true → begins_above n (with_page p xs) ≡ true
+above_put n p [] old new = new
+above_put n p (x ∷ xs) old new = above_at n p x xs (with_page p xs) (p.0 == x.0) (nat_lt p.0 x.0) old new
+
+rise_at : (p q : PageNo) (xs rest : List PageNo) (b c : Bool) → (p.0 == q.0) ≡ b → nat_lt p.0 q.0 ≡ c → are_rising (q ∷ xs) ≡ true
+    → (nat_lt q.0 p.0 ≡ true → begins_above q.0 rest ≡ true) → are_rising rest ≡ true → are_rising (if b then q ∷ xs else (if c then p ∷ (q ∷ xs) else q ∷ rest)) ≡ true
+rise_at p q xs rest true c e f h above r = h
+rise_at p q xs rest false true e f h above r = and_from (nat_lt p.0 q.0) (are_rising (q ∷ xs)) f h
+rise_at p q xs rest false false e f h above r = and_from (begins_above q.0 rest) (are_rising rest) (above (grind (arith, nat_tests, e, f))) r
+
+pub rise_put : (p : PageNo) (xs : List PageNo) → are_rising xs ≡ true → are_rising (with_page p xs) ≡ true
+rise_put p [] h = refl
+rise_put p (q ∷ xs) h =
+    let parts = and_parts (begins_above q.0 xs) (are_rising xs) h in
+    rise_at p q xs (with_page p xs) (p.0 == q.0) (nat_lt p.0 q.0) refl refl h (λ more. above_put q.0 p xs parts.0 more) (rise_put p xs parts.1)
 
 -- one page more was put
 pub differ_put : (put : List PageNo) (first now : Image) (p : PageNo) (bytes : List ℕ) → p.0 < length now → DifferWherePut put first now

@@ -1,5 +1,5 @@
 -- What a view stands for while a statement is planned on it.
-use Rattle.std.specs.Prelude.{◌≡◌, ℕ, nat_lt, ◌==◌, Bool, true, if◌then◌else◌, List, [], ◌∷◌}
+use Rattle.std.specs.Prelude.{◌≡◌, ◌&&◌, ℕ, nat_lt, ◌==◌, Bool, true, if◌then◌else◌, List, [], ◌∷◌}
 use Rattle.spec_file.specs.declared.data.PageNo.{PageNo}
 use Rattle.spec_file.specs.declared.data.Resource.{Resource}
 use Rattle.spec_file.specs.Image.{Image, page}
@@ -31,6 +31,16 @@ pub record AreImages (state : PlanState) : Type 0 where
 abbrev pub with_page : PageNo → List PageNo → List PageNo
 with_page p [] = p ∷ []
 with_page p (q ∷ rest) = if p.0 == q.0 then q ∷ rest else (if nat_lt p.0 q.0 then p ∷ (q ∷ rest) else q ∷ with_page p rest)
+
+-- the first of these, if there is one, is above n
+abbrev pub begins_above : ℕ → List PageNo → Bool
+begins_above n [] = true
+begins_above n (p ∷ rest) = nat_lt n p.0
+
+-- each is above the one before it
+abbrev pub are_rising : List PageNo → Bool
+are_rising [] = true
+are_rising (p ∷ rest) = begins_above p.0 rest && are_rising rest
 
 -- what is shown stays
 pub record KeepsShown (old new : PlanState) : Type 0 where

@@ -1,6 +1,6 @@
 //! A view in memory, for tests: of a transaction that holds nothing when its statement begins, over pages
 //! that nobody else has written.
-ghost use Rattle.std.specs.Prelude.{◌≡◌, ◌<◌, ◌∷◌, length, vec_len, slice_set, [], false, IfOk, OnOk, OnErr};
+ghost use Rattle.std.specs.Prelude.{◌≡◌, ◌<◌, ◌∷◌, length, vec_len, slice_set, [], true, false, IfOk, OnOk, OnErr};
 ghost use Rattle.spec_file.specs.Image.{page};
 ghost use Rattle.spec_file.specs.Places.{HasShape};
 ghost use Rattle.spec_words.specs.Views.{beginning};
@@ -8,7 +8,7 @@ ghost use Rattle.spec_log.specs.Items.{is_same as same_resource};
 ghost use Rattle.spec_words.specs.Takes.{in_order as takes_in_order, is_among, comes_before as before_resource, with_resource};
 ghost use Rattle.law_net.specs.Files.{IsImageOf};
 ghost use Rattle.db_locks.specs.MemImages.{shape_of, image_of, DifferWherePut};
-ghost use Rattle.db_locks.specs.States.{with_page};
+ghost use Rattle.db_locks.specs.States.{are_rising, with_page};
 ghost use Rattle.db_locks.specs.Locks.{others_of};
 
 use crate::key::key;
@@ -119,6 +119,7 @@ pub struct MemView {
     ghost now: { IsImageOf (shape_of geometry version pages.items) (image_of pages.items) },
     ghost began: { IsImageOf (shape_of geometry version pages.items) (image_of first.items) },
     ghost differ: { DifferWherePut put.items (image_of first.items) (image_of pages.items) },
+    ghost rising: { are_rising put.items ≡ true },
     ghost ordered: { in_order.items ≡ takes_in_order taken.items },
 }
 

@@ -5,7 +5,7 @@ ghost use Rattle.spec_file.specs.Image.{page, maps_start};
 ghost use Rattle.spec_file.specs.Places.{HasShape};
 ghost use Rattle.spec_words.specs.Words.{look, take, with_taken};
 ghost use Rattle.db_locks.specs.Guards.{AgreeUnder, DifferOnPage, tells_header};
-ghost use Rattle.db_locks.specs.States.{PlanState, AreImages, KeepsShown, with_page};
+ghost use Rattle.db_locks.specs.States.{PlanState, AreImages, KeepsShown, are_rising, with_page};
 ghost use Rattle.db_locks.specs.Does.{Does, carry, filled};
 ghost use Rattle.db_locks.specs.Calls.{NamesPage, NamesResource, NamesBoth, newly_taken};
 
@@ -69,6 +69,7 @@ pub trait PlanPages {
     /// The pages that were put for this statement, rising. Every other page is shown as at the beginning.
     fn changed(&self) -> &[PageNo]
         ensures pages { result.now ≡ (state self.now).put }
+        ensures rising { IsTrue (are_rising (state self.now).put) }
         ensures inside { (p : PageNo) → Contains (state self.now).put p → p.0 < (state self.now).view.shape.pages }
         ensures others { IsTrue (state self.now).told → (p : PageNo) → (Contains (state self.now).put p → ⊥) → page (state self.now).first p.0 ≡ page (state self.now).shown p.0 };
 

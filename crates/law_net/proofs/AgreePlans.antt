@@ -87,7 +87,8 @@ agree_counted g version image other own row (p ∷ ps) sum next h =
     given first rest v next = agree_give (λ o e. e ≡ (next (first ∷ rest) v).ending) (Counts 0) (first ∷ rest) v next refl
 
 count_agrees : (g : Geometry) (version : ℕ) (image : Image) (other : Resource → Option ℕ) (own : Resource → Bool) (name : List ℕ) →
-    EndsAs (shape_of g version image) (sight_of g image other own) (count_outcome (sight_of g image other own) name) (count_plan (shape_of g version image) name (view_of g version image other own [])).ending
+    EndsAs (shape_of g version image) (sight_of g image other own) (count_outcome (sight_of g image other own) name)
+    (count_plan (shape_of g version image) name (view_of g version image other own [])).ending
 count_agrees g version image other own name =
     let shape = shape_of g version image in
     let sight = sight_of g image other own in

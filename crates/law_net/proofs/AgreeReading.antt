@@ -49,7 +49,8 @@ agree_table R stops g version image other own taken name o next go =
   where
     by_name : (row : Option CatalogRow) →
         R (where_named name row (λ row. unless_held (sight_of g image other own) (resource.Table (record { 0 = row.id })) (o row)))
-        ((found_or row (refuse (no_table name)) then (λ row. (words.unless_held (resource.Table (record { 0 = row.id })) then (λ u. give row)) then next)) (view_of g version image other own taken)).ending
+        ((found_or row (refuse (no_table name)) then (λ row. (words.unless_held (resource.Table (record { 0 = row.id })) then (λ u. give row)) then next))
+        (view_of g version image other own taken)).ending
     by_name None = agree_refuse R stops (no_table name) (view_of g version image other own taken) _
     by_name (Some row) =
         let v = view_of g version image other own taken in
@@ -123,7 +124,8 @@ single_or false c d h = (and_parts c d h).0
 
 pub agree_heap : {B : Type 0} (R : Relation B) → OfStops R → (g : Geometry) (version : ℕ) (image : Image) (other : Resource → Option ℕ) (own : Resource → Bool) (taken : List Resource) (name : List ℕ)
     (o : CatalogRow → List ℕ → Outcome) (next : CatalogRow → List ℕ → Plan B) →
-    ((row : CatalogRow) (pages : List ℕ) → other (resource.Table (record { 0 = row.id })) ≡ None → AreReadable image other pages → R (o row pages) (next row pages (view_of g version image other own taken)).ending) →
+    ((row : CatalogRow) (pages : List ℕ) → other (resource.Table (record { 0 = row.id })) ≡ None → AreReadable image other pages → R (o row pages)
+    (next row pages (view_of g version image other own taken)).ending) →
     R (heap_read (sight_of g image other own) name o)
     ((table_of name then (λ row. table_pages (shape_of g version image) row then next row)) (view_of g version image other own taken)).ending
 agree_heap R stops g version image other own taken name o next go =

@@ -95,8 +95,10 @@ run_covered shape own taken start now images under p lt =
           let q = p + i in
           let inside : q < shape.pages = in_extent p i run shape.pages less few lt file.whole in
           subst (λ o. IsSomeAnd o (Mine shape own taken start now))
-          (sym (ap (byte_guard g shape.pages (pfs_page g p)) (sym near.at) ∙ ap (λ k. byte_guard g shape.pages k (pfs_place g q).at) (sym near.page) ∙ pages_guard_bytes g shape.pages q file.low inside))
-          (mine shape own taken start now (resource.Byte (record { 0 = q })) (taken_byte shape taken start now images under q inside (run_changed g start now (8 - p % 8) p i less)) (run_changed g start now (8 - p % 8) p i less))),
+          (sym (ap (byte_guard g shape.pages (pfs_page g p)) (sym near.at) ∙ ap (λ k. byte_guard g shape.pages k (pfs_place g q).at) (sym near.page)
+          ∙ pages_guard_bytes g shape.pages q file.low inside))
+          (mine shape own taken start now (resource.Byte (record { 0 = q }))
+          (taken_byte shape taken start now images under q inside (run_changed g start now (8 - p % 8) p i less)) (run_changed g start now (8 - p % 8) p i less))),
       of_extent (role_of g (pfs_page g p)) (pfs_page g p) (pfs_place g p).at run (λ i less.
           let near = beside g p i (close p i run less few) in
           ap (λ k. paged_at (pfs_page g p) k / 8) (sym near.at) ∙ ap (λ k. paged_at k (pfs_place g (p + i)).at / 8) (sym near.page) ∙ ap (λ k. k / 8) (paged_place g (p + i))
@@ -138,7 +140,8 @@ pages_covered shape P start now p lt ordinary mine =
     (part_changes start now p 96 s ++ (part_changes start now p s 8192 ++ part_changes start now p 0 96)) (Each Q)
     (λ e. page_covered shape P start now p 0 8192 lt ordinary mine)
     (λ e. each_append Q (part_changes start now p 96 s) (part_changes start now p s 8192 ++ part_changes start now p 0 96) (page_covered shape P start now p 96 s lt ordinary mine)
-    (each_append Q (part_changes start now p s 8192) (part_changes start now p 0 96) (page_covered shape P start now p s 8192 lt ordinary mine) (page_covered shape P start now p 0 96 lt ordinary mine)))
+    (each_append Q (part_changes start now p s 8192) (part_changes start now p 0 96) (page_covered shape P start now p s 8192 lt ordinary mine)
+    (page_covered shape P start now p 0 96 lt ordinary mine)))
 
 boot_role : (g : Geometry) → role_of g 9 ≡ role.Boot
 boot_role Standard = refl
@@ -164,7 +167,8 @@ boot_covered shape own taken start now images under =
     elim (cases_Bool (bytes_eq (page start 9) (page now 9))) [
       | inl same ↦ subst (λ ds. Each (IsCovered P shape) (cell_over start now 9 ds)) (sym (differing_none start now 9 0 8192 ((bytes_decides (page start 9) (page now 9)).0 same))) tt
       | inr differ ↦ over_covered (IsCovered P shape) start now 9 (differing start now 9 0 8192) (λ d rest e before after. (
-        (λ i less. some_of P g shape.pages 9 (d + i) resource.Catalog (catalog_guards_boot g shape.pages (d + i) (omega (arith, low))) (mine shape own taken start now resource.Catalog (taken_catalog shape taken start now images under differ) refl)),
+        (λ i less. some_of P g shape.pages 9 (d + i) resource.Catalog (catalog_guards_boot g shape.pages (d + i) (omega (arith, low)))
+            (mine shape own taken start now resource.Catalog (taken_catalog shape taken start now images under differ) refl)),
         subst (λ r. IsOfOneExtent r 9 d (length after)) (sym (boot_role g)) tt,
         subst (λ r. HasFewBytes r (length after)) (sym (boot_role g)) tt,
       ))
@@ -193,7 +197,8 @@ changes_covered shape own taken start now images under =
     each_range Q (page_changes g start now) (λ p. is_page_changed g start now p && test p) n 0
     (λ p lt passes.
     let differs = (and_parts (is_page_changed g start now p) (test p) passes).0 in
-    pages_covered shape P start now p (upper p n lt) (and_parts (is_ordinary g p) (not (bytes_eq (page start p) (page now p))) differs).0 (mine shape own taken start now (resource.Page (record { 0 = p })) (taken_page shape taken start now images under p (upper p n lt) differs) differs)) in
+    pages_covered shape P start now p (upper p n lt) (and_parts (is_ordinary g p) (not (bytes_eq (page start p) (page now p))) differs).0
+    (mine shape own taken start now (resource.Page (record { 0 = p })) (taken_page shape taken start now images under p (upper p n lt) differs) differs)) in
     each_append Q (bit_changes shape (gam_place g) start now) _ gam
     (each_append Q (bit_changes shape (sgam_place g) start now) _ sgam
     (each_append Q (run_changes shape start now) _ runs

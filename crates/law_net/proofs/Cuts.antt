@@ -35,13 +35,13 @@ abbrev pub has : Planned → ℕ → ℕ → ℕ → Bool
 has c p i j = has_atom c.cell (length c.after) (place p i j)
 
 -- some change has the place
-abbrev pub Some_has : List Planned → ℕ → ℕ → ℕ → Type 0
-Some_has [] p i j = ⊥
-Some_has (c ∷ cs) p i j = (has c p i j ≡ true) ⊎ Some_has cs p i j
+abbrev pub SomeHas : List Planned → ℕ → ℕ → ℕ → Type 0
+SomeHas [] p i j = ⊥
+SomeHas (c ∷ cs) p i j = (has c p i j ≡ true) ⊎ SomeHas cs p i j
 
 abbrev pub AreApart : List Planned → Type 0
 AreApart [] = Unit {0}
-AreApart (c ∷ cs) = ((p i j : ℕ) → has c p i j ≡ true → Some_has cs p i j → ⊥) × AreApart cs
+AreApart (c ∷ cs) = ((p i j : ℕ) → has c p i j ≡ true → SomeHas cs p i j → ⊥) × AreApart cs
 
 -- a change has what was and what is
 pub record IsNet (start now : Image) (c : Planned) : Type 0 where
@@ -55,8 +55,8 @@ IsWithin Z c = (p i j : ℕ) → has c p i j ≡ true → Z p i j
 -- a cut of what differs in a zone
 pub record IsCut (start now : Image) (Z : Zone) (cs : List Planned) : Type 0 where
   pub nets : Each (IsNet start now) cs
-  pub within : (p i j : ℕ) → Some_has cs p i j → Z p i j
-  pub covers : (p i j : ℕ) → Z p i j → IsInside (place p i j) start → (read start (place p i j) ≡ read now (place p i j)) ⊎ Some_has cs p i j
+  pub within : (p i j : ℕ) → SomeHas cs p i j → Z p i j
+  pub covers : (p i j : ℕ) → Z p i j → IsInside (place p i j) start → (read start (place p i j) ≡ read now (place p i j)) ⊎ SomeHas cs p i j
   pub apart : AreApart cs
 
 -- the form of a cell
@@ -71,7 +71,8 @@ form_lengths (Bit page n) before after h =
 pub form_put : (cell : Cell) (before after : List ℕ) → has_cell_form cell before after ≡ true → MayPut cell after
 form_put (Bytes page off) before after h = tt
 form_put (Bit page n) before after h =
-    let s = eqb-true (slice_index before 0 + slice_index after 0) 1 (and_parts (ltb n 63904 && eqb (length before) 1 && eqb (length after) 1) (eqb (slice_index before 0 + slice_index after 0) 1) h).1 in
+    let s = eqb-true (slice_index before 0 + slice_index after 0) 1
+    (and_parts (ltb n 63904 && eqb (length before) 1 && eqb (length after) 1) (eqb (slice_index before 0 + slice_index after 0) 1) h).1 in
     omega (arith, s)
 
 -- what is after a change
@@ -94,7 +95,7 @@ same_image x y shape same =
 
 -- the changes make what is
 made_reads : (start now image : Image) (cs : List Planned) (p i j : ℕ) → Each (IsNet start now) cs → IsInside (place p i j) image →
-    (read image (place p i j) ≡ read now (place p i j)) ⊎ Some_has cs p i j → read (made image cs) (place p i j) ≡ read now (place p i j)
+    (read image (place p i j) ≡ read now (place p i j)) ⊎ SomeHas cs p i j → read (made image cs) (place p i j) ≡ read now (place p i j)
 made_reads start now image [] p i j nets inside (inl e) = e
 made_reads start now image [] p i j nets inside (inr h) = absurd h
 made_reads start now image (c ∷ cs) p i j nets inside known =
@@ -127,7 +128,7 @@ made_is start now Z cs shape cut all =
 
 -- each finds its bytes
 finds_in : (start now image : Image) (cs : List Planned) → SameShape image start → Each (IsNet start now) cs → AreApart cs →
-    ((p i j : ℕ) → IsInside (place p i j) image → Some_has cs p i j → read image (place p i j) ≡ read start (place p i j)) → Find image cs
+    ((p i j : ℕ) → IsInside (place p i j) image → SomeHas cs p i j → read image (place p i j) ≡ read start (place p i j)) → Find image cs
 finds_in start now image [] shape nets apart same = tt
 finds_in start now image (c ∷ cs) shape nets apart same = (
   same_cell image start c.cell (length c.before) (λ p i j. resource.Catalog) shape
@@ -153,21 +154,21 @@ pub each_append : (P : Planned → Type 0) (xs ys : List Planned) → Each P xs 
 each_append P [] ys a b = b
 each_append P (x ∷ xs) ys a b = (a.0, each_append P xs ys a.1 b)
 
-some_left : (xs ys : List Planned) (p i j : ℕ) → Some_has xs p i j → Some_has (xs ++ ys) p i j
+some_left : (xs ys : List Planned) (p i j : ℕ) → SomeHas xs p i j → SomeHas (xs ++ ys) p i j
 some_left [] ys p i j h = absurd h
 some_left (x ∷ xs) ys p i j (inl h) = inl h
 some_left (x ∷ xs) ys p i j (inr h) = inr (some_left xs ys p i j h)
 
-some_right : (xs ys : List Planned) (p i j : ℕ) → Some_has ys p i j → Some_has (xs ++ ys) p i j
+some_right : (xs ys : List Planned) (p i j : ℕ) → SomeHas ys p i j → SomeHas (xs ++ ys) p i j
 some_right [] ys p i j h = h
 some_right (x ∷ xs) ys p i j h = inr (some_right xs ys p i j h)
 
-some_cases : (xs ys : List Planned) (p i j : ℕ) → Some_has (xs ++ ys) p i j → Some_has xs p i j ⊎ Some_has ys p i j
+some_cases : (xs ys : List Planned) (p i j : ℕ) → SomeHas (xs ++ ys) p i j → SomeHas xs p i j ⊎ SomeHas ys p i j
 some_cases [] ys p i j h = inr h
 some_cases (x ∷ xs) ys p i j (inl h) = inl (inl h)
 some_cases (x ∷ xs) ys p i j (inr h) = elim (some_cases xs ys p i j h) [ inl a ↦ inl (inr a) | inr b ↦ inr b ]
 
-apart_append : (xs ys : List Planned) → AreApart xs → AreApart ys → ((p i j : ℕ) → Some_has xs p i j → Some_has ys p i j → ⊥) → AreApart (xs ++ ys)
+apart_append : (xs ys : List Planned) → AreApart xs → AreApart ys → ((p i j : ℕ) → SomeHas xs p i j → SomeHas ys p i j → ⊥) → AreApart (xs ++ ys)
 apart_append [] ys a b n = b
 apart_append (x ∷ xs) ys a b n = (
   (λ p i j h later. elim (some_cases xs ys p i j later) [ inl l ↦ a.0 p i j h l | inr r ↦ n p i j (inl h) r ]),
@@ -220,7 +221,8 @@ pub record InRange (test : ℕ → Bool) (Z : ℕ → Zone) (n lo : ℕ) (p i j 
   pub in_zone : Z at p i j
 
 pub cut_range : (start now : Image) (f : ℕ → List Planned) (test : ℕ → Bool) (Z : ℕ → Zone) (n lo : ℕ) →
-    ((x : ℕ) → lo ≤ x → x < lo + n → test x ≡ true → IsCut start now (Z x) (f x)) → ((x y p i j : ℕ) → lo ≤ x → x < lo + n → lo ≤ y → y < lo + n → test x ≡ true → test y ≡ true → Z x p i j → Z y p i j → x ≡ y) →
+    ((x : ℕ) → lo ≤ x → x < lo + n → test x ≡ true → IsCut start now (Z x) (f x)) →
+    ((x y p i j : ℕ) → lo ≤ x → x < lo + n → lo ≤ y → y < lo + n → test x ≡ true → test y ≡ true → Z x p i j → Z y p i j → x ≡ y) →
     IsCut start now (InRange test Z n lo) (flat_map f (filter test (range_with_len lo n)))
 cut_range start now f test Z zero lo each one = cut_none start now (InRange test Z zero lo) (λ p i j z inside. absurd (none z.at z.low z.high))
   where

@@ -56,7 +56,8 @@ split_by f h [] = refl
 split_by f h (x ∷ xs) = by_tests (f x) (h x) (split_by f h xs)
   where
     by_tests : (a b : Bool) → length (filter (λ y. f y && h y) xs) + length (filter (λ y. f y && not (h y)) xs) ≡ length (filter f xs) →
-        length (if a && b then x ∷ filter (λ y. f y && h y) xs else filter (λ y. f y && h y) xs) + length (if a && not b then x ∷ filter (λ y. f y && not (h y)) xs else filter (λ y. f y && not (h y)) xs)
+        length (if a && b then x ∷ filter (λ y. f y && h y) xs else filter (λ y. f y && h y) xs) + length
+        (if a && not b then x ∷ filter (λ y. f y && not (h y)) xs else filter (λ y. f y && not (h y)) xs)
         ≡ length (if a then x ∷ filter f xs else filter f xs)
     by_tests true true e = omega (arith, e)
     by_tests true false e = omega (arith, e)

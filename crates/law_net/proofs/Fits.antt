@@ -74,7 +74,8 @@ guard_fits P shape start now images differ p i r lt small guard other =
     by_guard j (inr h) = absurd (by_bit (8 * (i - maps_start) + j) (bit_guard shape.geometry shape.pages p (8 * (i - maps_start) + j)) refl h.1)
 
 -- what guards a bit that turns fits
-pub bit_fits : (P : Resource → Type 0) (shape : FileShape) (start now : Image) → AreImages shape start now → DifferOnlyAt P shape start now → (b : Place) (r : Resource) → b.page < shape.pages → b.at < 63904 →
+pub bit_fits : (P : Resource → Type 0) (shape : FileShape) (start now : Image) → AreImages shape start now → DifferOnlyAt P shape start now → (b : Place) (r : Resource) →
+    b.page < shape.pages → b.at < 63904 →
     bit_guard shape.geometry shape.pages b.page b.at ≡ Some r → is_turned start now b ≡ true → P r
 bit_fits P shape start now images differ b r lt low guard turned =
     let whole = whole_page shape start now images b.page lt in

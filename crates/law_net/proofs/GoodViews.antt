@@ -93,14 +93,16 @@ good_written r cell bytes v fits mine good =
 guard_is : (o : Option Resource) (r : Resource) → o ≡ Some r → IsSomeAnd o (λ s. s ≡ r)
 guard_is o r e = subst (λ q. IsSomeAnd q (λ s. s ≡ r)) (sym e) refl
 
-pub page_guards : (shape : FileShape) (p at : ℕ) (bytes : List ℕ) → p < shape.pages → is_ordinary shape.geometry p ≡ true → (q i j : ℕ) → has_atom (Bytes (record { 0 = p }) at) (length bytes) (place q i j) ≡ true →
+pub page_guards : (shape : FileShape) (p at : ℕ) (bytes : List ℕ) → p < shape.pages → is_ordinary shape.geometry p ≡ true → (q i j : ℕ) →
+    has_atom (Bytes (record { 0 = p }) at) (length bytes) (place q i j) ≡ true →
     IsGuardedBy (λ s. s ≡ resource.Page (record { 0 = p })) shape q i j
 page_guards shape p at bytes lt ordinary q i j h =
     inl (guard_is (byte_guard shape.geometry shape.pages q i) (resource.Page (record { 0 = p }))
     (ap (λ k. byte_guard shape.geometry shape.pages k i) (sym (eqb-true p q (and_parts (eqb p q) (leb at i && ltb i (at + length bytes)) h).0))
     ∙ pages_guard_themselves shape.geometry shape.pages p i lt ordinary))
 
-pub page_cell : (shape : FileShape) (p : ℕ) (bytes : List ℕ) → p < shape.pages → is_ordinary shape.geometry p ≡ true → AreBytes bytes → IsGuardedCell shape (resource.Page (record { 0 = p })) (Bytes (record { 0 = p }) 0) bytes
+pub page_cell : (shape : FileShape) (p : ℕ) (bytes : List ℕ) → p < shape.pages → is_ordinary shape.geometry p ≡ true → AreBytes bytes →
+    IsGuardedCell shape (resource.Page (record { 0 = p })) (Bytes (record { 0 = p }) 0) bytes
 page_cell shape p bytes lt ordinary low = record { may = tt; are_bytes = low; guarded = page_guards shape p 0 bytes lt ordinary }
 
 pub catalog_cell : (shape : FileShape) (at : ℕ) (bytes : List ℕ) → 9 < shape.pages → AreBytes bytes → IsGuardedCell shape resource.Catalog (Bytes (record { 0 = 9 }) at) bytes
@@ -148,7 +150,8 @@ bit_cell shape r q n v low guard = record {
         omega (arith, byte),
         guard_is (bit_guard shape.geometry shape.pages p (8 * (i - maps_start) + j)) r
             (ap (λ k. bit_guard shape.geometry shape.pages k (8 * (i - maps_start) + j)) (sym (eqb-true q p a.0))
-            ∙ ap (λ k. bit_guard shape.geometry shape.pages q (8 * (k - maps_start) + j)) (sym byte) ∙ ap (λ k. bit_guard shape.geometry shape.pages q (8 * (maps_start + n / 8 - maps_start) + k)) (sym (eqb-true (n % 8) j b.1))
+            ∙ ap (λ k. bit_guard shape.geometry shape.pages q (8 * (k - maps_start) + j)) (sym byte) ∙ ap
+            (λ k. bit_guard shape.geometry shape.pages q (8 * (maps_start + n / 8 - maps_start) + k)) (sym (eqb-true (n % 8) j b.1))
             ∙ ap (bit_guard shape.geometry shape.pages q) (bit_number n) ∙ guard),
       );
 }
@@ -156,9 +159,11 @@ bit_cell shape r q n v low guard = record {
 pub gam_cell : (shape : FileShape) (e v : ℕ) → HasShape shape.geometry shape.pages → e < shape.pages / 8 → v < 2 →
     IsGuardedCell shape (resource.Extent (record { 0 = e })) (Bit (record { 0 = (gam_place shape.geometry e).page }) (gam_place shape.geometry e).at) (v ∷ [])
 gam_cell shape e v file lt low =
-    bit_cell shape (resource.Extent (record { 0 = e })) (gam_place shape.geometry e).page (gam_place shape.geometry e).at v low (extents_guard_bits shape.geometry shape.pages e file.low file.high lt).0
+    bit_cell shape (resource.Extent (record { 0 = e })) (gam_place shape.geometry e).page (gam_place shape.geometry e).at v low
+    (extents_guard_bits shape.geometry shape.pages e file.low file.high lt).0
 
 pub sgam_cell : (shape : FileShape) (e v : ℕ) → HasShape shape.geometry shape.pages → e < shape.pages / 8 → v < 2 →
     IsGuardedCell shape (resource.Extent (record { 0 = e })) (Bit (record { 0 = (sgam_place shape.geometry e).page }) (sgam_place shape.geometry e).at) (v ∷ [])
 sgam_cell shape e v file lt low =
-    bit_cell shape (resource.Extent (record { 0 = e })) (sgam_place shape.geometry e).page (sgam_place shape.geometry e).at v low (extents_guard_bits shape.geometry shape.pages e file.low file.high lt).1
+    bit_cell shape (resource.Extent (record { 0 = e })) (sgam_place shape.geometry e).page (sgam_place shape.geometry e).at v low
+    (extents_guard_bits shape.geometry shape.pages e file.low file.high lt).1

@@ -38,7 +38,8 @@ good_of_taken shape r v free g = record {
 }
 
 -- a write that its resource guards keeps what is good
-pub write_keeps : (shape : FileShape) (r : Resource) (cell : Cell) (bytes : List ℕ) (v : View) → IsGuardedCell shape r cell bytes → IsGoodOf shape v → Leads (write r cell bytes) v (λ u w. IsGoodOf shape w)
+pub write_keeps : (shape : FileShape) (r : Resource) (cell : Cell) (bytes : List ℕ) (v : View) → IsGuardedCell shape r cell bytes → IsGoodOf shape v →
+    Leads (write r cell bytes) v (λ u w. IsGoodOf shape w)
 write_keeps shape r cell bytes v fits g =
     leads_write r cell bytes v (λ u w. IsGoodOf shape w) (λ free.
     let t = good_of_taken shape r v free g in record {
@@ -49,7 +50,8 @@ write_keeps shape r cell bytes v fits g =
 pub take_keeps : (shape : FileShape) (r : Resource) (v : View) → IsGoodOf shape v → Leads (take r) v (λ u w. IsGoodOf shape w)
 take_keeps shape r v g = leads_take r v (λ u w. IsGoodOf shape w) (λ free. good_of_taken shape r v free g)
 
-row_keeps : (shape : FileShape) (p : ℕ) (row : List ℕ) (v : View) → p < shape.pages → is_ordinary shape.geometry p ≡ true → Low row → IsGoodOf shape v → Leads (row_put shape p row) v (λ u w. IsGoodOf shape w)
+row_keeps : (shape : FileShape) (p : ℕ) (row : List ℕ) (v : View) → p < shape.pages → is_ordinary shape.geometry p ≡ true → Low row → IsGoodOf shape v →
+    Leads (row_put shape p row) v (λ u w. IsGoodOf shape w)
 row_keeps shape p row v lt ordinary low g =
     let good = g.good in
     let old = good.after in
@@ -64,10 +66,12 @@ row_keeps shape p row v lt ordinary low g =
     (λ u w h. write_keeps shape (resource.Page (record { 0 = p })) _ (with_row bytes row) w
     (page_cell shape p (with_row bytes row) lt ordinary (low_bytes (with_row bytes row) (low_with_row bytes row (bytes_low bytes (old.bytes p)) low))) h)
     (write_keeps shape (resource.Byte (record { 0 = p })) _ (with_fullness byte (fullness_of (free_count bytes - (length row + 2))) ∷ []) v
-    (pfs_cell shape p (with_fullness byte (fullness_of (free_count bytes - (length row + 2)))) many lt (low_fullness byte (free_count bytes - (length row + 2)) (old.bytes (pfs_page shape.geometry p) (pfs_place shape.geometry p).at))) g))))))
+    (pfs_cell shape p (with_fullness byte (fullness_of (free_count bytes - (length row + 2)))) many lt
+    (low_fullness byte (free_count bytes - (length row + 2)) (old.bytes (pfs_page shape.geometry p) (pfs_place shape.geometry p).at))) g))))))
 
 -- INSERT keeps what is good
-pub insert_keeps : (shape : FileShape) (name : List ℕ) (key : ℕ) (payload : List ℕ) (v : View) → Low payload → IsGoodOf shape v → Leads (insert_plan shape name key payload) v (λ reply w. IsGoodOf shape w)
+pub insert_keeps : (shape : FileShape) (name : List ℕ) (key : ℕ) (payload : List ℕ) (v : View) → Low payload → IsGoodOf shape v →
+    Leads (insert_plan shape name key payload) v (λ reply w. IsGoodOf shape w)
 insert_keeps shape name key payload v low g =
     let bytes = heap_row key payload in
     let K : Reply → View → Type 0 = λ reply w. IsGoodOf shape w in

@@ -131,7 +131,8 @@ room_reads shape row size p v lt =
     ))
     (page_reads shape row p v)))))
 
-pub first_reads : (shape : FileShape) (try : ℕ → Plan (Option ℕ)) (ps : List ℕ) (v : View) → Inside shape ps → ((p : ℕ) → p < shape.pages → Reads (try p) v (IsFoundPage shape)) → Reads (first_of try ps) v (IsFoundPage shape)
+pub first_reads : (shape : FileShape) (try : ℕ → Plan (Option ℕ)) (ps : List ℕ) (v : View) → Inside shape ps →
+    ((p : ℕ) → p < shape.pages → Reads (try p) v (IsFoundPage shape)) → Reads (first_of try ps) v (IsFoundPage shape)
 unfolding first_of
 first_reads shape try [] v inside each = leads_give None v _ (refl, tt)
 first_reads shape try (p ∷ ps) v inside each =

@@ -91,7 +91,8 @@ page_is shape image p byte new a =
     let few = a.few in
     let s = 8192 - 2 * (slot_count (page image p) + 1) in
     let s' = slots_start image now p in
-    let none : (is_iam now p || becomes_allocated g image now p) ≡ false = neither (is_iam now p) (becomes_allocated g image now p) (not_iam shape image p byte new a) (not_allocated shape image p byte new a) in
+    let none : (is_iam now p || becomes_allocated g image now p) ≡ false = neither (is_iam now p) (becomes_allocated g image now p) (not_iam shape image p byte new a)
+    (not_allocated shape image p byte new a) in
     ap (λ b. if b then part_changes image now p 0 8192 else (part_changes image now p 96 s' ++ (part_changes image now p s' 8192 ++ part_changes image now p 0 96))) none
     ∙ ap (λ k. part_changes image now p 96 k ++ (part_changes image now p k 8192 ++ part_changes image now p 0 96)) (starts_at shape image p byte new a)
     ∙ three (part_changes image now p 96 s) _ (part_changes image now p s 8192) _ (part_changes image now p 0 96) _

@@ -55,7 +55,8 @@ changed_off : (shape : FileShape) (image : Image) (p byte : ℕ) (new : List ℕ
     is_byte_changed shape.geometry image (with_page shape image p byte new) x ≡ false
 changed_off shape image p byte new c x lt other =
     let was = pfs_byte shape.geometry image x in
-    not_from_true (eqb was (pfs_byte shape.geometry (with_page shape image p byte new) x)) (eq-eqb was (pfs_byte shape.geometry (with_page shape image p byte new) x) (sym (byte_off shape image p byte new c x lt other)))
+    not_from_true (eqb was (pfs_byte shape.geometry (with_page shape image p byte new) x))
+    (eq-eqb was (pfs_byte shape.geometry (with_page shape image p byte new) x) (sym (byte_off shape image p byte new c x lt other)))
 
 -- its run is of one byte
 begins_at : (shape : FileShape) (image : Image) (p byte : ℕ) (new : List ℕ) → CanWrite shape image p new →
@@ -89,7 +90,8 @@ run_one shape image p byte new c changed =
     let few = run_few g image now (8 - p % 8) p in
     let some = run_long g image now (8 - p % 8) p 0 (omega arith) (λ m le. subst (λ q. is_byte_changed g image now q ≡ true) (none p m le) changed) in
     elim (cases_lt 1 run) [
-      | inl more ↦ absurd (both_ways (is_byte_changed g image now (p + 1)) (changed_off shape image p byte new c (p + 1) (inside p shape.pages run few more lt whole) (other p)) (run_changed g image now (8 - p % 8) p 1 more))
+      | inl more ↦ absurd (both_ways (is_byte_changed g image now (p + 1))
+          (changed_off shape image p byte new c (p + 1) (inside p shape.pages run few more lt whole) (other p)) (run_changed g image now (8 - p % 8) p 1 more))
       | inr less ↦ omega (arith, some, less)
     ]
   where
@@ -182,7 +184,8 @@ changes_planned shape image p byte new a =
     let iam = is_iam now p in
     sym (among_one shape image p byte new a
     ∙ put_in (run_change g image now) one (begins_run g image now p) (changed && iam) (changed && not iam) (part_changes image now 9 0 8192)
-    (ap (λ b. changed && b) (not_iam shape image p byte new a) ∙ no_more changed) (and_from changed (not iam) (page_changed shape image p byte new a) (not_from_false iam (not_iam shape image p byte new a)))
+    (ap (λ b. changed && b) (not_iam shape image p byte new a) ∙ no_more changed)
+    (and_from changed (not iam) (page_changed shape image p byte new a) (not_from_false iam (not_iam shape image p byte new a)))
     (part_none image now 9 0 8192 (sym (boot_off shape image p byte new can)))
     ∙ ap (λ b. map (run_change g image now) (if b then p ∷ [] else []) ++ one p) (begins_at shape image p byte new can ∙ changed_at shape image p byte new can)
     ∙ ap (λ xs. xs ++ one p) (by_same same (run_change g image now) (λ e. run_is shape image p byte new can (changed_at shape image p byte new can ∙ ap not e)))
@@ -207,7 +210,9 @@ changes_planned shape image p byte new a =
 
 -- and the takes
 pub takes_planned : (shape : FileShape) (own : Resource → Bool) (object : ℕ) (image : Image) (p byte : ℕ) (new : List ℕ) → AddsSlot shape image p byte new →
-    filter (λ r. not (own r)) (resource.Table (record { 0 = object }) ∷ ((if eqb byte (pfs_byte shape.geometry image p) then [] else resource.Byte (record { 0 = p }) ∷ []) ++ resource.Page (record { 0 = p }) ∷ []))
+    filter (λ r. not (own r))
+    (resource.Table (record { 0 = object }) ∷
+    ((if eqb byte (pfs_byte shape.geometry image p) then [] else resource.Byte (record { 0 = p }) ∷ []) ++ resource.Page (record { 0 = p }) ∷ []))
     ≡ takes_of shape own (resource.Page (record { 0 = p }) ∷ (resource.Byte (record { 0 = p }) ∷ (resource.Table (record { 0 = object }) ∷ []))) image (with_page shape image p byte new)
 takes_planned shape own object image p byte new a =
     let now = with_page shape image p byte new in

@@ -195,7 +195,14 @@ pub record Begun (g : Geometry) (start now : Image) (p : ℕ) : Type 0 where
 
 begun_here : (g : Geometry) (start now : Image) (p : ℕ) → is_byte_changed g start now p ≡ true → (eqb (p % 8) 0 || not (is_byte_changed g start now (p - 1))) ≡ true → Begun g start now p
 begun_here g start now p changes e =
-    record { first = p; low = omega arith; extent = refl; begins = and_from (is_byte_changed g start now p) _ changes e; all = λ m a b. subst (λ q. is_byte_changed g start now q ≡ true) (it p m a b) changes }
+    record {
+      first = p;
+      low = omega arith;
+      extent = refl;
+      begins = and_from (is_byte_changed g start now p) _ changes e;
+      all = λ m a b. subst
+          (λ q. is_byte_changed g start now q ≡ true) (it p m a b) changes;
+    }
   where
     it : (p m : ℕ) → p ≤ m → m ≤ p → p ≡ m
     it p m a b = omega (arith, a, b)

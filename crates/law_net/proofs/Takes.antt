@@ -108,8 +108,10 @@ behind r s a b =
     let p = or_parts (ltb (grain_of r) (grain_of s)) (eqb (grain_of r) (grain_of s) && ltb (number_of r) (number_of s)) a in
     before_to s r (elim (cases_order (grain_of r) (grain_of s)) [
       | inl e ↦ elim (cases_order (number_of r) (number_of s)) [
-        | inl n ↦ absurd (both_ways (is_same r s) b (and_from (eqb (grain_of r) (grain_of s)) (eqb (number_of r) (number_of s)) (eq-eqb (grain_of r) (grain_of s) e) (eq-eqb (number_of r) (number_of s) n)))
-        | inr (inl lt) ↦ absurd (both_ways (eqb (grain_of r) (grain_of s) && ltb (number_of r) (number_of s)) p.1 (and_from (eqb (grain_of r) (grain_of s)) (ltb (number_of r) (number_of s)) (eq-eqb (grain_of r) (grain_of s) e) (lt-ltb (number_of r) (number_of s) lt)))
+        | inl n ↦ absurd (both_ways (is_same r s) b
+            (and_from (eqb (grain_of r) (grain_of s)) (eqb (number_of r) (number_of s)) (eq-eqb (grain_of r) (grain_of s) e) (eq-eqb (number_of r) (number_of s) n)))
+        | inr (inl lt) ↦ absurd (both_ways (eqb (grain_of r) (grain_of s) && ltb (number_of r) (number_of s)) p.1
+            (and_from (eqb (grain_of r) (grain_of s)) (ltb (number_of r) (number_of s)) (eq-eqb (grain_of r) (grain_of s) e) (lt-ltb (number_of r) (number_of s) lt)))
         | inr (inr gt) ↦ inr (sym e, gt)
       ]
       | inr (inl lt) ↦ absurd (both_ways (ltb (grain_of r) (grain_of s)) p.0 (lt-ltb (grain_of r) (grain_of s) lt))
@@ -143,7 +145,8 @@ takes_rise shape own taken start now = rising_filter (λ r. not (own r) && count
 
 pub takes_new : (shape : FileShape) (own : Resource → Bool) (taken : List Resource) (start now : Image) → AllOf (λ r. own r ≡ false) (takes_of shape own taken start now)
 takes_new shape own taken start now =
-    all_weaker (λ r. (not (own r) && counts shape start now r) ≡ true) (λ r. own r ≡ false) (takes_of shape own taken start now) (λ r e. not-true (own r) (and_parts (not (own r)) (counts shape start now r) e).0)
+    all_weaker (λ r. (not (own r) && counts shape start now r) ≡ true) (λ r. own r ≡ false) (takes_of shape own taken start now)
+    (λ r e. not-true (own r) (and_parts (not (own r)) (counts shape start now r) e).0)
     (filter_keeps (λ r. not (own r) && counts shape start now r) (in_order taken))
 
 pub among_all : (rs : List Resource) → AllOf (λ r. is_among rs r ≡ true) rs
@@ -184,15 +187,19 @@ among_order (s ∷ rs) r h = among_with r s (in_order rs) (elim (or_cases (is_sa
 among_filter : (keep : Resource → Bool) (rs : List Resource) (r : Resource) → is_among rs r ≡ true → keep r ≡ true → is_among (filter keep rs) r ≡ true
 among_filter keep [] r h k = h
 among_filter keep (s ∷ rs) r h k = elim (or_cases (is_same r s) (is_among rs r) h) [
-  | inl a ↦ subst (λ b. is_among (if b then s ∷ filter keep rs else filter keep rs) r ≡ true) (sym (subst (λ q. keep q ≡ true) (same_resource r s a) k)) (or_left (is_same r s) (list_any (is_same r) (filter keep rs)) a)
-  | inr a ↦ cond_both (keep s) (s ∷ filter keep rs) (filter keep rs) (λ xs. is_among xs r ≡ true) (λ e. or_right (is_same r s) (list_any (is_same r) (filter keep rs)) (among_filter keep rs r a k)) (λ e. among_filter keep rs r a k)
+  | inl a ↦ subst (λ b. is_among (if b then s ∷ filter keep rs else filter keep rs) r ≡ true) (sym (subst (λ q. keep q ≡ true) (same_resource r s a) k))
+      (or_left (is_same r s) (list_any (is_same r) (filter keep rs)) a)
+  | inr a ↦ cond_both (keep s) (s ∷ filter keep rs) (filter keep rs) (λ xs. is_among xs r ≡ true)
+      (λ e. or_right (is_same r s) (list_any (is_same r) (filter keep rs)) (among_filter keep rs r a k)) (λ e. among_filter keep rs r a k)
 ]
 
 abbrev pub Mine : FileShape → (Resource → Bool) → List Resource → Image → Image → Resource → Type 0
 Mine shape own taken start now = IsHeldOrTaken own (takes_of shape own taken start now)
 
-pub mine : (shape : FileShape) (own : Resource → Bool) (taken : List Resource) (start now : Image) (r : Resource) → is_among taken r ≡ true → counts shape start now r ≡ true → Mine shape own taken start now r
+pub mine : (shape : FileShape) (own : Resource → Bool) (taken : List Resource) (start now : Image) (r : Resource) → is_among taken r ≡ true →
+    counts shape start now r ≡ true → Mine shape own taken start now r
 mine shape own taken start now r among h = elim (cases_Bool (own r)) [
   | inl e ↦ inl e
-  | inr e ↦ inr (among_filter (λ s. not (own s) && counts shape start now s) (in_order taken) r (among_order taken r among) (and_from (not (own r)) (counts shape start now r) (not_from_false (own r) e) h))
+  | inr e ↦ inr (among_filter (λ s. not (own s) && counts shape start now s) (in_order taken) r (among_order taken r among)
+      (and_from (not (own r)) (counts shape start now r) (not_from_false (own r) e) h))
 ]

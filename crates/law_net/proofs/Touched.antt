@@ -80,7 +80,8 @@ changes_are_among shape extents bytes pages start now t =
     let c = filter_touched (begins_run g start now) n 0 n bytes (omega arith) t.bytes_rise (λ x low high h. t.changed_bytes x low high (and_parts (is_byte_changed g start now x) _ h).0) in
     let d = filter_touched iam n 0 n pages (omega arith) t.pages_rise (λ x low high h. t.changed_pages x low high (and_parts (is_page_changed g start now x) (is_iam now x) h).0) in
     let e = filter_touched other n 0 n pages (omega arith) t.pages_rise (λ x low high h. t.changed_pages x low high (and_parts (is_page_changed g start now x) (not (is_iam now x)) h).0) in
-    put_together (λ xs. map (λ k. bit_change start now (gam_place g k)) xs) (λ xs. map (λ k. bit_change start now (sgam_place g k)) xs) (map (run_change g start now)) (flat_map (page_changes g start now)) (part_changes start now 9 0 8192) _ _ _ _ _ _ _ _ _ _ a b c d e
+    put_together (λ xs. map (λ k. bit_change start now (gam_place g k)) xs) (λ xs. map (λ k. bit_change start now (sgam_place g k)) xs) (map (run_change g start now))
+    (flat_map (page_changes g start now)) (part_changes start now 9 0 8192) _ _ _ _ _ _ _ _ _ _ a b c d e
   where
     put_together : (f h k l : List ℕ → List Planned) (m : List Planned) (a a' b b' c c' d d' e e' : List ℕ) → a ≡ a' → b ≡ b' → c ≡ c' → d ≡ d' → e ≡ e' →
         (f a ++ (h b ++ (k c ++ (l d ++ (m ++ l e))))) ≡ (f a' ++ (h b' ++ (k c' ++ (l d' ++ (m ++ l e')))))

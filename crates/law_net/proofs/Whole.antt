@@ -19,7 +19,7 @@ use Rattle.law_net.proofs.Parts.{cut_part, cut_page}
 use Rattle.law_net.proofs.Runs.{cut_runs}
 use Rattle.law_net.specs.Files.{DifferOnlyAt}
 use Rattle.law_net.proofs.Images.{AreImages, whole_page, same_shape}
-use Rattle.law_net.proofs.Zones.{Bits, Pfs, Iams, Others, All, BitGuarded, ByteGuarded, bits_and_bytes, same_grain, same_byte_number, same_bit_number, gam_bit, sgam_bit, run_byte, page_byte, boot_byte, no_both_maps, all_in_zones}
+use Rattle.law_net.proofs.Zones.{Bits, Pfs, Iams, Others, AnyPart, BitGuarded, ByteGuarded, bits_and_bytes, same_grain, same_byte_number, same_bit_number, gam_bit, sgam_bit, run_byte, page_byte, boot_byte, no_both_maps, all_in_zones}
 
 low_bit : (g : Geometry) (e : ℕ) → e % interval_size g < 63904
 low_bit Standard e = omega arith
@@ -33,10 +33,12 @@ pub record SomeByte (g : Geometry) (pages p i k : ℕ) : Type 0 where
   pub n : ℕ
   pub guarded : ByteGuarded g pages p i k n
 
-gams_guarded : (shape : FileShape) (start now : Image) → AreImages shape start now → (p i j : ℕ) → (z : Bits (gam_place shape.geometry) shape start now p i j) → BitGuarded shape.geometry shape.pages p i j z.at
+gams_guarded : (shape : FileShape) (start now : Image) → AreImages shape start now → (p i j : ℕ) → (z : Bits (gam_place shape.geometry) shape start now p i j) →
+    BitGuarded shape.geometry shape.pages p i j z.at
 gams_guarded shape start now images p i j z = gam_bit shape images.file z.at p i j (upper z.at (shape.pages / 8) z.high) z.in_zone
 
-sgams_guarded : (shape : FileShape) (start now : Image) → AreImages shape start now → (p i j : ℕ) → (z : Bits (sgam_place shape.geometry) shape start now p i j) → BitGuarded shape.geometry shape.pages p i j z.at
+sgams_guarded : (shape : FileShape) (start now : Image) → AreImages shape start now → (p i j : ℕ) → (z : Bits (sgam_place shape.geometry) shape start now p i j) →
+    BitGuarded shape.geometry shape.pages p i j z.at
 sgams_guarded shape start now images p i j z = sgam_bit shape images.file z.at p i j (upper z.at (shape.pages / 8) z.high) z.in_zone
 
 runs_guarded : (shape : FileShape) (start now : Image) → AreImages shape start now → (p i j : ℕ) → Pfs shape start now p i j → SomeByte shape.geometry shape.pages p i 4
@@ -69,7 +71,7 @@ cut_pages shape start now images test =
     (λ p low high passes. cut_page shape.geometry start now p (whole_page shape start now images p (upper p shape.pages high)))
     (λ x y p i j a b c d s t u v. sym u.page ∙ v.page)
 
-pub cut_all : (shape : FileShape) (start now : Image) → AreImages shape start now → IsCut start now (All shape start now) (changes_of shape start now)
+pub cut_all : (shape : FileShape) (start now : Image) → AreImages shape start now → IsCut start now (AnyPart shape start now) (changes_of shape start now)
 cut_all shape start now images =
     let g = shape.geometry in
     let n = shape.pages in
@@ -89,18 +91,18 @@ cut_all shape start now images =
     (cut_both start now (IsSpan 9 0 8192) (Others shape start now) (part_changes start now 9 0 8192) (other_changes shape start now)
     (cut_part start now 9 0 8192 (whole_page shape start now images 9 (omega (arith, low))) (omega arith) (omega arith))
     (cut_pages shape start now images (λ p. is_page_changed g start now p && not (is_iam now p)))
-    (λ p i j a b. boot_page p i (same_grain g n p i 1 5 _ _ (boot_byte shape file p i j a) (others_guarded shape start now p i j b))))
+    (λ p i j a b. boot_other p i (same_grain g n p i 1 5 _ _ (boot_byte shape file p i j a) (others_guarded shape start now p i j b))))
     (λ p i j a z. elim z [
-      | inl b ↦ boot_page p i (same_grain g n p i 1 5 _ _ (boot_byte shape file p i j b) (iams_guarded shape start now p i j a))
+      | inl b ↦ boot_other p i (same_grain g n p i 1 5 _ _ (boot_byte shape file p i j b) (iams_guarded shape start now p i j a))
       | inr b ↦
           let same : a.at ≡ b.at = same_byte_number g n p i 5 5 a.at b.at (iams_guarded shape start now p i j a) (others_guarded shape start now p i j b) in
           both_ways (is_iam now b.at) (not-true (is_iam now b.at) (and_parts (is_page_changed g start now b.at) _ b.passes).1)
           (subst (λ q. is_iam now q ≡ true) same (and_parts (is_page_changed g start now a.at) (is_iam now a.at) a.passes).1)
     ]))
     (λ p i j a z. elim z [
-      | inl b ↦ pfs_page_ p i (same_grain g n p i 4 5 _ _ (runs_guarded shape start now images p i j a).guarded (iams_guarded shape start now p i j b))
+      | inl b ↦ pfs_other p i (same_grain g n p i 4 5 _ _ (runs_guarded shape start now images p i j a).guarded (iams_guarded shape start now p i j b))
       | inr (inl b) ↦ pfs_boot p i (same_grain g n p i 4 1 _ _ (runs_guarded shape start now images p i j a).guarded (boot_byte shape file p i j b))
-      | inr (inr b) ↦ pfs_page_ p i (same_grain g n p i 4 5 _ _ (runs_guarded shape start now images p i j a).guarded (others_guarded shape start now p i j b))
+      | inr (inr b) ↦ pfs_other p i (same_grain g n p i 4 5 _ _ (runs_guarded shape start now images p i j a).guarded (others_guarded shape start now p i j b))
     ]))
     (λ p i j a z.
     let b = bytes_guarded shape start now images p i j z in bits_and_bytes g n p i j a.at b.0 b.1.n (sgams_guarded shape start now images p i j a) b.1.guarded))
@@ -109,11 +111,11 @@ cut_all shape start now images =
       | inr y ↦ let b = bytes_guarded shape start now images p i j y in bits_and_bytes g n p i j a.at b.0 b.1.n (gams_guarded shape start now images p i j a) b.1.guarded
     ])
   where
-    boot_page : (p i : ℕ) → ◌≡◌ {A = ℕ} 1 5 → ⊥
-    boot_page p i e = omega (arith, e)
+    boot_other : (p i : ℕ) → ◌≡◌ {A = ℕ} 1 5 → ⊥
+    boot_other p i e = omega (arith, e)
 
-    pfs_page_ : (p i : ℕ) → ◌≡◌ {A = ℕ} 4 5 → ⊥
-    pfs_page_ p i e = omega (arith, e)
+    pfs_other : (p i : ℕ) → ◌≡◌ {A = ℕ} 4 5 → ⊥
+    pfs_other p i e = omega (arith, e)
 
     pfs_boot : (p i : ℕ) → ◌≡◌ {A = ℕ} 4 1 → ⊥
     pfs_boot p i e = omega (arith, e)
@@ -121,8 +123,8 @@ cut_all shape start now images =
 -- (a) the net changes make the one image from the other
 pub changes_make : (P : Resource → Type 0) (shape : FileShape) (start now : Image) → AreImages shape start now → DifferOnlyAt P shape start now → made start (changes_of shape start now) ≡ now
 changes_make P shape start now images differ =
-    made_is start now (All shape start now) (changes_of shape start now) (same_shape shape start now images) (cut_all shape start now images) (all_in_zones P shape start now images differ)
+    made_is start now (AnyPart shape start now) (changes_of shape start now) (same_shape shape start now images) (cut_all shape start now images) (all_in_zones P shape start now images differ)
 
 -- (b) each finds its bytes
 pub changes_find : (shape : FileShape) (start now : Image) → AreImages shape start now → Find start (changes_of shape start now)
-changes_find shape start now images = cut_finds start now (All shape start now) (changes_of shape start now) (cut_all shape start now images)
+changes_find shape start now images = cut_finds start now (AnyPart shape start now) (changes_of shape start now) (cut_all shape start now images)

@@ -54,7 +54,8 @@ pub leads_take : (r : Resource) (v : View) (K : Unit {0} → View → Type 0) �
 unfolding take
 leads_take r v K h = free_holder r (v.other r) (ended [] (Gives tt (with_taken r v))) K h
 
-pub leads_write : (r : Resource) (cell : Cell) (bytes : List ℕ) (v : View) (K : Unit {0} → View → Type 0) → (v.other r ≡ None → K tt (written cell bytes (with_taken r v))) → Leads (write r cell bytes) v K
+pub leads_write : (r : Resource) (cell : Cell) (bytes : List ℕ) (v : View) (K : Unit {0} → View → Type 0) → (v.other r ≡ None → K tt (written cell bytes (with_taken r v))) →
+    Leads (write r cell bytes) v K
 unfolding write
 leads_write r cell bytes v K h = free_holder r (v.other r) (ended [] (Gives tt (written cell bytes (with_taken r v)))) K h
 

@@ -23,10 +23,12 @@ pub take_keeps_good : TakeKeepsGood
 take_keeps_good v r = kept (take r) v (take_keeps v.shape r v)
 
 pub gam_keeps_good : GamKeepsGood
-gam_keeps_good v e value lt low = kept (put_gam v.shape e value) v (λ g. let good = g.good in let old = good.after in write_keeps v.shape (resource.Extent (record { 0 = e })) _ _ v (gam_cell v.shape e value old.file lt low) g)
+gam_keeps_good v e value lt low = kept (put_gam v.shape e value) v
+    (λ g. let good = g.good in let old = good.after in write_keeps v.shape (resource.Extent (record { 0 = e })) _ _ v (gam_cell v.shape e value old.file lt low) g)
 
 pub sgam_keeps_good : SgamKeepsGood
-sgam_keeps_good v e value lt low = kept (put_sgam v.shape e value) v (λ g. let good = g.good in let old = good.after in write_keeps v.shape (resource.Extent (record { 0 = e })) _ _ v (sgam_cell v.shape e value old.file lt low) g)
+sgam_keeps_good v e value lt low = kept (put_sgam v.shape e value) v
+    (λ g. let good = g.good in let old = good.after in write_keeps v.shape (resource.Extent (record { 0 = e })) _ _ v (sgam_cell v.shape e value old.file lt low) g)
 
 pub pfs_keeps_good : PfsKeepsGood
 pfs_keeps_good v p byte lt low = kept (put_pfs v.shape p byte) v (λ g. write_keeps v.shape (resource.Byte (record { 0 = p })) _ _ v (pfs_cell v.shape p byte (enough v g.good) lt low) g)

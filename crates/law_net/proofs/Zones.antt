@@ -42,8 +42,8 @@ Iams shape start now = InRange (λ p. is_page_changed shape.geometry start now p
 abbrev pub Others : FileShape → Image → Image → Zone
 Others shape start now = InRange (λ p. is_page_changed shape.geometry start now p && not (is_iam now p)) (λ p. IsSpan p 0 8192) shape.pages 0
 
-abbrev pub All : FileShape → Image → Image → Zone
-All shape start now =
+abbrev pub AnyPart : FileShape → Image → Image → Zone
+AnyPart shape start now =
     Or (Bits (gam_place shape.geometry) shape start now) (Or (Bits (sgam_place shape.geometry) shape start now)
     (Or (Pfs shape start now) (Or (Iams shape start now) (Or (IsSpan 9 0 8192) (Others shape start now)))))
 
@@ -98,7 +98,8 @@ pub gam_bit : (shape : FileShape) → HasShape shape.geometry shape.pages → (e
 gam_bit shape file e p i j lt z =
     bit_place shape.geometry shape.pages (gam_place shape.geometry e) e p i j z (extents_guard_bits shape.geometry shape.pages e file.low file.high lt).0
 
-pub sgam_bit : (shape : FileShape) → HasShape shape.geometry shape.pages → (e p i j : ℕ) → e < shape.pages / 8 → IsBit (sgam_place shape.geometry e) p i j → BitGuarded shape.geometry shape.pages p i j e
+pub sgam_bit : (shape : FileShape) → HasShape shape.geometry shape.pages → (e p i j : ℕ) → e < shape.pages / 8 → IsBit (sgam_place shape.geometry e) p i j →
+    BitGuarded shape.geometry shape.pages p i j e
 sgam_bit shape file e p i j lt z =
     bit_place shape.geometry shape.pages (sgam_place shape.geometry e) e p i j z (extents_guard_bits shape.geometry shape.pages e file.low file.high lt).1
 
@@ -239,7 +240,7 @@ in_bits shape start now bit_of e p i j low small lt page_is at_is differ = recor
         ∙ ap (λ k. bit_at (slice_index (page image (bit_of e).page) (maps_start + (bit_of e).at / 8)) k) bit_is
 
 bit_zone : (P : Resource → Type 0) (shape : FileShape) (start now : Image) (p i j : ℕ) (r : Role) → role_of shape.geometry p ≡ r → maps_start ≤ i → j < 8 →
-    IsSomeAnd (bit_guard_by r shape.geometry shape.pages p (8 * (i - maps_start) + j)) P → (read start (place p i j) ≡ read now (place p i j) → ⊥) → All shape start now p i j
+    IsSomeAnd (bit_guard_by r shape.geometry shape.pages p (8 * (i - maps_start) + j)) P → (read start (place p i j) ≡ read now (place p i j) → ⊥) → AnyPart shape start now p i j
 bit_zone P shape start now p i j role.Gam e low small h differ =
     let g = shape.geometry in
     let n = 8 * (i - maps_start) + j in
@@ -262,7 +263,8 @@ bit_zone P shape start now p i j role.Ordinary e low small h differ = absurd h
 bit_zone P shape start now p i j role.FileHeader e low small h differ = absurd h
 bit_zone P shape start now p i j role.Reserved e low small h differ = absurd h
 
-in_pfs : (shape : FileShape) (start now : Image) (p i j q : ℕ) → HasShape shape.geometry shape.pages → q < shape.pages → IsPfsOf shape.geometry p i q → (SameByte start now p i → ⊥) → Pfs shape start now p i j
+in_pfs : (shape : FileShape) (start now : Image) (p i j q : ℕ) → HasShape shape.geometry shape.pages → q < shape.pages → IsPfsOf shape.geometry p i q →
+    (SameByte start now p i → ⊥) → Pfs shape start now p i j
 in_pfs shape start now p i j q file lt is differ =
     let g = shape.geometry in
     let changes : is_byte_changed g start now q ≡ true =
@@ -285,14 +287,29 @@ in_pages : (shape : FileShape) (start now : Image) (p i j : ℕ) → p < shape.p
 in_pages shape start now p i j lt small ordinary differ =
     let differs : is_page_changed shape.geometry start now p ≡ true =
     and_from (is_ordinary shape.geometry p) (not (bytes_eq (page start p) (page now p))) ordinary
-    (not_from_false (bytes_eq (page start p) (page now p)) (false_from_ne_true (bytes_eq (page start p) (page now p)) (λ e. differ (ap (λ bytes. slice_index bytes i) ((bytes_decides (page start p) (page now p)).0 e))))) in
+    (not_from_false (bytes_eq (page start p) (page now p))
+    (false_from_ne_true (bytes_eq (page start p) (page now p)) (λ e. differ (ap (λ bytes. slice_index bytes i) ((bytes_decides (page start p) (page now p)).0 e))))) in
     elim (cases_Bool (is_iam now p)) [
-      | inl iam ↦ inl (record { at = p; low = omega arith; high = omega (arith, lt); passes = and_from (is_page_changed shape.geometry start now p) (is_iam now p) differs iam; in_zone = record { page = refl; low = omega arith; high = small } })
-      | inr other ↦ inr (record { at = p; low = omega arith; high = omega (arith, lt); passes = and_from (is_page_changed shape.geometry start now p) (not (is_iam now p)) differs (not_from_false (is_iam now p) other); in_zone = record { page = refl; low = omega arith; high = small } })
+      | inl iam ↦ inl (record {
+        at = p;
+        low = omega arith;
+        high = omega (arith, lt);
+        passes = and_from (is_page_changed shape.geometry start now p)
+            (is_iam now p) differs iam;
+        in_zone = record { page = refl; low = omega arith; high = small };
+      })
+      | inr other ↦ inr (record {
+        at = p;
+        low = omega arith;
+        high = omega (arith, lt);
+        passes = and_from (is_page_changed shape.geometry start now p)
+            (not (is_iam now p)) differs (not_from_false (is_iam now p) other);
+        in_zone = record { page = refl; low = omega arith; high = small };
+      })
     ]
 
 byte_zone : (P : Resource → Type 0) (shape : FileShape) (start now : Image) (p i j : ℕ) (r : Role) → HasShape shape.geometry shape.pages → role_of shape.geometry p ≡ r → p < shape.pages → i < 8192 →
-    IsSomeAnd (byte_guard_by r shape.geometry shape.pages p i) P → (SameByte start now p i → ⊥) → All shape start now p i j
+    IsSomeAnd (byte_guard_by r shape.geometry shape.pages p i) P → (SameByte start now p i → ⊥) → AnyPart shape start now p i j
 byte_zone P shape start now p i j role.Pfs file e lt small h differ =
     let g = shape.geometry in
     let all = (if_some P (leb maps_start i && ltb (i - maps_start) (pfs_span g) && ltb (paged_at p i) shape.pages) (resource.Byte (record { 0 = paged_at p i })) h).0 in
@@ -311,7 +328,7 @@ byte_zone P shape start now p i j role.Reserved file e lt small h differ = absur
 
 -- each difference stands in a part
 pub all_in_zones : (P : Resource → Type 0) (shape : FileShape) (start now : Image) → AreImages shape start now → DifferOnlyAt P shape start now → (p i j : ℕ) → IsInside (place p i j) start →
-    (read start (place p i j) ≡ read now (place p i j)) ⊎ All shape start now p i j
+    (read start (place p i j) ≡ read now (place p i j)) ⊎ AnyPart shape start now p i j
 all_in_zones P shape start now images differ p i j inside = elim (cases_eq (read start (place p i j)) (read now (place p i j))) [
   | inl same ↦ inl same
   | inr other ↦ elim (cases_lt j 8) [

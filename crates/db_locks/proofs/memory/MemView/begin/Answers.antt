@@ -6,6 +6,7 @@ use Rattle.spec_words.specs.Takes.{in_order}
 use Rattle.pg_base.specs.declared.page.Page.{Page}
 use Rattle.law_net.specs.Files.{IsImageOf}
 use Rattle.db_locks.specs.MemImages.{shape_of, image_of, DifferWherePut}
+use Rattle.db_locks.specs.States.{are_rising}
 use Rattle.db_locks.proofs.MemoryImages.{IsWholePage, image_begins, none_put}
 use Rattle.db_locks.proofs.memory.MemView.begin.Goals as goal
 
@@ -19,5 +20,6 @@ invariant_of-result c =
       began = subst (λ (ps : List Page). IsImageOf (shape_of c.args.geometry c.args.version pages) (image_of ps)) (sym all) is;
       differ = subst (λ (put : List PageNo). DifferWherePut put (image_of c.loop-page.first.items) (image_of pages)) (sym c.new.ensures.items)
           (subst (λ (ps : List Page). DifferWherePut [] (image_of ps) (image_of pages)) (sym all) (none_put (image_of pages)));
+      rising = ap are_rising c.new.ensures.items;
       ordered = c.new-3.ensures.items ∙ ap (λ (taken : List Resource). in_order taken) (sym c.new-2.ensures.items);
     }

@@ -9,7 +9,8 @@ use Rattle.db_locks.specs.MemImages.{shape_of, image_of, DifferWherePut}
 use Rattle.db_locks.specs.Memory.{state_of}
 use Rattle.db_locks.proofs.CellSteps.{seen_long}
 use Rattle.db_locks.proofs.ViewLaws.{page_put}
-use Rattle.db_locks.proofs.MemoryImages.{carried_whole, image_put, image_of_more, differ_put}
+use Rattle.db_locks.proofs.MemoryImages.{carried_whole, image_put, image_of_more, differ_put, rise_put}
+use Rattle.db_locks.specs.States.{are_rising}
 use Rattle.db_locks.proofs.memory.MemViewPlanPages.put.Goals as goal
 
 pub invariant_of-self-in-Ok : goal.invariant_of-self-in-Ok
@@ -25,6 +26,7 @@ invariant_of-self-in-Ok c =
       differ = subst (λ (m : Image). DifferWherePut c.add_page.new.list.items (image_of old.first.items) m) (sym c.replace.ensures.image)
           (subst (λ (put : List PageNo). DifferWherePut put (image_of old.first.items) (slice_set (image_of old.pages.items) c.args.p.0 c.args.from.now.bytes)) (sym c.in-Ok.ensures.ok)
           (differ_put old.put.items (image_of old.first.items) (image_of old.pages.items) c.args.p c.args.from.now.bytes here old.differ));
+      rising = ap are_rising c.in-Ok.ensures.ok ∙ rise_put c.args.p old.put.items old.rising;
       ordered = old.ordered;
     }
 

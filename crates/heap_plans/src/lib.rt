@@ -1,0 +1,7 @@
+//! COUNT on heaps, carried out on the view of a transaction as the words of plans say.
+#![tactic(auto)]
+
+mod count;
+mod heap;
+
+pub use count::heap_count;

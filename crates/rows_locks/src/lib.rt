@@ -1,0 +1,8 @@
+//! The tests of what a statement is planned over: the lock table, and on a view in memory a heap whose rows are
+//! counted.
+#![tactic(auto)]
+
+#[cfg(test)]
+mod count_tests;
+#[cfg(test)]
+mod lock_tests;

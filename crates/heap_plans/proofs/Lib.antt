@@ -1,2 +1,5 @@
 pub mod HeapSteps
 pub mod CountSteps
+pub mod ByteSteps
+pub mod RoomSteps
+pub mod RoomLooks

@@ -3,5 +3,6 @@
 
 mod count;
 mod heap;
+mod room;
 
 pub use count::heap_count;

@@ -3,3 +3,4 @@ pub mod CountSteps
 pub mod ByteSteps
 pub mod RoomSteps
 pub mod RoomLooks
+pub mod RoomSearch

@@ -1,12 +1,14 @@
 // The first page of a heap with room for a row.
-ghost use Rattle.std.specs.Prelude.{◌≡◌, ◌<◌, ◌==◌, ◌%◌, ◌&&◌, ℕ, List, IsTrue, IfOk, Some, None, if◌then◌else◌};
+ghost use Rattle.std.specs.Prelude.{◌≡◌, ◌<◌, ◌==◌, ◌%◌, ◌&&◌, ℕ, List, IsTrue, IfOk, IfSome, All, Some, None, if◌then◌else◌};
+ghost use Rattle.std.specs.Option.{option_map};
 ghost use Rattle.spec_file.specs.Roles as roles;
 ghost use Rattle.spec_chain.specs.Uses.{pfs_byte};
-ghost use Rattle.spec_words.specs.Words.{sees};
+ghost use Rattle.spec_words.specs.Words.{sees, first_of};
 ghost use Rattle.spec_words.specs.Heaps as spec;
 ghost use Rattle.db_cat.specs.Rows.{row_of};
 ghost use Rattle.db_locks.specs.Does.{DoesAfter, Stays};
 ghost use Rattle.db_alloc.specs.Results.{value_as};
+ghost use Rattle.db_alloc.specs.Tables.{numbers};
 ghost use Rattle.heap_plans.specs.Inserts.{WasByteRead, HasRoomOn};
 
 use crate::heap::read_heap_page;
@@ -59,4 +61,28 @@ pub(crate) fn read_room<P: PlanPages>(
     }
     read_heap_page(v, table, p, page)?;
     Ok(has_room(page, size))
+}
+
+/// The first of these pages of a table with room for a row of so many bytes, which is left in `page`.
+pub(crate) fn find_room<P: PlanPages>(
+    v: &mut P,
+    table: &Table,
+    size: u16,
+    pages: &[PageNo],
+    page: &mut Page,
+) -> Result<Option<PageNo>, PageStop>
+    requires geometry { table.now.geometry ≡ (P.state v.old).view.shape.geometry }
+    requires pages { table.now.pages ≡ (P.state v.old).view.shape.pages }
+    requires inside { All (λ p. p < table.now.pages) (numbers pages.now) }
+    ensures does { (looked : List ℕ) → (IsTrue (P.state v.old).told → All (WasByteRead looked (P.state v.old).view) (numbers pages.now)) → DoesAfter looked (P.state v.old) (P.state v.new) (first_of (spec.room_on (P.state v.old).view.shape (row_of table.now.row) size) (numbers pages.now)) (value_as (option_map (λ p. p.0)) result) }
+    ensures room { IfOk result (λ found. IfSome found (λ p. HasRoomOn (P.state v.old) (row_of table.now.row) size p.0 page.new.bytes)) }
+    ensures view { (P.state v.new).view ≡ (P.state v.old).view }
+    ensures stays { Stays (P.state v.old) (P.state v.new) }
+{
+    for p in pages {
+        if read_room(v, table, size, *p, page)? {
+            return Ok(Some(*p));
+        }
+    }
+    Ok(None)
 }

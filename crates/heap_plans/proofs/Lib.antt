@@ -4,3 +4,4 @@ pub mod ByteSteps
 pub mod RoomSteps
 pub mod RoomLooks
 pub mod RoomSearch
+pub mod RowSteps

@@ -4,5 +4,6 @@
 mod count;
 mod heap;
 mod room;
+mod write;
 
 pub use count::heap_count;

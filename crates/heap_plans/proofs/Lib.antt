@@ -5,3 +5,6 @@ pub mod RoomSteps
 pub mod RoomLooks
 pub mod RoomSearch
 pub mod RowSteps
+pub mod RoomFound
+pub mod ByteReads
+pub mod InsertSteps

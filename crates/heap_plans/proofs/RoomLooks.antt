@@ -20,7 +20,7 @@ use Rattle.db_locks.specs.Does.{Does}
 pub inside_by : {p n m : ℕ} → n ≡ m → p < n → p < m
 inside_by {p} e lt = subst (λ (k : ℕ). p < k) e lt
 
-abbrev is_given : {A : Type 0} → End A → Bool
+abbrev pub is_given : {A : Type 0} → End A → Bool
 is_given (Gives x view) = true
 is_given (Stops refusal) = false
 
@@ -34,7 +34,7 @@ abbrev bytes_or : List ℕ → End (List ℕ) → List ℕ
 bytes_or other (Gives x view) = x
 bytes_or other (Stops refusal) = other
 
-abbrev view_or : {A : Type 0} → View → End A → View
+abbrev pub view_or : {A : Type 0} → View → End A → View
 view_or other (Gives x view) = view
 view_or other (Stops refusal) = other
 

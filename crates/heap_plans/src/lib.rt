@@ -3,7 +3,9 @@
 
 mod count;
 mod heap;
+mod insert;
 mod room;
 mod write;
 
 pub use count::heap_count;
+pub use insert::{InsertStop, heap_insert};

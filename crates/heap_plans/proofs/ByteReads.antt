@@ -1,5 +1,5 @@
 -- The PFS bytes of a table's pages were read.
-use Rattle.std.proofs.Common.{◌≡◌, refl, ℕ, zero, suc, ◌<◌, Bool, true, false, IsTrue, List, [], ◌∷◌, ◌++◌, All, get_or, Contains, Result, Ok, Err, filter, sym, ap, ◌∙◌, subst, arith}
+use Rattle.std.proofs.Common.{◌≡◌, refl, ℕ, zero, suc, Bool, true, false, List, [], ◌∷◌, ◌++◌, All, get_or, Contains, filter, sym, ap, ◌∙◌, subst, arith}
 use Rattle.std.specs.Prelude.{◌&&◌, ◌||◌, Option, Some, None}
 use Rattle.std.proofs.lemmas.Bool.{true≢false}
 use Rattle.std.proofs.lemmas.List.Elements.{Contains-append_left, Contains-append_right, Contains-push, All-filter}
@@ -12,8 +12,8 @@ use Rattle.spec_file.specs.CatalogRows.{CatalogRow}
 use Rattle.spec_chain.specs.Uses.{is_allocated}
 use Rattle.spec_plan.specs.Reading.{is_single, is_marked}
 use Rattle.spec_words.specs.NetChanges.{FileShape, pages_of}
-use Rattle.spec_words.specs.Views.{View, End, Gives, Stops, Outcome, Plan}
-use Rattle.spec_words.specs.Words.{ended, gone_on, by_holder, ◌then◌, give, sees, look, where_good, for_each}
+use Rattle.spec_words.specs.Views.{View, End, Gives, Stops}
+use Rattle.spec_words.specs.Words.{gone_on, ◌then◌, give, sees, look, where_good, for_each}
 use Rattle.spec_words.specs.Tables.{table_pages, chain_of, bytes_read, byte_pages, object_pages}
 use Rattle.db_alloc.specs.Tables.{byte_looked}
 use Rattle.heap_plans.proofs.RoomLooks.{is_given, view_or}

@@ -1,16 +1,14 @@
 -- A PFS byte that was read is seen.
-use Rattle.std.proofs.Common.{◌≡◌, refl, ℕ, IsTrue, List, [], ◌∷◌, ◌++◌, Contains, Result, Ok, Err, inl, inr, sym, ap, ◌∙◌, subst, arith}
-use Rattle.std.specs.Prelude.{slice_index}
-use Rattle.std.proofs.lemmas.List.Elements.{Contains-append_left, Contains-append_right, Contains-append_cases, Contains-push_cases}
-use Rattle.spec_file.specs.Places.{pfs_page, pfs_place}
+use Rattle.std.proofs.Common.{◌≡◌, refl, ℕ, IsTrue, List, [], ◌∷◌, ◌++◌, Contains, Result, Ok, Err, inl, inr, ap, subst, arith}
+use Rattle.std.proofs.lemmas.List.Elements.{Contains-append_left, Contains-append_cases, Contains-push_cases}
+use Rattle.spec_file.specs.Places.{pfs_page}
 use Rattle.spec_chain.specs.Uses.{pfs_byte}
-use Rattle.spec_script.specs.declared.reply.Refusal.{Refusal}
-use Rattle.spec_words.specs.Views.{View, End, Gives, Stops, Plan}
+use Rattle.spec_words.specs.Views.{View, End, Gives, Stops}
 use Rattle.spec_words.specs.Words.{ended, ◌then◌, give, sees, look}
 use Rattle.db_locks.specs.declared.plan_pages.PageStop.{PageStop}
 use Rattle.db_locks.specs.Cells.{pfs_byte_read}
 use Rattle.db_locks.specs.States.{PlanState}
-use Rattle.db_locks.specs.Does.{Stop, WasHeld, WasRefused, HasFailed, WasShort, MayStop, MayAnswer, Does, DoesAs, DoesAfter, stop_of}
+use Rattle.db_locks.specs.Does.{Stop, WasHeld, WasRefused, HasFailed, WasShort, MayStop, Does, DoesAfter, stop_of}
 use Rattle.db_locks.proofs.WordLaws.{does_as}
 use Rattle.db_locks.proofs.PlanLaws.{does_more}
 use Rattle.db_alloc.specs.Results.{value_as}

@@ -1,5 +1,5 @@
 -- The calls of an insert are put together.
-use Rattle.std.proofs.Common.{◌≡◌, refl, ℕ, IsTrue, List, [], ◌∷◌, ◌++◌, All, get_or, length, Contains, Option, Some, None, Result, Ok, Err, sym, ap, ◌∙◌, subst}
+use Rattle.std.proofs.Common.{◌≡◌, refl, ℕ, IsTrue, List, [], ◌++◌, All, get_or, length, Contains, Option, Some, None, Result, Ok, Err, sym, ap, ◌∙◌, subst}
 use Rattle.std.specs.Prelude.{IsErrAnd}
 use Rattle.std.specs.Option.{option_map}
 use Rattle.std.proofs.lemmas.List.Elements.{Contains-append_left, Contains-append_right}
@@ -14,12 +14,12 @@ use Rattle.spec_plan.specs.Refusals.{no_room}
 use Rattle.spec_plan.specs.Rows.{heap_row}
 use Rattle.spec_words.specs.NetChanges.{FileShape}
 use Rattle.spec_words.specs.Views.{View, Plan}
-use Rattle.spec_words.specs.Words.{◌then◌, give, take, first_of}
+use Rattle.spec_words.specs.Words.{◌then◌, give, first_of}
 use Rattle.spec_words.specs.Tables.{table_of, table_pages}
 use Rattle.spec_words.specs.Heaps.{room_on, row_put, insert_plan}
 use Rattle.db_locks.specs.declared.plan_pages.PageStop.{PageStop}
 use Rattle.db_locks.specs.States.{PlanState}
-use Rattle.db_locks.specs.Does.{Does, DoesAs, DoesAfter, Stays, stop_of}
+use Rattle.db_locks.specs.Does.{Does, DoesAs, DoesAfter, Stays}
 use Rattle.db_locks.proofs.PlanLaws.{does_after, does_then, does_stop, does_give, does_refuse}
 use Rattle.db_alloc.specs.declared.find.FindStop.TheVariants.{Page}
 use Rattle.db_alloc.specs.Results.{value_as}
@@ -28,7 +28,7 @@ use Rattle.heap_plans.specs.declared.insert.InsertStop.{InsertStop}
 use Rattle.heap_plans.specs.declared.insert.InsertStop.TheVariants.{Find, NoRoom}
 use Rattle.heap_plans.specs.Inserts.{WasByteRead}
 use Rattle.heap_plans.specs.InsertPlans.{insert_stop, row_placed, row_inserted}
-use Rattle.heap_plans.proofs.RoomFound.{FoundIn, first_room}
+use Rattle.heap_plans.proofs.RoomFound.{first_room}
 use Rattle.heap_plans.proofs.ByteReads.{IsFree, table_read}
 
 abbrev searched : PlanState → CatalogRow → List ℕ → List ℕ → Plan (Option ℕ)

@@ -1,13 +1,13 @@
 -- A page that was found to have room was looked at.
-use Rattle.std.proofs.Common.{◌≡◌, refl, ℕ, zero, suc, ◌<◌, Bool, true, false, IsTrue, List, [], ◌∷◌, ◌++◌, All, Contains, Result, Ok, Err, sym, ap, ◌∙◌, subst, arith}
-use Rattle.std.specs.Prelude.{◌&&◌, ◌==◌, ◌%◌, if◌then◌else◌, Option, Some, None}
+use Rattle.std.proofs.Common.{◌≡◌, refl, ℕ, zero, suc, Bool, true, false, List, [], ◌∷◌, ◌++◌, All, Contains, sym, ap, ◌∙◌, subst, arith}
+use Rattle.std.specs.Prelude.{if◌then◌else◌, Option, Some, None}
 use Rattle.std.proofs.lemmas.Bool.{true≢false}
 use Rattle.std.proofs.lemmas.List.Elements.{Contains-append_left, Contains-append_right}
 use Rattle.spec_file.specs.CatalogRows.{CatalogRow}
 use Rattle.spec_plan.specs.Rows.{has_room_for}
 use Rattle.spec_words.specs.NetChanges.{FileShape}
-use Rattle.spec_words.specs.Views.{View, End, Gives, Stops, Outcome, Plan}
-use Rattle.spec_words.specs.Words.{ended, gone_on, or_later, ◌then◌, give, sees, first_of}
+use Rattle.spec_words.specs.Views.{View, End, Gives, Stops}
+use Rattle.spec_words.specs.Words.{gone_on, or_later, ◌then◌, give, sees, first_of}
 use Rattle.spec_words.specs.Heaps.{heap_page, room_on}
 use Rattle.heap_plans.proofs.RoomSteps.{full_by}
 use Rattle.heap_plans.proofs.RoomLooks.{heap_page_gives}
@@ -27,9 +27,6 @@ pub record Found (q p : ℕ) (reached : List ℕ) : Type 0 where
   pub same : q ≡ p
   pub reached_it : Contains reached q
 
-abbrev asked : FileShape → ℕ → ℕ → Bool → End (List ℕ) → List ℕ → Outcome (Option ℕ)
-asked shape size q full page reached = gone_on reached page (λ bytes. give (if has_room_for bytes size then Some q else None))
-
 room_page : (shape : FileShape) (row : CatalogRow) (size q p : ℕ) (view after : View) → full_by shape q view ≡ false → (ending : End (List ℕ)) → (heap_page shape row q view).ending ≡ ending
     → (gone_on (heap_page shape row q view).reached ending (λ bytes. give (if has_room_for bytes size then Some q else None))).ending ≡ Gives (Some p) after
     → Found q p (gone_on (heap_page shape row q view).reached ending (λ bytes. give (if has_room_for bytes size then Some q else None))).reached
@@ -39,6 +36,7 @@ room_page shape row size q p view after full (Gives bytes v) is e = by_room (has
   where
     looked : Contains ((heap_page shape row q view).reached ++ []) q
     looked = Contains-append_left (heap_page shape row q view).reached [] q (heap_page_gives shape row q view v bytes is).reached
+
     by_room : (fits : Bool) → has_room_for bytes size ≡ fits → Found q p ((heap_page shape row q view).reached ++ [])
     by_room true fit = let given = rw fit at e in record { same = ap (found_in q) given; reached_it = looked }
     by_room false fit = let given = rw fit at e in absurd (true≢false (sym (ap is_found given)))

@@ -1,19 +1,17 @@
 -- What the words on pages of a heap give: where a page was given, it was looked at.
-use Rattle.std.proofs.Common.{◌≡◌, refl, ℕ, ◌<◌, Bool, true, false, IsTrue, List, [], ◌∷◌, ◌++◌, Contains, Result, Ok, Err, sym, ap, ◌∙◌, subst, arith}
-use Rattle.std.specs.Prelude.{◌&&◌, ◌==◌, ◌%◌, if◌then◌else◌, Option, Some, None, IfSome}
+use Rattle.std.proofs.Common.{◌≡◌, refl, ℕ, ◌<◌, Bool, true, false, IsTrue, List, [], ◌∷◌, Contains, Ok, sym, ap, subst}
+use Rattle.std.specs.Prelude.{◌&&◌, Option, Some, None}
 use Rattle.std.proofs.lemmas.Bool.{true≢false}
-use Rattle.std.proofs.lemmas.List.Elements.{Contains-append_left, Contains-append_right, Contains-push}
+use Rattle.std.proofs.lemmas.List.Elements.{Contains-append_left, Contains-push}
 use Rattle.spec_file.specs.declared.data.Resource.TheVariants as resource
 use Rattle.spec_file.specs.Image.{page}
 use Rattle.spec_file.specs.CatalogRows.{CatalogRow}
 use Rattle.spec_file.specs.Roles.{is_ordinary}
-use Rattle.spec_plan.specs.Refusals.{held_by}
 use Rattle.spec_plan.specs.Rows.{passes_page}
 use Rattle.spec_words.specs.NetChanges.{FileShape}
-use Rattle.spec_words.specs.Views.{View, End, Gives, Stops, Outcome, Plan}
-use Rattle.spec_words.specs.Words.{ended, gone_on, by_holder, ◌then◌, give, where_good, look}
-use Rattle.spec_words.specs.Heaps.{heap_page, room_on}
-use Rattle.db_locks.specs.declared.plan_pages.PageStop.{PageStop}
+use Rattle.spec_words.specs.Views.{View, End, Gives, Stops, Outcome}
+use Rattle.spec_words.specs.Words.{◌then◌, give, where_good, look}
+use Rattle.spec_words.specs.Heaps.{heap_page}
 use Rattle.db_locks.specs.States.{PlanState}
 use Rattle.db_locks.specs.Does.{Does}
 

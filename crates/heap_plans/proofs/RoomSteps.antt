@@ -7,13 +7,13 @@ use Rattle.spec_file.specs.Roles.{is_ordinary}
 use Rattle.spec_chain.specs.Uses.{pfs_byte}
 use Rattle.spec_plan.specs.Rows.{has_room_for}
 use Rattle.spec_words.specs.NetChanges.{FileShape}
-use Rattle.spec_words.specs.Views.{View, Plan}
+use Rattle.spec_words.specs.Views.{View}
 use Rattle.spec_words.specs.Words.{◌then◌, give, sees}
 use Rattle.spec_words.specs.Heaps.{heap_page, room_on}
 use Rattle.db_locks.specs.Cells.{pfs_byte_read}
 use Rattle.db_locks.specs.declared.plan_pages.PageStop.{PageStop}
 use Rattle.db_locks.specs.States.{PlanState}
-use Rattle.db_locks.specs.Does.{Does, DoesAfter, stop_of}
+use Rattle.db_locks.specs.Does.{Does, DoesAfter}
 use Rattle.db_locks.proofs.PlanLaws.{does_after, does_then, does_more, does_give, does_see}
 use Rattle.db_alloc.specs.Results.{value_as}
 use Rattle.db_alloc.proofs.Steps.{does_plan, does_exit_as}

@@ -1,5 +1,5 @@
 -- A row goes on a page with room.
-use Rattle.std.proofs.Common.{◌≡◌, refl, ℕ, ◌+◌, ◌-◌, ◌*◌, ◌≤◌, true, IsTrue, List, [], ◌∷◌, Contains, Result, Ok, Err, length, sym, ap, ◌∙◌, subst, arith}
+use Rattle.std.proofs.Common.{◌≡◌, ℕ, ◌+◌, ◌-◌, ◌*◌, ◌≤◌, true, IsTrue, List, [], ◌∷◌, Contains, Result, Ok, Err, length, sym, ap, ◌∙◌, subst, arith}
 use Rattle.std.specs.Prelude.{IsErrAnd}
 use Rattle.std.proofs.lemmas.Bool.{eqb-true, leb-true}
 use Rattle.std.proofs.lemmas.List.Elements.{Contains-push}
@@ -10,8 +10,7 @@ use Rattle.spec_file.specs.Places.{pfs_page}
 use Rattle.spec_file.specs.declared.geometry.Geometry.{Geometry}
 use Rattle.spec_plan.specs.Rows.{passes_page, has_room_for, free_count, with_row}
 use Rattle.spec_plan.specs.Statements.{with_fullness}
-use Rattle.spec_words.specs.NetChanges.{FileShape}
-use Rattle.spec_words.specs.Views.{View, Plan}
+use Rattle.spec_words.specs.Views.{View}
 use Rattle.spec_words.specs.Words.{◌then◌, put_pfs, put_page}
 use Rattle.spec_words.specs.Heaps.{row_put}
 use Rattle.law_rows.proofs.Passes.{test_from}

@@ -118,5 +118,12 @@ pub fn heap_insert<P: PlanPages>(
         geometry,
         pages,
     };
-    insert_row(alloc, v, &table, &bytes[..size as usize], &mut page, &mut buffer)
+    insert_row(
+        alloc,
+        v,
+        &table,
+        &bytes[..size as usize],
+        &mut page,
+        &mut buffer,
+    )
 }

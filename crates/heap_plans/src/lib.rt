@@ -1,4 +1,4 @@
-//! COUNT on heaps, carried out on the view of a transaction as the words of plans say.
+//! COUNT and INSERT on heaps, carried out on the view of a transaction as the words of plans say.
 #![tactic(auto)]
 
 mod count;

@@ -1,4 +1,4 @@
-use Rattle.std.proofs.Common.{refl, sym, ap, ◌∙◌}
+use Rattle.std.proofs.Common.{refl, ap, ◌∙◌}
 use Rattle.spec_words.specs.NetChanges.{FileShape}
 use Rattle.db_cat.specs.Rows.{row_of}
 use Rattle.db_locks.proofs.PlanLaws.{does_after, does_more}

@@ -1,5 +1,4 @@
-use Rattle.std.proofs.Common.{◌≡◌, refl, ◌<◌, ℕ, IsTrue, sym, ap, ◌∙◌, get_or, subst}
-use Rattle.spec_words.specs.Views.{View}
+use Rattle.std.proofs.Common.{refl, ◌<◌, sym, ap, ◌∙◌}
 use Rattle.spec_words.specs.NetChanges.{FileShape}
 use Rattle.spec_words.specs.Words.{first_of}
 use Rattle.spec_words.specs.Heaps.{room_on}
@@ -8,10 +7,8 @@ use Rattle.db_locks.specs.Does.{stop_of}
 use Rattle.db_locks.proofs.PlanLaws.{stays_same, stays_then}
 use Rattle.db_locks.proofs.LoopLaws.{leads_none}
 use Rattle.db_alloc.specs.Tables.{numbers}
-use Rattle.db_alloc.proofs.Lists.{drop_at, drop_none, all_at}
-use Rattle.heap_plans.specs.Inserts.{WasByteRead}
+use Rattle.db_alloc.proofs.Lists.{all_at}
 use Rattle.heap_plans.proofs.RoomSearch.{search_more, search_found, search_exit, search_end, room_before}
-use Rattle.heap_plans.proofs.RoomLooks.{inside_by}
 use Rattle.heap_plans.proofs.room.find_room.Goals as goal
 
 pub read_room-requires-clause-geometry : goal.read_room-requires-clause-geometry

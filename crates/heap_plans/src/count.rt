@@ -53,7 +53,7 @@ fn count_table<P: PlanPages>(
     count_rows(v, table, &pages, buffer)
 }
 
-fn page_room(alloc: Global) -> Result<Box<Page>, FindStop>
+pub(crate) fn page_room(alloc: Global) -> Result<Box<Page>, FindStop>
     ensures { IfErr result (λ e. e ≡ find.Page stop.NoMemory) }
 {
     match Page::zeroed(alloc) {

@@ -1,6 +1,8 @@
 // The pages of a heap.
-ghost use Rattle.std.specs.Prelude.{◌≡◌, ◌<◌};
+ghost use Rattle.std.specs.Prelude.{◌≡◌, ◌<◌, true, OnOk};
+ghost use Rattle.spec_file.specs.Roles as roles;
 ghost use Rattle.spec_rows.specs.Slots.{slot_count};
+ghost use Rattle.spec_plan.specs.Rows.{passes_page};
 ghost use Rattle.spec_words.specs.Heaps as spec;
 ghost use Rattle.db_cat.specs.Rows.{row_of};
 ghost use Rattle.db_locks.specs.Does.{Does, filled};
@@ -21,7 +23,10 @@ pub(crate) fn read_heap_page<P: PlanPages>(
     requires geometry { table.now.geometry ≡ (P.state v.old).view.shape.geometry }
     requires pages { table.now.pages ≡ (P.state v.old).view.shape.pages }
     requires inside { p.0 < table.now.pages }
-    ensures { Does (P.state v.old) (P.state v.new) (spec.heap_page (P.state v.old).view.shape (row_of table.now.row) p.0) (filled into.new.bytes result) }
+    ensures does { Does (P.state v.old) (P.state v.new) (spec.heap_page (P.state v.old).view.shape (row_of table.now.row) p.0) (filled into.new.bytes result) }
+    ensures ordinary { OnOk result (roles.is_ordinary (P.state v.old).view.shape.geometry p.0 ≡ true) }
+    ensures heap { OnOk result (passes_page p.0 (row_of table.now.row).id into.new.bytes ≡ true) }
+    ensures view { (P.state v.new).view ≡ (P.state v.old).view }
 {
     if !is_ordinary(table.geometry, p) {
         v.look(p, Resource::Page(p), into)?;

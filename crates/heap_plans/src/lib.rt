@@ -1,7 +1,11 @@
-//! COUNT on heaps, carried out on the view of a transaction as the words of plans say.
+//! COUNT and INSERT on heaps, carried out on the view of a transaction as the words of plans say.
 #![tactic(auto)]
 
 mod count;
 mod heap;
+mod insert;
+mod room;
+mod write;
 
 pub use count::heap_count;
+pub use insert::{InsertStop, heap_insert};

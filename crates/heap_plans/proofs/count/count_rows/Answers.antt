@@ -23,14 +23,14 @@ loop-p-preserved g c =
     let low = c.loop-p.invariant.low in
     record {
       counted = counted_step (row_of c.args.table.now.row) (numbers c.args.pages.now) _ _ _ c.loop-p.sum _ _ (drop_at c.args.pages.now c.loop-p.p-index (record { 0 = 0 }) c.loop-p-test.true) c.loop-p.invariant.counted
-          c.in_ok-read_heap_page.ensures c.row_count.ensures;
+          c.in_ok-read_heap_page.ensures.does c.row_count.ensures;
       low = omega (arith, low);
     }
 
 pub returns-in_err-read_heap_page : goal.returns-in_err-read_heap_page
 returns-in_err-read_heap_page g c =
     counted_exit (row_of c.args.table.now.row) (numbers c.args.pages.now) _ _ _ c.loop-p.sum _ _ (drop_at c.args.pages.now c.loop-p.p-index (record { 0 = 0 }) c.loop-p-test.true) c.loop-p.invariant.counted
-    c.in_err-read_heap_page.ensures c.from_residual.ensures.1
+    c.in_err-read_heap_page.ensures.does c.from_residual.ensures.1
 
 pub returns : goal.returns
 returns g c = counted_end (row_of c.args.table.now.row) (numbers c.args.pages.now) _ c.loop-p.sum (drop_none c.args.pages.now c.loop-p.p-index c.loop-p-test.false) c.loop-p.invariant.counted

@@ -1,10 +1,11 @@
 // COUNT over a view in memory: how many rows, or the first refusal in the order of reading.
+use crate::made::{HEAP, locks_on, pages_of};
 use db_alloc::FindStop;
 use db_locks::{LockTable, MemView, PageStop};
 use heap_plans::heap_count;
 use pg_base::{ExtentNo, Geometry, ObjId, Page, PageNo, Resource, Tran};
-use rows_files::pieces::Piece::{Bytes, Chain, Heap, HeapPage, Marks, Pfs, Rows, Slots};
-use rows_files::pieces::{New, ONLY, Piece, made};
+use rows_files::pieces::Piece;
+use rows_files::pieces::Piece::Bytes;
 use spec_script::Name;
 use std::alloc::Global;
 use std::test::Fail;
@@ -17,24 +18,6 @@ struct Count {
     held: &'static [Resource],
     counts: Result<u64, FindStop>,
 }
-
-// The heap `t` with pages 10 and 11 in its slots, of two rows and one; extent 2 is marked, of which page 17 is
-// allocated, without rows.
-const HEAP: &[Piece] = &[
-    Heap(1, b't', 8),
-    Chain(8, ONLY),
-    Slots(8, &[10, 11]),
-    Marks(8, 0b100),
-    HeapPage(10, 1),
-    HeapPage(11, 1),
-    HeapPage(17, 1),
-    Rows(10, &[(1, 11), (2, 11)]),
-    Rows(11, &[(3, 11)]),
-    Pfs(8, 0x70),
-    Pfs(10, 0x61),
-    Pfs(11, 0x61),
-    Pfs(17, 0x40),
-];
 
 static COUNTS: [Count; 16] = [
     Count {
@@ -161,37 +144,6 @@ static COUNTS: [Count; 16] = [
     },
 ];
 
-fn page_from(file: &[u8], p: usize) -> Page {
-    let mut page = Page { bytes: [0; 8192] };
-    let at = p.saturating_mul(8192);
-    for (i, cell) in page.bytes.iter_mut().enumerate() {
-        if let Some(byte) = file.get(at.saturating_add(i)) {
-            *cell = *byte;
-        }
-    }
-    page
-}
-
-fn pages_from(alloc: Global, file: &[u8]) -> Result<Vec<Page>, Fail> {
-    let mut pages = Vec::new(alloc);
-    for p in 0..24 {
-        pages.push(page_from(file, p))?;
-    }
-    Ok(pages)
-}
-
-// Transaction 2 holds these resources.
-fn locks_on(alloc: Global, held: &[Resource]) -> Result<LockTable, Fail> {
-    let mut locks = LockTable::begin(alloc);
-    for r in held {
-        locks.reserve(1)?;
-        if locks.take(*r, Tran(2)).is_err() {
-            return Err(Fail::from("held"));
-        }
-    }
-    Ok(locks)
-}
-
 fn counted(
     alloc: Global,
     pages: Vec<Page>,
@@ -206,8 +158,7 @@ fn counted(
 }
 
 fn expect_count(alloc: Global, count: &Count) -> Result<(), Fail> {
-    let file = made(alloc, New::Small(24), count.parts)?;
-    let pages = pages_from(alloc, &file)?;
+    let pages = pages_of(alloc, count.parts)?;
     let found = counted(alloc, pages, locks_on(alloc, count.held)?)?;
     if found != count.counts {
         return Err(Fail::new(format_args!("{}: {found:?}", count.name)));

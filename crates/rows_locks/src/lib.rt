@@ -1,8 +1,12 @@
 //! The tests of what a statement is planned over: the lock table, and on a view in memory a heap whose rows are
-//! counted.
+//! counted, and that gets one more.
 #![tactic(auto)]
 
 #[cfg(test)]
 mod count_tests;
 #[cfg(test)]
+mod insert_tests;
+#[cfg(test)]
 mod lock_tests;
+#[cfg(test)]
+mod made;

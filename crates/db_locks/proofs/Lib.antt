@@ -8,4 +8,5 @@ pub mod BitLaws
 pub mod CellSteps
 pub mod Headers
 pub mod ViewLaws
+pub mod Differing
 pub mod MemoryImages

@@ -9,4 +9,13 @@ pub size_of : (m : MemView) → HasShape (state_of m).view.shape.geometry (state
 size_of m = m.now.file
 
 pub images_of : (m : MemView) → IsTrue (state_of m).told → AreImages (state_of m)
-images_of m told = record { start = m.began; now = m.now; shown = m.now; taken = λ r mine p i j here low guarded. refl; before = λ r mine p i j here low guarded. refl }
+images_of m told = record {
+  start = m.began;
+  now = m.now;
+  first = m.began;
+  shown = m.now;
+  taken = λ r mine p i j here low guarded. refl;
+  before = λ r mine p i j here low guarded. refl;
+  moved = m.only;
+  written = m.only;
+}

@@ -5,7 +5,7 @@ use Rattle.spec_file.specs.declared.data.Resource.{Resource}
 use Rattle.spec_file.specs.Image.{Image, page}
 use Rattle.spec_words.specs.Takes.{is_among}
 use Rattle.spec_words.specs.Views.{View}
-use Rattle.law_net.specs.Files.{IsImageOf}
+use Rattle.law_net.specs.Files.{IsImageOf, DifferUnder}
 use Rattle.db_locks.specs.Guards.{AgreeUnder}
 
 -- the device's failures so far; what the statement's transaction sees, holds and takes; the pages as they are shown, which
@@ -19,13 +19,17 @@ pub record PlanState : Type 0 where
   pub first : Image
   pub put : List PageNo
 
--- the pages that are told are those of the file; and what the statement took is shown as it is seen, now and before
+-- the pages that are told are those of the file; what the statement took is shown as it is seen, now and before; and
+-- neither what is seen nor what is shown changed but where it took what guards it
 pub record AreImages (state : PlanState) : Type 0 where
   pub start : IsImageOf state.view.shape state.view.start
   pub now : IsImageOf state.view.shape state.view.now
+  pub first : IsImageOf state.view.shape state.first
   pub shown : IsImageOf state.view.shape state.shown
   pub taken : (r : Resource) → is_among state.view.taken r ≡ true → (p : ℕ) → AgreeUnder r state.view.shape p (page state.shown p) (page state.view.now p)
   pub before : (r : Resource) → is_among state.view.taken r ≡ true → (p : ℕ) → AgreeUnder r state.view.shape p (page state.first p) (page state.view.start p)
+  pub moved : ∥ DifferUnder state.view.shape state.view.taken state.view.start state.view.now ∥₁
+  pub written : ∥ DifferUnder state.view.shape state.view.taken state.first state.shown ∥₁
 
 -- pages that rise, with one more
 abbrev pub with_page : PageNo → List PageNo → List PageNo

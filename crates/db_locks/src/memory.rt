@@ -6,7 +6,7 @@ ghost use Rattle.spec_file.specs.Places.{HasShape};
 ghost use Rattle.spec_words.specs.Views.{beginning};
 ghost use Rattle.spec_log.specs.Items.{is_same as same_resource};
 ghost use Rattle.spec_words.specs.Takes.{in_order as takes_in_order, is_among, comes_before as before_resource, with_resource};
-ghost use Rattle.law_net.specs.Files.{IsImageOf};
+ghost use Rattle.law_net.specs.Files.{IsImageOf, DifferUnder};
 ghost use Rattle.db_locks.specs.MemImages.{shape_of, image_of, DifferWherePut};
 ghost use Rattle.db_locks.specs.States.{are_rising, with_page};
 ghost use Rattle.db_locks.specs.Locks.{others_of};
@@ -118,6 +118,7 @@ pub struct MemView {
     in_order: Vec<Resource>,
     ghost now: { IsImageOf (shape_of geometry version pages.items) (image_of pages.items) },
     ghost began: { IsImageOf (shape_of geometry version pages.items) (image_of first.items) },
+    ghost only: { ∥ DifferUnder (shape_of geometry version pages.items) taken.items (image_of first.items) (image_of pages.items) ∥₁ },
     ghost differ: { DifferWherePut put.items (image_of first.items) (image_of pages.items) },
     ghost rising: { are_rising put.items ≡ true },
     ghost ordered: { in_order.items ≡ takes_in_order taken.items },
@@ -204,6 +205,10 @@ impl PlanPages for MemView {
 
     fn before(&self, p: PageNo, into: &mut Page) {
         copy(&self.first, p.0 as usize, into);
+    }
+
+    fn after(&self, p: PageNo, into: &mut Page) {
+        copy(&self.pages, p.0 as usize, into);
     }
 
     fn taken(&self) -> &[Resource] {

@@ -30,7 +30,8 @@ pub trait PlanPages {
     /// The file has whole extents, and no more pages than its geometry allows.
     ghost size: { (v : Self) → HasShape (state v).view.shape.geometry (state v).view.shape.pages };
 
-    /// The pages that are told are those of the file, and what was taken is shown as it is seen.
+    /// The pages that are told are those of the file, what was taken is shown as it is seen, and nothing
+    /// else has changed.
     ghost images: { (v : Self) → IsTrue (state v).told → AreImages (state v) };
 
     /// Fills `into` with page `p` as it is shown. What `r` guards there is as the transaction sees it.
@@ -77,6 +78,11 @@ pub trait PlanPages {
     fn before(&self, p: PageNo, into: &mut Page)
         requires { Contains (state self.now).put p }
         ensures { IsTrue (state self.now).told → into.new.bytes ≡ page (state self.now).first p.0 };
+
+    /// Page `p` as it is shown, for a page that was put.
+    fn after(&self, p: PageNo, into: &mut Page)
+        requires { Contains (state self.now).put p }
+        ensures { IsTrue (state self.now).told → into.new.bytes ≡ page (state self.now).shown p.0 };
 
     /// What this statement took and its transaction didn't hold, in the order of takes.
     fn taken(&self) -> &[Resource]

@@ -36,7 +36,7 @@ some_weaker : (P Q : Resource → Type 0) (o : Option Resource) → ((r : Resour
 some_weaker P Q None w h = elim h [ ]
 some_weaker P Q (Some r) w h = w r h
 
-guarded_weaker : (P Q : Resource → Type 0) (shape : FileShape) (p i j : ℕ) → ((r : Resource) → P r → Q r) → IsGuardedBy P shape p i j → IsGuardedBy Q shape p i j
+pub guarded_weaker : (P Q : Resource → Type 0) (shape : FileShape) (p i j : ℕ) → ((r : Resource) → P r → Q r) → IsGuardedBy P shape p i j → IsGuardedBy Q shape p i j
 guarded_weaker P Q shape p i j w (inl h) = inl (some_weaker P Q (byte_guard shape.geometry shape.pages p i) w h)
 guarded_weaker P Q shape p i j w (inr h) = inr (h.0, some_weaker P Q (bit_guard shape.geometry shape.pages p (8 * (i - maps_start) + j)) w h.1)
 

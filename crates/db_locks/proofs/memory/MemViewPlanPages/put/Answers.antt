@@ -1,14 +1,16 @@
 use Rattle.std.proofs.Common.{ℕ, ◌<◌, List, length, arith, refl, ap, sym, subst, ◌∙◌}
 use Rattle.std.specs.Prelude.{slice_set}
 use Rattle.std.proofs.lemmas.List.{length-map}
+use Rattle.std.proofs.Math.Logic.{∥∥₁_map}
 use Rattle.spec_file.specs.declared.data.PageNo.{PageNo}
 use Rattle.spec_file.specs.Image.{Image, page}
 use Rattle.pg_base.specs.declared.page.Page.{Page}
-use Rattle.law_net.specs.Files.{IsImageOf}
+use Rattle.law_net.specs.Files.{IsImageOf, DifferUnder}
 use Rattle.db_locks.specs.MemImages.{shape_of, image_of, DifferWherePut}
 use Rattle.db_locks.specs.Memory.{state_of}
 use Rattle.db_locks.proofs.CellSteps.{seen_long}
 use Rattle.db_locks.proofs.ViewLaws.{page_put}
+use Rattle.db_locks.proofs.Differing.{page_differs}
 use Rattle.db_locks.proofs.MemoryImages.{carried_whole, image_put, image_of_more, differ_put, rise_put}
 use Rattle.db_locks.specs.States.{are_rising}
 use Rattle.db_locks.proofs.memory.MemViewPlanPages.put.Goals as goal
@@ -23,6 +25,10 @@ invariant_of-self-in-Ok c =
     record {
       now = image_of_more shape _ _ c.replace.ensures.len (subst (λ (m : Image). IsImageOf shape m) (sym c.replace.ensures.image) (image_put shape (image_of old.pages.items) c.args.p.0 c.args.from.now.bytes c.is_whole.ensures.long c.is_whole.ensures.bytes old.now));
       began = image_of_more shape _ _ c.replace.ensures.len old.began;
+      only = ∥∥₁_map old.only (λ differ.
+          subst (λ n. DifferUnder (record { geometry = old.geometry; version = old.version; pages = n }) old.taken.items (image_of old.first.items) (image_of c.replace.new.pages.items)) (sym c.replace.ensures.len)
+          (subst (λ (m : Image). DifferUnder shape old.taken.items (image_of old.first.items) m) (sym c.replace.ensures.image)
+          (page_differs shape old.taken.items (image_of old.first.items) (image_of old.pages.items) c.args.p.0 c.args.from.now.bytes here differ (c.requires.guarded refl))));
       differ = subst (λ (m : Image). DifferWherePut c.add_page.new.list.items (image_of old.first.items) m) (sym c.replace.ensures.image)
           (subst (λ (put : List PageNo). DifferWherePut put (image_of old.first.items) (slice_set (image_of old.pages.items) c.args.p.0 c.args.from.now.bytes)) (sym c.in-Ok.ensures.ok)
           (differ_put old.put.items (image_of old.first.items) (image_of old.pages.items) c.args.p c.args.from.now.bytes here old.differ));

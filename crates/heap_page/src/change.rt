@@ -3,7 +3,7 @@ ghost use Rattle.std.specs.Prelude.{◌≡◌, ◌++◌, ◌<◌, ◌≤◌, IfO
 ghost use Rattle.spec_plan.specs.Changes as spec;
 ghost use Rattle.heap_page.specs.Spans.{changes_of_byte};
 
-use crate::span::{Span, differing_span};
+use crate::span::differing_span;
 use pg_base::{MAPS_START, NoMemory, PAGE_SIZE, Page, PageNo};
 use spec_log::{Cell, Values};
 use spec_plan::Planned;
@@ -24,6 +24,24 @@ pub fn page_changes(
     with_page_changes(alloc, Vec::with_capacity(alloc, 3)?, p, old, new, slots)
 }
 
+/// Adds the net changes of page p: rows, slots, header, each from the first to the last byte that differs.
+pub fn add_page_changes(
+    alloc: Global,
+    changes: &mut Vec<Planned>,
+    p: PageNo,
+    old: &Page,
+    new: &Page,
+    slots: u16,
+) -> Result<(), NoMemory>
+    requires { slots ≤ SLOT_LIMIT }
+    ensures { OnOk result (changes.new.items ≡ changes.old.items ++ spec.page_changes p.0 old.now.bytes new.now.bytes slots) }
+{
+    let slots_from = PAGE_SIZE - 2 * slots as usize;
+    add_part_change(alloc, changes, p, old, new, MAPS_START, slots_from)?;
+    add_part_change(alloc, changes, p, old, new, slots_from, PAGE_SIZE)?;
+    add_part_change(alloc, changes, p, old, new, 0, MAPS_START)
+}
+
 /// Changes, and behind them the net changes of page p.
 pub fn with_page_changes(
     alloc: Global,
@@ -36,15 +54,12 @@ pub fn with_page_changes(
     requires { slots ≤ SLOT_LIMIT }
     ensures { IfOk result (λ all. all.items ≡ changes.items ++ spec.page_changes p.0 old.now.bytes new.now.bytes slots) }
 {
-    let slots_from = PAGE_SIZE - 2 * slots as usize;
-    add_change(alloc, &mut changes, p, old, new, MAPS_START, slots_from)?;
-    add_change(alloc, &mut changes, p, old, new, slots_from, PAGE_SIZE)?;
-    add_change(alloc, &mut changes, p, old, new, 0, MAPS_START)?;
+    add_page_changes(alloc, &mut changes, p, old, new, slots)?;
     Ok(changes)
 }
 
-// Adds the change of one part of a page, where any of its bytes differs.
-fn add_change(
+/// Adds the change of one part of page p, from the first to the last byte that differs, where any does.
+pub fn add_part_change(
     alloc: Global,
     changes: &mut Vec<Planned>,
     p: PageNo,
@@ -58,31 +73,32 @@ fn add_change(
     ensures { OnOk result (changes.new.items ≡ changes.old.items ++ spec.change_between p.0 old.now.bytes new.now.bytes lo hi) }
 {
     if let Some(span) = differing_span(old, new, lo, hi) {
-        let change = bytes_change(alloc, p, old, new, span)?;
+        let change = bytes_change(alloc, p, old, new, span.from, span.to)?;
         changes.push(change)?;
     }
     Ok(())
 }
 
-// The change of these bytes of a page.
-fn bytes_change(
+/// The change of page p from one byte to before another.
+pub fn bytes_change(
     alloc: Global,
     p: PageNo,
     old: &Page,
     new: &Page,
-    span: Span,
+    from: usize,
+    to: usize,
 ) -> Result<Planned, NoMemory>
-    requires order { span.from ≤ span.to }
-    requires end { span.to ≤ PAGE_SIZE }
-    ensures { IfOk result (λ change. change ≡ spec.bytes_change p.0 old.now.bytes new.now.bytes span.from span.to) }
+    requires order { from ≤ to }
+    requires end { to ≤ PAGE_SIZE }
+    ensures { IfOk result (λ change. change ≡ spec.bytes_change p.0 old.now.bytes new.now.bytes from to) }
 {
     Ok(Planned {
         cell: Cell::Bytes {
             page: p,
-            off: span.from as u32,
+            off: from as u32,
         },
-        before: Values::copied(alloc, &old.bytes[span.from..span.to])?,
-        after: Values::copied(alloc, &new.bytes[span.from..span.to])?,
+        before: Values::copied(alloc, &old.bytes[from..to])?,
+        after: Values::copied(alloc, &new.bytes[from..to])?,
     })
 }
 

@@ -6,5 +6,7 @@ mod change;
 mod page;
 mod span;
 
-pub use change::{byte_change, page_changes, with_page_changes};
+pub use change::{
+    add_page_changes, add_part_change, byte_change, bytes_change, page_changes, with_page_changes,
+};
 pub use page::{has_room, heap_row, is_heap_page, put_row};

@@ -1,0 +1,12 @@
+pub mod Ranges
+pub mod Alike
+pub mod AlikeBytes
+pub mod AlikePages
+pub mod AlikeTakes
+pub mod Views
+pub mod BitLaws
+pub mod RunLaws
+pub mod MapLaws
+pub mod PutLaws
+pub mod PageLaws
+pub mod WholeLaws

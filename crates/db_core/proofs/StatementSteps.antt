@@ -1,16 +1,16 @@
 -- What a view keeps through its calls.
-use Rattle.std.proofs.Common.{◌≡◌, ℕ, ◌<◌, true, List, [], ◌∷◌, length, None, refl, sym, ap, ◌∙◌, subst, arith, inl, inr, All}
+use Rattle.std.proofs.Common.{◌≡◌, ℕ, ◌<◌, true, List, ◌∷◌, length, None, refl, sym, ap, ◌∙◌, subst, arith, inl, inr, All}
 use Rattle.std.specs.Prelude.{slice_index, slice_set, Result, Ok, Err, OnOk, OnErr, take as front}
 use Rattle.std.specs.List.{list_any}
 use Rattle.std.proofs.lemmas.Bool.{or_cases}
 use Rattle.spec_file.specs.declared.data.PageNo.{PageNo}
 use Rattle.spec_file.specs.declared.data.Resource.{Resource}
-use Rattle.spec_file.specs.Image.{Image, page, page_size, maps_start}
+use Rattle.spec_file.specs.Image.{Image, page, maps_start}
 use Rattle.spec_log.specs.Items.{is_same}
 use Rattle.pg_base.specs.declared.page.Page.{Page}
 use Rattle.spec_words.specs.NetChanges.{FileShape}
 use Rattle.spec_words.specs.Views.{View}
-use Rattle.law_net.specs.Files.{IsImageOf, DifferUnder}
+use Rattle.law_net.specs.Files.{DifferUnder}
 use Rattle.law_net.proofs.Takes.{same_resource}
 use Rattle.db_locks.specs.Guards.{DifferOnPage, tells_header}
 use Rattle.db_locks.specs.States.{with_page}
@@ -18,7 +18,7 @@ use Rattle.db_locks.proofs.Differing.{page_differs}
 use Rattle.db_locks.proofs.MemoryImages.{with_page-cases, rise_put}
 use Rattle.db_core.specs.declared.statement_view.StatementView.{StatementView}
 use Rattle.db_core.specs.SeenPages.{with_pages, ArePut, AreFree, IsWholePage}
-use Rattle.db_core.specs.SeenLaws.{byte_shown, seen_page}
+use Rattle.db_core.specs.SeenLaws.{byte_shown, page_long, seen_page}
 use Rattle.db_core.specs.PutLaws.{with_long}
 use Rattle.db_core.specs.StatementViews.{shown_of, state_of}
 use Rattle.db_core.specs.StatementViewLaws.{header_by, images_of}
@@ -64,9 +64,6 @@ differ_or_not (Ok _) shape taken image p bytes put new pages after inside here m
     (page_differs shape taken image (with_pages put pages image) p.0 bytes (subst (λ n. p.0 < n) (sym (with_long put pages image)) inside) differ here)
 differ_or_not (Err _) shape taken image p bytes put new pages after inside here more same kept differ =
     subst (λ l. DifferUnder shape taken image (with_pages l after image)) (sym same) (subst (λ l. DifferUnder shape taken image (with_pages put l image)) (sym kept) differ)
-
-page_long : (shape : FileShape) (image : Image) (p : ℕ) → IsImageOf shape image → p < shape.pages → length (page image p) ≡ page_size
-page_long shape image p is lt = is.whole p [] (subst (λ n. p < n) (sym is.pages) lt)
 
 -- the header of a page is seen as it is shown, by whoever is told of it
 pub header_seen : (v : StatementView) (r : Resource) (p : ℕ) → (state_of v).view.other r ≡ None → p < (state_of v).view.shape.pages →

@@ -11,7 +11,7 @@ use Rattle.pg_base.specs.declared.page.Page.{Page}
 use Rattle.spec_words.specs.NetChanges.{FileShape}
 use Rattle.law_net.specs.Files.{IsImageOf}
 use Rattle.db_locks.specs.States.{begins_above, are_rising, with_page}
-use Rattle.db_locks.proofs.MemoryImages.{Contains-cons_cases, image_put}
+use Rattle.db_locks.proofs.MemoryImages.{Contains-head, Contains-tail, Contains-cons_cases, image_put}
 use Rattle.db_core.specs.SeenPages.{with_pages, IsWholePage, StandsAt, FitsAt}
 
 pub stands_inside : (p : PageNo) (put : List PageNo) (k : ℕ) → StandsAt p put k → k < length put
@@ -129,19 +129,13 @@ not_put p (q ∷ rest) (suc k) rising s h =
       | inr r ↦ not_put p rest k parts.1 s.1 r
     ]
 
-first_of_all : (q : PageNo) (rest : List PageNo) → Contains (q ∷ rest) q
-first_of_all q rest = (0, omega arith, refl)
-
-one_of_others : (q p : PageNo) (rest : List PageNo) → Contains rest p → Contains (q ∷ rest) p
-one_of_others q p rest h = let lt = h.1 in (suc h.0, omega (arith, lt), h.2)
-
 -- a page that wasn't put is shown as it was
 pub shown_other : (p : PageNo) (put : List PageNo) (pages : List Page) (image : Image) → (Contains put p → ⊥) → page (with_pages put pages image) p.0 ≡ page image p.0
 shown_other p [] pages image other = refl
 shown_other p (q ∷ rest) [] image other = refl
 shown_other p (q ∷ rest) (y ∷ pages) image other =
-    get_or-set_other (with_pages rest pages image) q.0 p.0 y.bytes [] (λ e. other (subst (λ (z : PageNo). Contains (q ∷ rest) z) (sym (ap (λ n. record { 0 = n }) e)) (first_of_all q rest)))
-    ∙ shown_other p rest pages image (λ h. other (one_of_others q p rest h))
+    get_or-set_other (with_pages rest pages image) q.0 p.0 y.bytes [] (λ e. other (subst (λ (z : PageNo). Contains (q ∷ rest) z) (sym (ap (λ n. record { 0 = n }) e)) (Contains-head q rest)))
+    ∙ shown_other p rest pages image (λ h. other (Contains-tail q rest p h))
 
 rest_whole : (x : Page) (pages : List Page) → All IsWholePage (x ∷ pages) → All IsWholePage pages
 rest_whole x pages whole k d lt = whole (suc k) d (omega (arith, lt))
@@ -197,12 +191,6 @@ pub fits_behind : (p : PageNo) (put : List PageNo) (k : ℕ) (d : PageNo) → Be
 fits_behind p put k d below behind inside differ = fits_from p put k d below inside (λ lt.
     let low = ltb-false (slice_index_or put k d).0 p.0 (behind k d (omega arith) lt) in
     omega (arith, low, differ))
-
--- a page that was put stands somewhere
-pub stands_among : (p : PageNo) (put : List PageNo) (k : ℕ) → StandsAt p put k → Contains put p
-stands_among p [] k s = absurd s
-stands_among p (q ∷ rest) zero s = subst (λ (z : PageNo). Contains (q ∷ rest) z) (ap (λ n. record { 0 = n }) s) (first_of_all q rest)
-stands_among p (q ∷ rest) (suc k) s = one_of_others q p rest (stands_among p rest k s.1)
 
 -- ---- a page is put for the first time, or there was no memory
 

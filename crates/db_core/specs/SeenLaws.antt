@@ -138,7 +138,7 @@ seen_put first shown start p from inside same =
 
 -- ---- images of one file
 
-page_long : (shape : FileShape) (image : Image) (p : ℕ) → IsImageOf shape image → p < shape.pages → length (page image p) ≡ page_size
+pub page_long : (shape : FileShape) (image : Image) (p : ℕ) → IsImageOf shape image → p < shape.pages → length (page image p) ≡ page_size
 page_long shape image p is lt = is.whole p [] (subst (λ n. p < n) (sym is.pages) lt)
 
 pub seen_image : (shape : FileShape) (first shown start : Image) → IsImageOf shape first → IsImageOf shape shown → IsImageOf shape start → IsImageOf shape (seen_pages first shown start)

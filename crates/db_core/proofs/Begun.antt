@@ -36,7 +36,8 @@ use Rattle.db_core.specs.States.{Db, left_in, TurnIn, entries_of, run_of, IsAt, 
 use Rattle.db_core.specs.Store.{run_is, log_of, left_at, db_of, AreProper, IsGood, IsTurn, SaysOut, Advanced, GoesNearer}
 use Rattle.db_core.specs.ViewLaws.{get_within}
 use Rattle.db_core.proofs.Advances.{same_many}
-use Rattle.db_core.proofs.Good.{get_at, owed_low, sum_low, items_entries}
+use Rattle.law_pages.specs.Bytes.{HasPagesOfBytes}
+use Rattle.db_core.proofs.Good.{get_at, owed_low, sum_low, items_entries, same_bytes}
 use Rattle.db_core.proofs.Replays.{run_then, less_left}
 
 -- one more session, for one more script
@@ -165,6 +166,7 @@ scripts_hold P (script ∷ scripts) all (suc (suc s)) n st e =
 -- a state that has just begun
 pub record IsFresh (image : Image) (scripts : List (List Statement)) (st : State) : Type 0 where
   pub whole : HasWholePages image
+  pub bytes : HasPagesOfBytes image
   pub shape : HasShape Small (length image)
   pub few : length scripts ≤ 16
   pub short : AreShort scripts
@@ -239,6 +241,7 @@ good_fresh image scripts st fresh =
       proper = subst AreProper (sym (of_run ∙ setting_fresh image scripts st fresh)) (scripts_hold (λ x. is_statement x ≡ true) scripts fresh.proper);
       all_low = omega (arith, all);
       size_low = omega (arith, size);
+      bytes = same_bytes run (run_is st) [] (log_of st) of_run (log_fresh image scripts st fresh) (record { pages = fresh.bytes; items = tt });
     }
 
 -- the items before others have their form where all have it

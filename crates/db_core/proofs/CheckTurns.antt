@@ -31,7 +31,7 @@ use Rattle.db_core.proofs.Told.{told_step, idle_told, turn_belongs}
 use Rattle.db_core.proofs.CheckSteps.{checking_due, check_comes, check_ends, end_opens}
 use Rattle.db_core.proofs.Backwards.{back_session, back_falls}
 use Rattle.db_core.proofs.BackFits.{back_fits}
-use Rattle.db_core.proofs.Good.{get_below, get_put, get_same, sum_set, run_same, items_entries, IsMid, IsStep}
+use Rattle.db_core.proofs.Good.{get_below, get_put, get_same, sum_set, run_same, items_entries, IsMid, IsStep, same_bytes}
 use Rattle.db_core.proofs.GoOn.{items_are}
 use Rattle.db_core.proofs.Left.{leaves_others}
 
@@ -121,6 +121,7 @@ back_good old new k x y good here b mid items all_same size_same =
         proper = subst AreProper (sym run_new) good.proper;
         all_low = subst (λ n. n ≤ 524288) (sym all_same) good.all_low;
         size_low = subst (λ n. n ≤ 268435456) (sym size_same) good.size_low;
+        bytes = same_bytes run (run_is new) log (log_of new) run_new log_new good.bytes;
       };
       turn = (
         run_new,

@@ -21,6 +21,7 @@ use Rattle.law_run.proofs.Fresh.{started_below}
 use Rattle.law_run.proofs.Legal.{legal_is_sound}
 use Rattle.spec_run.specs.Entries.{items_of}
 use Rattle.spec_run.specs.Begun.{Setting}
+use Rattle.law_pages.specs.Bytes.{PutsBytes, IsOfBytes}
 use Rattle.spec_run.specs.Progress.{work_of, MayCome}
 use Rattle.spec_run.specs.Turns.{Appends}
 use Rattle.db_core.specs.declared.session.Session.{Session}
@@ -152,6 +153,14 @@ append_turn old new s item run log comes = (
   Appends item (subst (λ l. MayCome (work_of (run_is old) s l) item) (sym (items_entries (log_of old))) comes) (ap entries_of log),
 )
 
+-- one item of bytes more, or none
+pub more_bytes : (old new : Setting) (log longer : List Record) (item : Record) → new ≡ old → longer ≡ item ∷ log → PutsBytes item → IsOfBytes old log → IsOfBytes new longer
+more_bytes old new log longer item run_new log_new puts is =
+    subst (λ r. IsOfBytes r longer) (sym run_new) (subst (IsOfBytes old) (sym log_new) (record { pages = is.pages; items = (puts, is.items) }))
+
+pub same_bytes : (old new : Setting) (log same : List Record) → new ≡ old → same ≡ log → IsOfBytes old log → IsOfBytes new same
+same_bytes old new log same run_new log_new is = subst (λ r. IsOfBytes r same) (sym run_new) (subst (IsOfBytes old) (sym log_new) is)
+
 -- what the core keeps behind the item, but for the room
 pub stepped_good : (old mid new : State) (k : ℕ) (x y : Session) (after : Image) (item : Record) → IsGood old → slice_get old.sessions.items k ≡ Some x → IsMid k y after old mid →
     IsStep (run_is old) (log_of old) (k + 1) y old.frames after item mid.all mid.size → mid.all ≤ 524288 → mid.size ≤ 268435456 →
@@ -198,6 +207,7 @@ stepped_good old mid new k x y after item good here mid_is step all_low size_low
       proper = subst AreProper (sym run_new) good.proper;
       all_low = subst (λ n. n ≤ 524288) (sym all_new) all_low;
       size_low = subst (λ n. n ≤ 268435456) (sym size_new) size_low;
+      bytes = more_bytes (run_is old) (run_is new) (log_of old) (log_of new) item run_new log_new set.bytes good.bytes;
     }
 
 -- and the turn

@@ -28,3 +28,6 @@ pub mod Replays
 pub mod Begun
 pub mod SnapTurns
 pub mod Reports
+pub mod HeaderGuards
+pub mod NewTakes
+pub mod StatementSteps

@@ -25,7 +25,7 @@ use Rattle.db_core.specs.Rooms.{pending_of, started_of, owed_by, HasOwnRoom}
 use Rattle.db_core.specs.States.{whole_log, entries_of, IsAt, IsOpen, IsSession, IsState, IsSame, KeepsRoom}
 use Rattle.db_core.specs.Store.{AreProper, run_is, log_of, IsGood, LeavesOthers, Went}
 use Rattle.db_core.specs.Plans.{IsProper, IsByPlan, IsPlanned, used_now, exceeds, limited, changes_in, takes_in, HasRoomFor, IsWithin, IsReady, IsRoomier}
-use Rattle.db_core.proofs.Good.{get_below, get_put, get_same, sum_set, run_same}
+use Rattle.db_core.proofs.Good.{get_below, get_put, get_same, sum_set, run_same, same_bytes}
 use Rattle.db_core.proofs.Keeps.{get_set}
 use Rattle.db_core.proofs.Left.{leaves_others}
 use Rattle.db_core.proofs.PlanSteps.{want_of, used_is, passes_is}
@@ -140,6 +140,7 @@ roomier_good k old new x here r good =
       proper = subst AreProper (sym (roomier_run k old new r)) good.proper;
       all_low = subst (λ n. n ≤ 524288) (sym r.all_is) good.all_low;
       size_low = subst (λ n. n ≤ 268435456) (sym r.size_is) good.size_low;
+      bytes = same_bytes (run_is old) (run_is new) (log_of old) (log_of new) (roomier_run k old new r) (roomier_log k old new r) good.bytes;
     }
 
 pub roomier_others : (k : ℕ) (old new : State) (x : Session) → slice_get old.sessions.items k ≡ Some x → IsRoomier k old new → IsGood old → LeavesOthers k old new

@@ -37,7 +37,7 @@ use Rattle.db_core.proofs.Opens.{open_snap, open_end}
 use Rattle.db_core.proofs.Records.{IsBegun, begun_work, begun_comes}
 use Rattle.db_core.proofs.CheckSteps.{fresh_snapshot}
 use Rattle.db_core.proofs.BeginWord.{ends_room}
-use Rattle.db_core.proofs.Good.{count_is, get_below, get_put, get_same, part_of_sum, owed_low, sum_low, sum_set, run_same, items_entries, IsMid, IsStep, log_more, stepped_good, stepped_turn}
+use Rattle.db_core.proofs.Good.{count_is, get_below, get_put, get_same, part_of_sum, owed_low, sum_low, sum_set, run_same, items_entries, IsMid, IsStep, log_more, stepped_good, stepped_turn, more_bytes}
 use Rattle.db_core.proofs.GoOn.{room_behind}
 use Rattle.db_core.proofs.Left.{leaves_others}
 use Rattle.db_core.proofs.Stepped.{state_pages}
@@ -244,6 +244,7 @@ short_good st one mid two k before workers place x y snap last good here idle ne
         proper = subst AreProper (sym run_new) good.proper;
         all_low = subst (λ n. n ≤ 524288) (sym all_two) good.all_low;
         size_low = subst (λ n. n ≤ 268435456) (sym size_two) good.size_low;
+        bytes = more_bytes run (run_is two) (Snap s i ∷ log) (log_of two) (CheckEnd s i 3) run_new log_new tt (more_bytes run run log (Snap s i ∷ log) (Snap s i) refl refl tt good.bytes);
       };
       turn = (run_new, AtOnce i (subst (λ l. MayCome (work_of run s l) (Snap s i)) (sym (items_entries log)) may_snap) (ap entries_of log_new));
       others = leaves_others st two k y (snap ∷ (last ∷ [])) good (items_are_now ∙ append_assoc st.items.items (snap ∷ []) (last ∷ [])) sessions_are;

@@ -12,3 +12,8 @@ pub mod Checks
 pub mod Runs
 pub mod Replays
 pub mod Reports
+pub mod SeenPages
+pub mod SeenLaws
+pub mod PutLaws
+pub mod StatementViews
+pub mod StatementViewLaws

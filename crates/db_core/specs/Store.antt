@@ -11,6 +11,7 @@ use Rattle.spec_script.specs.declared.statement.Statement.{Statement}
 use Rattle.spec_script.specs.Lines.{is_statement}
 use Rattle.spec_run.specs.Turns.{Turn}
 use Rattle.spec_file.specs.Places.{HasShape}
+use Rattle.law_pages.specs.Bytes.{PutsBytes, IsOfBytes}
 use Rattle.db_core.specs.declared.session.Doing.TheVariants.{Idle}
 use Rattle.db_core.specs.declared.session.Session.{Session}
 use Rattle.db_core.specs.declared.state.State.{State}
@@ -39,7 +40,8 @@ db_of st = record { run = run_is st; entries = entries_of (log_of st); left = ma
 abbrev pub AreProper : Setting → Type 0
 AreProper run = (s n : ℕ) (st : Statement) → slice_get (script_of run.scripts s) n ≡ Some st → is_statement st ≡ true
 
--- the state is that of the history, there is room for what is begun, and no sum passes a limit
+-- the state is that of the history, there is room for what is begun, no sum passes a limit, and all that was put is of
+-- bytes
 pub record IsGood (st : State) : Type 0 where
   pub state : IsState (run_is st) (log_of st) st.frames st.sessions.items st.last st.all st.size
   pub room : vec_len st.items + st.owed ≤ vec_capacity st.items
@@ -51,6 +53,7 @@ pub record IsGood (st : State) : Type 0 where
   pub proper : AreProper (run_is st)
   pub all_low : st.all ≤ MOST_ITEMS / 2
   pub size_low : st.size ≤ MOST_BYTES
+  pub bytes : IsOfBytes (run_is st) (log_of st)
 
 -- a turn of a session, from one state to the next
 abbrev pub IsTurn : ℕ → State → State → Type 0
@@ -87,6 +90,7 @@ pub record IsSettled (at before : ℕ) (item : Record) (x : Session) (old new : 
   pub all_is : new.all ≡ old.all
   pub size_is : new.size ≡ old.size
   pub owed : new.owed ≡ old.owed - before + owed_by x
+  pub bytes : PutsBytes item
 
 -- each other session has as many turns left as before
 abbrev pub LeavesOthers : ℕ → State → State → Type 0

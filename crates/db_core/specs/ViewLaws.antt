@@ -47,7 +47,7 @@ get_within [] k lt = absurd (omega (arith, lt))
 get_within (x ∷ xs) zero lt = (x, refl)
 get_within (x ∷ xs) (suc k) lt = get_within xs k (omega (arith, lt))
 
-right_of : (st : State) → IsGood st → IsRight (run_is st) (log_of st)
+pub right_of : (st : State) → IsGood st → IsRight (run_is st) (log_of st)
 right_of st good = legal_right (run_is st) (log_of st) good.state.start good.state.legal
 
 -- the session's transaction is none, or unfinished and of this run
@@ -76,7 +76,7 @@ ongoing_of st o good opens = by_session o opens
       | inr p ↦ (p.1.is_new, not-true (has_ended (whole_log (run_is st) (log_of st)) x.tran) (unfinished_parts (whole_log (run_is st) (log_of st)) x.tran p.1.unfinished).not_ended)
     ]
 
-tran_ongoing : (st : State) (at : ℕ) → IsGood st → IsOngoing (run_is st).opened (log_of st) (tran_at st.sessions.items at)
+pub tran_ongoing : (st : State) (at : ℕ) → IsGood st → IsOngoing (run_is st).opened (log_of st) (tran_at st.sessions.items at)
 tran_ongoing st at good =
     ongoing_of st (slice_get st.sessions.items at) good (λ x e. elim (tran_opens st at x good e) [ inl none ↦ inl none | inr o ↦ inr (at + 1, o) ])
 

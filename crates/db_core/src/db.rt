@@ -21,6 +21,7 @@ ghost use Rattle.spec_log.specs.declared.item.Record.{Record as AnyRecord};
 use crate::TurnOut;
 use crate::advance::advance;
 use crate::begin::{room_for_all, sessions_of};
+use crate::bytes::are_of_bytes;
 use crate::replay::{finish_all, run_schedule};
 use crate::state::State;
 use spec_file::NoMemory;
@@ -63,6 +64,7 @@ impl Core {
         requires proper { (k n : ℕ) (script : List AnyStatement) (st : AnyStatement) → slice_get (map (λ s. s.items) scripts.items) k ≡ Some script → slice_get script n ≡ Some st → is_statement st ≡ true }
         ensures { IfOk result (λ core. (core.run ≡ setting_of frames (map (λ s. s.items) scripts.items)) × (core.entries ≡ []) × ((s : ℕ) → left_in core s ≡ 0)) }
     {
+        are_of_bytes(&frames);
         let sessions = sessions_of(alloc, scripts)?;
         let mut items = Vec::new(alloc);
         let owed = room_for_all(&mut items, &sessions)?;

@@ -5,6 +5,7 @@
 mod advance;
 mod back;
 mod begin;
+mod bytes;
 mod checks;
 mod db;
 mod out;
@@ -14,6 +15,7 @@ mod session;
 mod stage;
 mod starts;
 mod state;
+mod statement_view;
 mod steps;
 mod turns;
 mod view;

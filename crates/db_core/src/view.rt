@@ -23,21 +23,21 @@ pub struct TranView<'a> {
 }
 
 /// Both are the same resource.
-fn is_same(r: Resource, s: Resource) -> bool
+pub fn is_same(r: Resource, s: Resource) -> bool
     ensures { result ≡ same_resource r s }
 {
     r == s
 }
 
 /// The resource is one of these.
-fn contains(held: &[Resource], r: Resource) -> bool
+pub fn contains(held: &[Resource], r: Resource) -> bool
     ensures { result ≡ list_any (same_resource r) held.now }
 {
     held.iter().any(|s| is_same(r, *s))
 }
 
 /// Whether the session's transaction holds a resource.
-fn holds(session: &Session, r: Resource) -> bool
+pub fn holds(session: &Session, r: Resource) -> bool
     ensures { result ≡ has_held session.now r }
 {
     session.tran != 0 && contains(&session.held, r)
@@ -51,7 +51,7 @@ fn holds_as_other(session: &Session, r: Resource, t: u64) -> bool
 }
 
 /// The transaction other than t that holds a resource.
-fn holder_among(sessions: &[Session], r: Resource, t: u64) -> Option<Tran>
+pub fn holder_among(sessions: &[Session], r: Resource, t: u64) -> Option<Tran>
     ensures { result ≡ option_map (λ x. record { 0 = x.tran }) (find (holds_beside r t) sessions.now) }
 {
     sessions

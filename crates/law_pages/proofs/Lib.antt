@@ -1,2 +1,4 @@
 pub mod Sessions
 pub mod Pages
+pub mod Agreement
+pub mod Bytes

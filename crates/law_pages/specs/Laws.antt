@@ -1,16 +1,20 @@
 -- What a statement may take from the file and from the sessions, in place of the log's images and holders.
-use Rattle.std.specs.Prelude.{◌≡◌, ◌≢◌, ◌≤◌, ◌↔◌, ◌==◌, ◌&&◌, not, MatchOption, ℕ, Bool, true, List, length, Contains, find, Option, Some, option_map}
+use Rattle.std.specs.Prelude.{◌≡◌, ◌≢◌, ◌<◌, ◌≤◌, ◌↔◌, ◌==◌, ◌&&◌, not, MatchOption, ℕ, Bool, true, List, ◌++◌, length, slice_index, Contains, find, Option, Some, None, option_map}
+use Rattle.std.specs.Int.{bit_at}
 use Rattle.spec_file.specs.declared.data.Resource.{Resource}
 use Rattle.spec_file.specs.declared.geometry.Geometry.{Geometry}
+use Rattle.spec_file.specs.Image.{page, maps_start}
 use Rattle.spec_log.specs.declared.item.Record.{Record}
 use Rattle.spec_log.specs.Log.{is_unfinished, holds, holder_of}
 use Rattle.spec_log.specs.Cells.{HasWholePages}
-use Rattle.spec_log.specs.Images.{final_image}
+use Rattle.spec_log.specs.Cover.{byte_guard}
+use Rattle.spec_log.specs.Images.{view_of, final_image}
 use Rattle.spec_log.specs.Rules.{KeepsRules}
 use Rattle.spec_log.specs.Sound.{IsSound}
 use Rattle.law_undo.specs.Laws.{IsOngoing}
 use Rattle.spec_plan.specs.Shown.{IsShown}
-use Rattle.spec_run.specs.Begun.{Setting}
+use Rattle.law_net.specs.Files.{IsGuardedBy}
+use Rattle.spec_run.specs.Begun.{Setting, shape_of}
 use Rattle.spec_run.specs.Sights.{sight_of}
 
 -- the file as it stands shows a transaction that hasn't ended its view, page by page
@@ -18,6 +22,19 @@ abbrev pub FileIsShown : Type 0
 FileIsShown = (run : Setting) (log : List Record) (t : ℕ) → IsSound run.geometry (length run.image) run.opened run.image log →
     HasWholePages run.image → 16 ≤ length run.image → IsOngoing run.opened log t →
     IsShown (sight_of run log t) (final_image run.opened log run.image)
+
+-- a resource that nobody else holds: the file has each bit that it guards as the transaction sees it
+abbrev pub FileAgreesUnder : Type 0
+FileAgreesUnder = (run : Setting) (log : List Record) (t : ℕ) (r : Resource) (p i j : ℕ) → IsSound run.geometry (length run.image) run.opened run.image log →
+    IsOngoing run.opened log t → holder_of (log ++ run.opened) r t ≡ None → IsGuardedBy (λ s. s ≡ r) (shape_of run) p i j →
+    bit_at (slice_index (page (final_image run.opened log run.image) p) i) j ≡ bit_at (slice_index (page (view_of t run.opened log run.image) p) i) j
+
+-- and so a byte of a page's header that nothing else guards
+abbrev pub HeadersAreShown : Type 0
+HeadersAreShown = (run : Setting) (log : List Record) (t : ℕ) (r : Resource) (p at : ℕ) → IsSound run.geometry (length run.image) run.opened run.image log →
+    IsOngoing run.opened log t → holder_of (log ++ run.opened) r t ≡ None → at < maps_start →
+    MatchOption (byte_guard run.geometry (length run.image) p at) (Unit {0}) (λ s. s ≡ r) →
+    slice_index (page (final_image run.opened log run.image) p) at ≡ slice_index (page (view_of t run.opened log run.image) p) at
 
 -- the log names u beside t exactly where u isn't t and holds the resource
 abbrev pub HolderIsExact : Type 0

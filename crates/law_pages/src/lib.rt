@@ -1,12 +1,25 @@
 //! Laws of what a statement reads: the pages of the file, and the locks of sessions.
 #![tactic(auto)]
 
-ghost use Rattle.law_pages.specs.Laws.{FileIsShown, HolderIsExact, HolderIsSession, FirstIsAmong};
+ghost use Rattle.law_pages.specs.Bytes.{ImagesAreOfBytes};
+ghost use Rattle.law_pages.specs.Laws.{FileIsShown, FileAgreesUnder, HeadersAreShown, HolderIsExact, HolderIsSession, FirstIsAmong};
 
 /// Wherever nobody else holds what guards a page or a PFS byte, the file has there what a transaction that
 /// hasn't ended sees.
 pub fn shown_law()
     ensures { FileIsShown }
+{}
+
+/// In all that a resource guards which nobody else holds, the file has what a transaction that hasn't ended
+/// sees; and in the header of a page that nothing else guards.
+pub fn agreement_law()
+    ensures bits { FileAgreesUnder }
+    ensures headers { HeadersAreShown }
+{}
+
+/// What changes of bytes make of a file of bytes is of bytes: the file as it stands, and every view.
+pub fn bytes_law()
+    ensures { ImagesAreOfBytes }
 {}
 
 /// The log names another holder exactly where one holds the resource.

@@ -34,6 +34,7 @@ state_of c = record {
 is_fresh : (c : goal.After-of-2) → IsFresh c.args.frames (map (λ s. s.items) c.args.scripts.items) (state_of c)
 is_fresh c = record {
   whole = c.requires.whole;
+  bytes = c.are_of_bytes.ensures;
   shape = c.requires.shape;
   few = subst (λ n. n ≤ 16) (sym (length-map c.args.scripts.items (λ s. s.items))) c.requires.few;
   short = c.requires.short;

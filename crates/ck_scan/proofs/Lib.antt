@@ -7,3 +7,4 @@ pub mod StartLaws
 pub mod KnownLaws
 pub mod TableLaws
 pub mod Reports
+pub mod ScanReports

@@ -1,7 +1,5 @@
 -- The reports of a file are its written check.
-use Rattle.std.proofs.Common.{◌≡◌, ◌↔◌, ◌⊎◌, ◌<◌, List, [], ◌∷◌, Contains, length, arith, sym, subst, refl, inl, inr, ⊎_elim, Option, Some, None, IfSome, IfOk, Result, Ok, Err}
-use Rattle.std.specs.Option.{ForSome}
-use Rattle.pg_base.specs.declared.reader.ReadStop.{ReadStop}
+use Rattle.std.proofs.Common.{◌≡◌, ◌↔◌, ◌⊎◌, ◌<◌, List, [], ◌∷◌, Contains, length, arith, sym, subst, refl, inl, inr, ⊎_elim, Option, Some, None, IfSome}
 use Rattle.ck_facts.specs.declared.map.AllocMap.{AllocMap}
 use Rattle.ck_facts.specs.MapOf.{IsMapOf}
 use Rattle.std.proofs.lemmas.Option.{same_Some}
@@ -80,15 +78,6 @@ told_if (Some y) P Q h f = f y refl h
 pub empty_list : (xs : List CheckError) → length xs ≡ 0 → xs ≡ []
 empty_list [] none = refl
 empty_list (x ∷ xs) none = absurd (omega (arith, none))
-
--- the answer of a check without system errors
-pub checked : (o : Option Image) (m : AllocMap) (r : Result CheckReport ReadStop) → HasNoSystemErrors m
-    → IfSome o (λ image. IsMapOf image m)
-    → IfOk r (λ report. ForSome o (λ image. IsMapOf image m → IsReportOfRules m.geometry image report))
-    → IfOk r (λ report. IfSome o (λ image. IsCheckOf m.geometry image report))
-checked o m (Ok report) sound told h = told_if o (λ image. IsMapOf image m) (λ image. IsCheckOf m.geometry image report) told
-    (λ x at of. check_of_rules m.geometry x m.system.items report sound of.system (h x at of))
-checked o m (Err stop) sound told h = tt
 
 -- what both lists have
 pub record Joins (both first second : List CheckError) : Type 0 where

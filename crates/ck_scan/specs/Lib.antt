@@ -4,3 +4,4 @@ pub mod Found
 pub mod Frames
 pub mod Lines
 pub mod PartsLaw
+pub mod Scans

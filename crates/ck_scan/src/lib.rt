@@ -5,11 +5,12 @@
 mod findings;
 mod frame;
 mod pages;
+mod report;
 mod scan;
 
 ghost use Rattle.ck_scan.specs.PartsLaw.{PartsShowTrees};
 
-pub use scan::scan_one;
+pub use scan::{Scan, scan_one};
 
 /// The facts of all pages that a check sees, taken in whatever order and pieces and in any number of parts, show
 /// exactly the image's errors of trees.

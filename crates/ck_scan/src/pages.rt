@@ -1,5 +1,5 @@
-// The pass over the pages that objects own, extent by extent, rising.
-ghost use Rattle.std.specs.Prelude.{◌≡◌, ℕ, ◌+◌, ◌/◌, ◌<◌, ◌≤◌, [], IfOk, OnOk, IsTrue, vec_len};
+// The pages of an extent that objects own.
+ghost use Rattle.std.specs.Prelude.{◌≡◌, ℕ, ◌+◌, ◌/◌, ◌<◌, OnOk, vec_len};
 ghost use Rattle.std.specs.Option.{ForSome};
 ghost use Rattle.pg_base.specs.Stops.{stop_of};
 ghost use Rattle.pg_base.specs.Reading.{OnlyReads};
@@ -7,7 +7,7 @@ ghost use Rattle.ck_error.specs.Gathered.{Below};
 ghost use Rattle.ck_facts.specs.Maps.{HasNoSystemErrors};
 ghost use Rattle.ck_facts.specs.MapOf.{IsMapOf};
 ghost use Rattle.ck_facts.specs.Owners.{IsOwnerIn};
-ghost use Rattle.ck_merge.specs.Held.{roots_in, roots_of};
+ghost use Rattle.ck_merge.specs.Held.{roots_in};
 ghost use Rattle.ck_scan.specs.Found.{AreFound, AddsPage};
 ghost use Rattle.ck_scan.specs.Frames.{IsFrameOf};
 
@@ -45,8 +45,8 @@ fn find_on_page<R: SnapReader>(
     Ok(())
 }
 
-// Takes what the pages of an extent show for the objects that own them.
-fn find_in_extent<R: SnapReader>(
+/// Takes what the pages of an extent show for the objects that own them.
+pub fn find_in_extent<R: SnapReader>(
     alloc: Global,
     reader: &mut R,
     map: &AllocMap,
@@ -70,25 +70,4 @@ fn find_in_extent<R: SnapReader>(
         find_on_page(alloc, reader, map, *owned, frame, found)?;
     }
     Ok(())
-}
-
-/// What all pages that objects own show.
-pub fn find_all<R: SnapReader>(
-    alloc: Global,
-    reader: &mut R,
-    map: &AllocMap,
-) -> Result<Findings, ReadStop>
-    requires count { R.pages reader.old ≡ map.now.pages }
-    requires sound { HasNoSystemErrors map.now }
-    ensures found { IfOk result (λ found. ForSome (R.image reader.old) (λ image. IsMapOf image map.now
-        → AreFound image map.now (Below (map.now.pages / 8) (IsOwnerIn map.now.geometry image)) found)) }
-    ensures roots { IfOk result (λ found. roots_in found.parts ≡ roots_of map.now.objects.items) }
-    ensures reads { OnlyReads R.SnapReader reader.old reader.new (stop_of result) }
-{
-    let mut frame = Frame::begin(alloc)?;
-    let mut found = Findings::begin(alloc, map)?;
-    for e in 0..map.extents() {
-        find_in_extent(alloc, reader, map, e, &mut frame, &mut found)?;
-    }
-    Ok(found)
 }

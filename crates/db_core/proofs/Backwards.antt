@@ -1,5 +1,5 @@
 -- A check that takes items back keeps its snapshot.
-use Rattle.std.proofs.Common.{◌≡◌, ℕ, ◌+◌, ◌-◌, ◌<◌, ◌≤◌, Bool, true, false, List, [], ◌∷◌, length, get_or, reverse, take, Some, ◌⊎◌, inl, inr, refl, sym, ap, ◌∙◌, subst, arith}
+use Rattle.std.proofs.Common.{◌≡◌, ℕ, ◌+◌, ◌-◌, ◌/◌, ◌<◌, ◌≤◌, Bool, true, false, List, [], ◌∷◌, length, get_or, reverse, take, Some, ◌⊎◌, inl, inr, refl, sym, ap, ◌∙◌, subst, arith}
 use Rattle.std.specs.Prelude.{if◌then◌else◌, slice_get}
 use Rattle.std.proofs.lemmas.List.{reverse-append, length-reverse, take_more, reverse-reverse}
 use Rattle.std.proofs.lemmas.Option.{slice_get-get_or, slice_get_within, slice_get_cases, get_or_from_slice_get}
@@ -15,11 +15,16 @@ use Rattle.spec_run.specs.Progress.{progress_of}
 use Rattle.spec_run.specs.Turns.{AreTold, told_to}
 use Rattle.db_core.specs.declared.session.Check.{Check}
 use Rattle.db_core.specs.declared.session.Doing.TheVariants.{Checking}
+use Rattle.db_core.specs.declared.session.Phase.{Phase}
+use Rattle.db_core.specs.declared.session.Phase.TheVariants as phases
 use Rattle.db_core.specs.declared.session.Session.{Session}
 use Rattle.db_core.specs.States.{whole_log, items_before, is_among, IsSnapshot, IsAt, IsOpen, IsSession}
-use Rattle.db_core.specs.Back.{first_back, without, MayGoBack, TakesLast, FindsNone, GoesBack, last_step, theirs_among, steps_left}
+use Rattle.db_core.specs.Back.{first_back, without, MayGoBack, TakesLast, FindsNone, GoesBack, theirs_among, steps_left}
+use Rattle.db_core.specs.Checks.{ReadsPages}
+use Rattle.db_core.specs.Reading.{is_back, IsPhaseOf, reads_left}
 use Rattle.db_core.proofs.CheckSteps.{checking_due}
 use Rattle.db_core.proofs.Left.{fewer_theirs}
+use Rattle.db_core.proofs.Phases.{all_left, reads_fewer, reads_phase, reads_behind}
 use Rattle.db_core.proofs.Stepped.{item_of}
 
 -- one item more, and it is the newest
@@ -51,8 +56,8 @@ pub went_back : (items : List Record) (old new : Check) (ongoing : List ℕ) (la
     ((image : Image) → without ongoing items old.place image ≡ without ongoing items last image) →
     (0 < last → (x : Record) → slice_get items (last - 1) ≡ Some x → is_among ongoing (tran_of x) ≡ true) →
     new.place ≡ last - 1 → ((x : Record) → slice_get items (last - 1) ≡ Some x → new.pages ≡ take_back (first_back items (last - 1)) x old.pages) →
-    new.point ≡ old.point → new.ongoing.items ≡ old.ongoing.items → new.undone ≡ old.undone → GoesBack items old new
-went_back items old new ongoing last is may low some same found place pages point keeps undone =
+    new.point ≡ old.point → new.ongoing.items ≡ old.ongoing.items → new.phase ≡ old.phase → GoesBack items old new
+went_back items old new ongoing last is may low some same found place pages point keeps phase =
     let inside = may.inside in
     let count : last ≡ new.place + 1 = omega (arith, place, some) in
     elim (slice_get_cases items (last - 1)).1 [
@@ -66,7 +71,7 @@ went_back items old new ongoing last is may low some same found place pages poin
           below = omega (arith, low, count);
           last = λ image. ap (λ o. without o items old.place image) (sym is) ∙ same image ∙ ap (λ o. without o items last image) is ∙ ap (λ n. without old.ongoing.items items n image) count;
           pages = pages p.0 p.2 ∙ ap (λ n. take_back (first_back items n) p.0 old.pages) (sym place);
-          undone = undone;
+          phase = phase;
         });
       }
       | inr q ↦ absurd (let past = q.0 in omega (arith, past, some, low, inside))
@@ -97,25 +102,37 @@ step_low : (items : List Record) (old new : Check) → TakesLast items old new �
 step_low items old new (inl t) = let below = t.below in omega (arith, below)
 step_low items old new (inr f) = let none = f.place in omega (arith, none)
 
-step_undone : (items : List Record) (old new : Check) → TakesLast items old new ⊎ FindsNone items old new → (old.undone ≡ true → old.place ≡ 0) → new.undone ≡ true → new.place ≡ 0
-step_undone items old new (inl t) before e = let none = before (sym t.undone ∙ e) in let below = t.below in omega (arith, none, below)
+step_undone : (items : List Record) (old new : Check) → TakesLast items old new ⊎ FindsNone items old new → (is_back old.phase ≡ false → old.place ≡ 0) → is_back new.phase ≡ false → new.place ≡ 0
+step_undone items old new (inl t) before e = let none = before (ap is_back (sym t.phase) ∙ e) in let below = t.below in omega (arith, none, below)
 step_undone items old new (inr f) before e = f.place
 
--- each step leaves a turn fewer, until the check knows that no item is left
-pub back_falls : (items : List Record) (old new : Check) → GoesBack items old new → old.undone ≡ false → steps_left items new < steps_left items old
+-- nothing is taken back from pages that are being read
+step_phase : (items : List Record) (old new : Check) → TakesLast items old new ⊎ FindsNone items old new → (is_back old.phase ≡ false → old.place ≡ 0) → IsPhaseOf new.pages new.phase
+step_phase items old new (inl t) before = subst (IsPhaseOf new.pages) (sym t.phase) (by_phase old.phase refl)
+  where
+    by_phase : (phase : Phase) → old.phase ≡ phase → IsPhaseOf new.pages phase
+    by_phase phases.Back e = tt
+    by_phase phases.Undone e = tt
+    by_phase (phases.Scanning map scan) e = absurd (let none = before (ap is_back e) in let below = t.below in omega (arith, none, below))
+step_phase items old new (inr f) before = subst (IsPhaseOf new.pages) (sym f.phase) tt
+
+-- each step leaves a turn fewer, while items are taken back
+pub back_falls : (items : List Record) (old new : Check) → GoesBack items old new → is_back old.phase ≡ true → steps_left items new < steps_left items old
 back_falls items old new back fresh = by_step back.step
   where
     by_step : TakesLast items old new ⊎ FindsNone items old new → steps_left items new < steps_left items old
     by_step (inl t) =
-        let same : last_step new.undone ≡ last_step old.undone = ap last_step t.undone in
+        let same : reads_left (length new.pages) new.phase ≡ reads_left (length old.pages) old.phase =
+        ap (reads_left (length new.pages)) t.phase ∙ ap (λ n. reads_left n old.phase) (step_long items old new (inl t)) in
         let theirs = ap (λ o. theirs_among o items new.place) back.ongoing in
         let fewer = fewer_theirs old.ongoing.items items new.place old.place t.item t.stands t.theirs t.below in
         omega (arith, same, theirs, fewer)
     by_step (inr f) =
-        let after : last_step new.undone ≡ 0 = ap last_step f.undone in
-        let before : last_step old.undone ≡ 1 = ap last_step fresh in
+        let after : reads_left (length new.pages) new.phase ≡ length new.pages / 8 + 1 = ap (reads_left (length new.pages)) f.phase in
+        let before : reads_left (length old.pages) old.phase ≡ length old.pages / 8 + 2 = all_left (length old.pages) old.phase fresh in
+        let long = step_long items old new (inr f) in
         let none : theirs_among new.ongoing.items items new.place ≡ 0 = ap (theirs_among new.ongoing.items items) f.place in
-        omega (arith, after, before, none)
+        omega (arith, after, before, long, none)
 
 -- a step keeps the snapshot
 pub back_keeps : (run : Setting) (log : List Record) (check next : Check) (telling : Telling) → IsSnapshot run log check telling → GoesBack (reverse (whole_log run log)) check next →
@@ -138,18 +155,48 @@ back_keeps run log check next telling snap back =
       reports = snap.reports ∙ ap (Reports check.point) same
           ∙ ap (λ n. Reports n (taken_back (is_unfinished (items_before run log n)) (first_back items next.place) next.pages)) (sym point);
       undone = step_undone items check next back.step snap.undone;
+      phase_is = step_phase items check next back.step snap.undone;
     }
 
--- the session behind a step
-pub back_session : (run : Setting) (log : List Record) (s : ℕ) (old new : Session) (check next : Check) → IsSession run log s old → old.doing ≡ Checking check →
-    GoesBack (reverse (whole_log run log)) check next → new.doing ≡ Checking next → new.script.items ≡ old.script.items → new.replies.items ≡ old.replies.items → new.tran ≡ old.tran →
+-- a turn that reads leaves a turn fewer
+pub read_falls : (items : List Record) (old new : Check) → ReadsPages old new → steps_left items new < steps_left items old
+read_falls items old new reads =
+    let fewer = reads_fewer old.pages old.phase new.phase reads.reads in
+    let long = ap (λ (pages : Image). reads_left (length pages) new.phase) reads.pages in
+    let theirs = ap (λ o. theirs_among o items new.place) reads.ongoing in
+    let rest = ap (theirs_among old.ongoing.items items) reads.place in
+    omega (arith, fewer, long, theirs, rest)
+
+-- and keeps the snapshot
+pub read_keeps : (run : Setting) (log : List Record) (check next : Check) (telling : Telling) → IsSnapshot run log check telling → ReadsPages check next → IsSnapshot run log next telling
+read_keeps run log check next telling snap reads =
+    let items = reverse (whole_log run log) in
+    let point = reads.point in
+    let place = reads.place in
+    let placed = snap.placed in record {
+      above = subst (λ n. 0 < n) (sym point) snap.above;
+      inside = subst (λ n. n ≤ length (whole_log run log)) (sym point) snap.inside;
+      placed = omega (arith, point, place, placed);
+      long = ap length reads.pages ∙ snap.long;
+      open_is = λ t. ap (λ n. is_unfinished (items_before run log n) t) point ∙ snap.open_is t ∙ ap (λ o. is_among o t) (sym reads.ongoing);
+      reports = snap.reports
+          ∙ ap (λ n. Reports n (taken_back (is_unfinished (items_before run log n)) (first_back items check.place) check.pages)) (sym point)
+          ∙ ap (λ n. Reports next.point (taken_back (is_unfinished (items_before run log next.point)) (first_back items n) check.pages)) (sym place)
+          ∙ ap (λ (pages : Image). Reports next.point (taken_back (is_unfinished (items_before run log next.point)) (first_back items next.place) pages)) (sym reads.pages);
+      undone = λ e. place ∙ snap.undone (reads_behind check.pages check.phase next.phase reads.reads);
+      phase_is = subst (λ (pages : Image). IsPhaseOf pages next.phase) (sym reads.pages) (reads_phase check.pages check.phase next.phase reads.reads);
+    }
+
+-- the session behind a turn of its check that keeps the snapshot
+pub going_session : (run : Setting) (log : List Record) (s : ℕ) (old new : Session) (check next : Check) → IsSession run log s old → old.doing ≡ Checking check →
+    ((telling : Telling) → IsSnapshot run log check telling → IsSnapshot run log next telling) → new.doing ≡ Checking next → new.script.items ≡ old.script.items → new.replies.items ≡ old.replies.items → new.tran ≡ old.tran →
     new.left.items ≡ old.left.items → new.held.items ≡ old.held.items → new.used ≡ old.used → IsSession run log s new
-back_session run log s old new check next mine doing back going script replies tran left held used =
+going_session run log s old new check next mine doing keeps going script replies tran left held used =
     let p = progress_of run s log in
     let d = checking_due run log s old check mine doing in
     let at : IsAt run log s (length new.replies.items + 1) new.tran p (Checking next) = (
       d.0 ∙ ap (λ rs. CheckEnd s (length rs + 1) 0 ∷ []) (sym replies),
-      back_keeps run log check next p.telling d.1 back,
+      keeps p.telling d.1,
       d.2 ∙ ap (λ rs. Some (CheckEnd s (length rs + 1) 3)) (sym replies),
     ) in
     record {

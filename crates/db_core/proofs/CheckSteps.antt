@@ -16,7 +16,9 @@ use Rattle.law_run.specs.Laws.{IsStart}
 use Rattle.law_run.proofs.Legal.{legal_is_sound}
 use Rattle.db_core.specs.declared.session.Check.{Check}
 use Rattle.db_core.specs.declared.session.Doing.TheVariants.{Idle, Checking}
+use Rattle.db_core.specs.declared.session.Phase.TheVariants.{Back}
 use Rattle.db_core.specs.declared.session.Session.{Session}
+use Rattle.db_core.specs.Reading.{is_back, IsPhaseOf}
 use Rattle.db_core.specs.States.{whole_log, items_before, is_among, IsSnapshot, IsAt, IsOpen, IsSession}
 use Rattle.db_core.proofs.Keeps.{steps_of, first_items}
 use Rattle.db_core.proofs.Moves.{ends_with}
@@ -49,14 +51,13 @@ end_opens run log s i o old next mine tran left held used =
 
 -- everything is taken back, and the report is that of what the snapshot has
 pub check_ends : (run : Setting) (log : List Record) (s : ℕ) (old next : Session) (check : Check) (report : CheckReport) → IsStart run → IsLegal run log → 0 < s →
-    IsSession run log s old → old.doing ≡ Checking check → check.undone ≡ true → IsCheckOf run.geometry check.pages report →
+    IsSession run log s old → old.doing ≡ Checking check → check.place ≡ 0 → IsCheckOf run.geometry check.pages report →
     next.script.items ≡ old.script.items → next.replies.items ≡ old.replies.items ++ Report (record { 0 = check.point }) report ∷ [] → next.tran ≡ old.tran → next.doing ≡ Idle →
     next.left.items ≡ old.left.items → next.held.items ≡ old.held.items → next.used ≡ old.used →
     IsSession run (CheckEnd s (length old.replies.items + 1) 0 ∷ log) s next
-check_ends run log s old next check report start legal hs mine doing undone right script replies tran doing_next left held used =
+check_ends run log s old next check report start legal hs mine doing none right script replies tran doing_next left held used =
     let x = CheckEnd s (length old.replies.items + 1) 0 in
     let d = checking_due run log s old check mine doing in
-    let none : check.place ≡ 0 = d.1.undone undone in
     let tells = d.1.reports ∙ ap (λ n. Reports check.point (taken_back (is_unfinished (items_before run log check.point)) (reverse (take n (reverse (whole_log run log)))) check.pages)) none in
     let same = busy run log s x [] d.0 in
     let st = steps_of run log s x start legal hs (check_comes run log s old check mine doing) in
@@ -70,7 +71,7 @@ first_of_more g x = first_items g x (length g) (omega arith) ∙ take_all (lengt
 -- the snapshot of a check, right behind its Snap: the file as it stands, with nothing taken back yet
 pub fresh_snapshot : (run : Setting) (log : List Record) (s i : ℕ) (check : Check) → IsStart run → IsLegal run log → check.point ≡ length (whole_log run log) + 1 →
     check.place ≡ length (whole_log run log) → check.pages ≡ final_image run.opened log run.image → length check.pages ≡ length run.image →
-    ((t : ℕ) → is_unfinished (whole_log run log) t ≡ is_among check.ongoing.items t) → check.undone ≡ false →
+    ((t : ℕ) → is_unfinished (whole_log run log) t ≡ is_among check.ongoing.items t) → check.phase ≡ Back →
     IsSnapshot run (Snap s i ∷ log) check (Reports (length (whole_log run log) + 1) (committed_image run.opened log run.image))
 fresh_snapshot run log s i check start legal point place pages long ongoing fresh =
     let g = whole_log run log in
@@ -92,8 +93,9 @@ fresh_snapshot run log s i check start legal point place pages long ongoing fres
           ∙ ap (λ h. taken_back (is_unfinished g) h (final_image run.opened log run.image)) (sym rest)
           ∙ ap (λ h. taken_back (is_unfinished h) (reverse (take check.place (reverse (x ∷ g)))) (final_image run.opened log run.image)) (sym before)
           ∙ ap (taken_back (is_unfinished (items_before run (x ∷ log) check.point)) (reverse (take check.place (reverse (x ∷ g))))) (sym pages));
-      undone = λ e. absurd (both fresh e);
+      undone = λ e. absurd (both (ap is_back fresh) e);
+      phase_is = subst (IsPhaseOf check.pages) (sym fresh) tt;
     }
   where
-    both : {b : Bool} → b ≡ false → b ≡ true → ⊥
+    both : {b : Bool} → b ≡ true → b ≡ false → ⊥
     both e f = cc

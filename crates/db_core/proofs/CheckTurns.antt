@@ -1,6 +1,6 @@
 -- The turns of a check keep the core's state good.
 use Rattle.std.proofs.Common.{◌≡◌, ℕ, ◌+◌, ◌<◌, ◌≤◌, Bool, true, false, List, [], ◌∷◌, ◌++◌, length, reverse, Some, inl, inr, refl, sym, ap, ◌∙◌, subst, arith, append-nil, vec_len, vec_capacity}
-use Rattle.std.specs.Prelude.{slice_get, slice_set, sum_by, Result, Ok, IfOk}
+use Rattle.std.specs.Prelude.{slice_get, slice_set, sum_by}
 use Rattle.std.proofs.Math.ListN.{length-set}
 use Rattle.std.proofs.lemmas.List.{length_push}
 use Rattle.spec_file.specs.Image.{Image}
@@ -10,7 +10,7 @@ use Rattle.spec_log.specs.declared.item.Record.{Record}
 use Rattle.spec_log.specs.declared.item.Record.TheVariants.{Snap, CheckEnd}
 use Rattle.spec_plan.specs.Refusals.{out_of_memory}
 use Rattle.spec_script.specs.declared.reply.Reply.TheVariants.{Refused}
-use Rattle.spec_run.specs.Begun.{Setting}
+use Rattle.spec_run.specs.Begun.{Setting, Telling}
 use Rattle.spec_run.specs.Progress.{Progress, progress_of, work_of, first_of, MayCome}
 use Rattle.spec_run.specs.Turns.{IsLegal, Goes}
 use Rattle.law_run.specs.Laws.{IsStart}
@@ -20,16 +20,17 @@ use Rattle.db_core.specs.declared.session.Session.{Session}
 use Rattle.db_core.specs.declared.starts.StatementNo.{StatementNo}
 use Rattle.db_core.specs.declared.state.State.{State}
 use Rattle.db_core.specs.Back.{MayGoBack, GoesBack, steps_left}
-use Rattle.db_core.specs.Checks.{BacksIn, Checked, EndsBy}
+use Rattle.db_core.specs.Checks.{BacksIn, Checked, EndsBy, GoesOnBy, MayReadIn, ReadsIn, ReadsPages}
+use Rattle.db_core.specs.Reading.{is_back}
 use Rattle.db_core.specs.Rooms.{pending_of, started_of, owed_by, HasOwnRoom, turns_left}
-use Rattle.db_core.specs.States.{whole_log, entries_of, Keeps, KeepsRoom, IsAt, IsSession, IsState}
+use Rattle.db_core.specs.States.{entries_of, Keeps, KeepsRoom, IsAt, IsSession, IsSnapshot, IsState}
 use Rattle.db_core.specs.Store.{run_is, log_of, AreProper, is_snap, told_count, IsGood, Went}
 use Rattle.db_core.proofs.Keeps.{get_set, steps_of}
 use Rattle.db_core.proofs.Moves.{ends_short, told_so}
 use Rattle.db_core.proofs.Next.{busy}
 use Rattle.db_core.proofs.Told.{told_step, idle_told, turn_belongs}
 use Rattle.db_core.proofs.CheckSteps.{checking_due, check_comes, check_ends, end_opens}
-use Rattle.db_core.proofs.Backwards.{back_session, back_falls}
+use Rattle.db_core.proofs.Backwards.{going_session, back_keeps, back_falls, read_keeps, read_falls}
 use Rattle.db_core.proofs.BackFits.{back_fits}
 use Rattle.db_core.proofs.Good.{get_below, get_put, get_same, sum_set, run_same, items_entries, IsMid, IsStep, same_bytes}
 use Rattle.db_core.proofs.GoOn.{items_are}
@@ -52,11 +53,14 @@ same_log_state run log pages sessions last all size k y state mine = record {
   size_is = state.size_is;
 }
 
--- the pages of a check have the shape of the file
-pub check_shape : (st : State) (k : ℕ) (x : Session) (check : Check) → IsGood st → slice_get st.sessions.items k ≡ Some x → x.doing ≡ Checking check → HasShape Small (length check.pages)
-check_shape st k x check good here doing =
-    let d = checking_due (run_is st) (log_of st) (k + 1) x check (good.state.each k x here) doing in
-    subst (HasShape Small) (sym d.1.long) good.shape
+-- a check that has taken everything back may read its pages
+pub check_reads : (st : State) (k : ℕ) (x : Session) → IsGood st → slice_get st.sessions.items k ≡ Some x → ((check : Check) → x.doing ≡ Checking check → is_back check.phase ≡ false) → MayReadIn x
+check_reads st k x good here behind check doing =
+    let d = checking_due (run_is st) (log_of st) (k + 1) x check (good.state.each k x here) doing in record {
+      shape = subst (HasShape Small) (sym d.1.long) good.shape;
+      behind = behind check doing;
+      phase_is = d.1.phase_is;
+    }
 
 pub check_fits : (st : State) (k : ℕ) (x : Session) (check : Check) → IsGood st → slice_get st.sessions.items k ≡ Some x → x.doing ≡ Checking check → MayGoBack st.items.items check
 check_fits st k x check good here doing =
@@ -66,27 +70,28 @@ check_fits st k x check good here doing =
 pub no_longer : (x : Record) (log : List Record) → log ≡ x ∷ log → ⊥
 no_longer x log e = let n = ap length e in omega (arith, n)
 
--- one step back
-pub back_good : (old new : State) (k : ℕ) (x y : Session) → IsGood old → slice_get old.sessions.items k ≡ Some x → BacksIn old.items.items x y → IsMid k y old.frames old new →
-    new.items ≡ old.items → new.all ≡ old.all → new.size ≡ old.size → Checked k old new
-back_good old new k x y good here b mid items all_same size_same =
+-- a turn of a check that goes on by a step which keeps the snapshot
+pub goes_good : (Step : Check → Check → Type 0) (old new : State) (k : ℕ) (x y : Session) → IsGood old → slice_get old.sessions.items k ≡ Some x → (b : GoesOnBy Step x y) →
+    ((telling : Telling) → IsSnapshot (run_is old) (log_of old) b.before telling → IsSnapshot (run_is old) (log_of old) b.after telling) →
+    IsMid k y old.frames old new → new.items ≡ old.items → new.all ≡ old.all → new.size ≡ old.size → Checked k old new
+goes_good Step old new k x y good here b keeps mid items all_same size_same =
     let run = run_is old in
     let log = log_of old in
     let run_new : run_is new ≡ run = run_same old new mid.base mid.first in
     let log_new : log_of new ≡ log = ap reverse mid.items in
-    let goes : GoesBack (reverse (whole_log run log)) b.before b.after = subst (λ is. GoesBack is b.before b.after) (sym (items_are old)) b.goes in
-    let mine = back_session run log (k + 1) x y b.before b.after (good.state.each k x here) b.was goes b.is b.kept.script b.replies b.kept.tran b.left b.kept.held b.kept.used in
+    let s = b.stays in
+    let mine = going_session run log (k + 1) x y b.before b.after (good.state.each k x here) b.was keeps b.is s.kept.script s.replies s.kept.tran s.left s.kept.held s.kept.used in
     let room = good.each_room k x here in
-    let script = ap length b.kept.script in
-    let replies = ap length b.replies in
-    let left = ap length b.left in
-    let used = b.kept.used in
+    let script = ap length s.kept.script in
+    let replies = ap length s.replies in
+    let left = ap length s.left in
+    let used = s.kept.used in
     let pending = ap pending_of b.is in
     let pending_old = ap pending_of b.was in
     let started = ap started_of b.is in
     let started_old = ap started_of b.was in
     let a = room.short in let c = room.replies in let d = room.busy in let e = room.left in let f = room.announced in let g = room.used in
-    let h = b.room.replies in let i = b.room.left in
+    let h = s.room.replies in let i = s.room.left in
     let owed_same : owed_by y ≡ owed_by x = omega (arith, script, replies, left, pending, pending_old, started, started_old) in
     let sum = sum_set owed_by old.sessions.items k x y here in
     let owed_old = good.owed_is in
@@ -140,17 +145,40 @@ back_good old new k x y good here b mid items all_same size_same =
         first_of (work_of run s log).due ≡ Some (CheckEnd s (length x.replies.items + 1) 0)
     next_end run log s x due = ap (λ (q : Progress). first_of q.due) (busy run log s _ [] due) ∙ ap first_of due
 
-pub back_nearer : (old : State) (k : ℕ) (x y : Session) → k < length old.sessions.items → slice_get old.sessions.items k ≡ Some x → BacksIn old.items.items x y →
-    ((check : Check) → x.doing ≡ Checking check → check.undone ≡ false) → (p q : Session) → slice_get old.sessions.items k ≡ Some p → slice_get (slice_set old.sessions.items k y) k ≡ Some q →
+-- one step back
+pub back_good : (old new : State) (k : ℕ) (x y : Session) → IsGood old → slice_get old.sessions.items k ≡ Some x → BacksIn old.items.items x y → IsMid k y old.frames old new →
+    new.items ≡ old.items → new.all ≡ old.all → new.size ≡ old.size → Checked k old new
+back_good old new k x y good here b mid items all_same size_same =
+    goes_good (GoesBack old.items.items) old new k x y good here b
+    (λ telling snap. back_keeps (run_is old) (log_of old) b.before b.after telling snap (subst (λ is. GoesBack is b.before b.after) (sym (items_are old)) b.step)) mid items all_same size_same
+
+-- one turn that reads
+pub read_good : (old new : State) (k : ℕ) (x y : Session) → IsGood old → slice_get old.sessions.items k ≡ Some x → ReadsIn x y → IsMid k y old.frames old new →
+    new.items ≡ old.items → new.all ≡ old.all → new.size ≡ old.size → Checked k old new
+read_good old new k x y good here b mid items all_same size_same =
+    goes_good ReadsPages old new k x y good here b (λ telling snap. read_keeps (run_is old) (log_of old) b.before b.after telling snap b.step) mid items all_same size_same
+
+-- a step that leaves fewer turns
+pub goes_nearer : (Step : Check → Check → Type 0) (old : State) (k : ℕ) (x y : Session) → k < length old.sessions.items → slice_get old.sessions.items k ≡ Some x → (b : GoesOnBy Step x y) →
+    steps_left old.items.items b.after < steps_left old.items.items b.before → (p q : Session) → slice_get old.sessions.items k ≡ Some p → slice_get (slice_set old.sessions.items k y) k ≡ Some q →
     turns_left old.items.items q q.doing < turns_left old.items.items p p.doing
-back_nearer old k x y below here b undone p q ep eq =
+goes_nearer Step old k x y below here b falls p q ep eq =
     let same_x = get_same old.sessions.items k x p here ep in
     let same_y = get_same (slice_set old.sessions.items k y) k y q (get_put old.sessions.items k y below) eq in
-    let falls = back_falls old.items.items b.before b.after b.goes (undone b.before b.was) in
     let items = old.items.items in
     let tx : turns_left items x x.doing ≡ steps_left items b.before + 1 = ap (turns_left items x) b.was in
     let ty : turns_left items y y.doing ≡ steps_left items b.after + 1 = ap (turns_left items y) b.is in
     subst (λ z. turns_left items q q.doing < turns_left items z z.doing) same_x (subst (λ z. turns_left items z z.doing < turns_left items x x.doing) same_y (omega (arith, falls, tx, ty)))
+
+pub back_nearer : (old : State) (k : ℕ) (x y : Session) → k < length old.sessions.items → slice_get old.sessions.items k ≡ Some x → BacksIn old.items.items x y →
+    ((check : Check) → x.doing ≡ Checking check → is_back check.phase ≡ true) → (p q : Session) → slice_get old.sessions.items k ≡ Some p → slice_get (slice_set old.sessions.items k y) k ≡ Some q →
+    turns_left old.items.items q q.doing < turns_left old.items.items p p.doing
+back_nearer old k x y below here b back = goes_nearer (GoesBack old.items.items) old k x y below here b (back_falls old.items.items b.before b.after b.step (back b.before b.was))
+
+pub read_nearer : (old : State) (k : ℕ) (x y : Session) → k < length old.sessions.items → slice_get old.sessions.items k ≡ Some x → ReadsIn x y →
+    (p q : Session) → slice_get old.sessions.items k ≡ Some p → slice_get (slice_set old.sessions.items k y) k ≡ Some q →
+    turns_left old.items.items q q.doing < turns_left old.items.items p p.doing
+read_nearer old k x y below here b = goes_nearer ReadsPages old k x y below here b (read_falls old.items.items b.before b.after b.step)
 
 -- a turn that appended an item other than a Snap
 pub went_checked : (k : ℕ) (old new : State) → IsGood old → Went k old new → Checked k old new
@@ -171,10 +199,6 @@ went_checked k old new good w = record {
   where
     differ : (x y : Record) (log : List Record) → is_snap x ≡ false → is_snap y ≡ true → x ∷ log ≡ y ∷ log → ⊥
     differ x y log ex ey e = let same : x ≡ y = cc in let b = ap is_snap same in cc
-
--- a report that was found
-pub found_report : {E T : Type 0} (P : T → Type 0) (found : Result T E) (report : T) → found ≡ Ok report → IfOk found P → P report
-found_report P found report is if_ok = subst (λ f. IfOk f P) is if_ok
 
 -- what becomes of the room of a session whose check ends
 end_room : (old new : Session) (check : Check) (reply : _) → old.doing ≡ Checking check → HasOwnRoom old → Keeps old new → KeepsRoom old new → new.left.items ≡ old.left.items →
@@ -218,10 +242,10 @@ check_short run log s old next check start legal hs mine doing script replies tr
 
 -- the item that ends a check, and the session behind it
 pub end_good : (st : State) (k : ℕ) (place : StatementNo) (x y : Session) (item : Record) → IsGood st → slice_get st.sessions.items k ≡ Some x →
-    ((check : Check) → x.doing ≡ Checking check → check.undone ≡ true) → place.session ≡ k + 1 → place.index ≡ length x.replies.items + 1 → EndsBy place x y item →
+    ((check : Check) → x.doing ≡ Checking check → is_back check.phase ≡ false) → place.session ≡ k + 1 → place.index ≡ length x.replies.items + 1 → EndsBy place x y item →
     IsStep (run_is st) (log_of st) (k + 1) y st.frames st.frames item st.all st.size × HasOwnRoom y × (owed_by y + 1 ≤ owed_by x)
     × ((before after : List Record) → turns_left after y y.doing < turns_left before x x.doing) × (is_snap item ≡ false)
-end_good st k place x y item good here undone ps pi e =
+end_good st k place x y item good here behind ps pi e =
     let run = run_is st in
     let log = log_of st in
     let s = k + 1 in
@@ -229,11 +253,11 @@ end_good st k place x y item good here undone ps pi e =
     let named : (o : ℕ) → CheckEnd place.session place.index o ≡ CheckEnd s (length x.replies.items + 1) o = λ o. ap (λ m. CheckEnd m place.index o) ps ∙ ap (λ m. CheckEnd s m o) pi in
     elim e.ends [
       | inl r ↦
-          let room = end_room x y e.check _ e.was (good.each_room k x here) e.kept e.room e.left r.2 e.doing in
-          let is_item = r.3 ∙ named 0 in (
+          let room = end_room x y e.check _ e.was (good.each_room k x here) e.kept e.room e.left r.3 e.doing in
+          let is_item = r.4 ∙ named 0 in (
             subst (λ i. IsStep run log s y st.frames st.frames i st.all st.size) (sym is_item) (record {
               comes = check_comes run log s x e.check mine e.was;
-              mine = check_ends run log s x y e.check r.0 good.state.start good.state.legal (omega arith) mine e.was (undone e.check e.was) r.1 e.kept.script r.2 e.kept.tran e.doing e.left e.kept.held e.kept.used;
+              mine = check_ends run log s x y e.check r.0 good.state.start good.state.legal (omega arith) mine e.was ((checking_due run log s x e.check mine e.was).1.undone (behind e.check e.was)) r.2 e.kept.script r.3 e.kept.tran e.doing e.left e.kept.held e.kept.used;
               pages_are = refl;
               all_is = good.state.all_is;
               size_is = good.state.size_is;
@@ -270,6 +294,6 @@ replies_room x checking room =
     let len = x.replies.ok.0 in
     omega (arith, started, a, b, len)
 
--- what a session's check knows
-pub undone_of : (x y : Session) (check : Check) {b c : Bool} → x ≡ y → y.doing ≡ Checking check → ((d : Check) → x.doing ≡ Checking d → b ≡ d.undone) → b ≡ c → check.undone ≡ c
-undone_of x y check same doing known is = sym (known check (ap (λ (z : Session). z.doing) same ∙ doing)) ∙ is
+-- what a session's check does
+pub phase_of : (x y : Session) (check : Check) {b c : Bool} → x ≡ y → y.doing ≡ Checking check → ((d : Check) → x.doing ≡ Checking d → b ≡ is_back d.phase) → b ≡ c → is_back check.phase ≡ c
+phase_of x y check same doing known is = sym (known check (ap (λ (z : Session). z.doing) same ∙ doing)) ∙ is

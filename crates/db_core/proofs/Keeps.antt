@@ -81,6 +81,7 @@ snapshot_more run log x check telling p =
           ∙ ap (λ xs. Reports check.point (taken_back (is_unfinished xs) (reverse (take check.place (reverse g))) check.pages)) (sym before)
           ∙ ap (λ xs. Reports check.point (taken_back (is_unfinished (items_before run (x ∷ log) check.point)) (reverse xs) check.pages)) (sym (first_items g x check.place (omega (arith, inside, placed))));
       undone = p.undone;
+      phase_is = p.phase_is;
     }
 
 -- another session goes on as it was

@@ -16,13 +16,15 @@ use Rattle.db_core.specs.declared.session.Doing.TheVariants.{Idle, Changing, End
 use Rattle.db_core.specs.declared.session.Session.{Session}
 use Rattle.db_core.specs.declared.starts.StatementNo.{StatementNo}
 use Rattle.db_core.specs.declared.state.State.{State}
-use Rattle.db_core.specs.Back.{theirs_among, last_step}
+use Rattle.db_core.specs.Back.{theirs_among}
+use Rattle.db_core.specs.Reading.{reads_left}
 use Rattle.db_core.specs.Bounds.{unfinished_items, most_turns}
 use Rattle.db_core.specs.Checks.{Begins, IsFresh}
 use Rattle.db_core.specs.Rooms.{turns_left, left_of_statement}
 use Rattle.db_core.specs.States.{whole_log, is_among, IsAt}
 use Rattle.db_core.specs.Store.{run_is, log_of, IsGood, LeavesOthers}
 use Rattle.db_core.proofs.Good.{count_is, whole_is}
+use Rattle.db_core.proofs.Stepped.{state_pages}
 use Rattle.db_core.proofs.Views.{ongoing_is}
 
 -- one of theirs among more items
@@ -46,7 +48,7 @@ left_kept run log items added s index t p x Undoing size at = refl
 left_kept run log items added s index t p x (Checking check) size at =
     let inside = at.1.inside in
     let placed = at.1.placed in
-    ap (λ xs. count_by (λ r. is_among check.ongoing.items (tran_of r)) xs + last_step check.undone + 1) (take-append-le check.place items added (omega (arith, inside, placed, size)))
+    ap (λ xs. count_by (λ r. is_among check.ongoing.items (tran_of r)) xs + reads_left (length check.pages) check.phase + 1) (take-append-le check.place items added (omega (arith, inside, placed, size)))
 
 get_other : (xs : List Session) (i j : ℕ) (y : Session) → (j ≡ i → ⊥) → slice_get (slice_set xs i y) j ≡ slice_get xs j
 get_other [] i j y n = refl
@@ -81,7 +83,8 @@ count_reverse p (x ∷ xs) =
     let front : count_by p (x ∷ xs) ≡ cond (p x) 1 0 + count_by p xs = sum_by-cons (λ r. cond (p r) 1 0) x xs in
     omega (arith, push, rest, front)
 
--- a check that begins has the items of the unfinished transactions before it, the turn that finds none left, and its end
+-- a check that begins has the items of the unfinished transactions before it, the turn that finds none left, that which reads
+-- the maps, one for each extent, and its end
 pub fresh_few : (st : State) (place : StatementNo) (check : Check) (x y : Session) (item : Record) → IsGood st → IsFresh (length st.items.items + 1) st.frames st.sessions.items check → Begins place check x y item →
     turns_left (st.items.items ++ item ∷ []) y y.doing ≤ most_turns (run_is st) (log_of st)
 fresh_few st place check x y item good fresh b =
@@ -97,5 +100,6 @@ fresh_few st place check x y item good fresh b =
     ∙ count_agree theirs unfinished (λ r. sym (ongoing_is st check.ongoing.items good fresh.ongoing (tran_of r))) items
     ∙ sym (count_reverse unfinished items) ∙ ap (count_by unfinished) (sym (whole_is st)) in
     let turns = ap (turns_left (items ++ item ∷ []) y) b.doing in
-    let last = ap last_step fresh.undone in
-    omega (arith, count, turns, last)
+    let reads = ap (reads_left (length check.pages)) fresh.phase in
+    let long = ap length fresh.pages_are ∙ state_pages (run_is st) (log_of st) st.frames st.sessions.items st.last st.all st.size good.state in
+    omega (arith, count, turns, reads, long)

@@ -9,6 +9,7 @@ pub mod Stepped
 pub mod Words
 pub mod CheckSteps
 pub mod Good
+pub mod Phases
 pub mod Left
 pub mod RoomSteps
 pub mod GoOn
@@ -22,6 +23,7 @@ pub mod Planned
 pub mod BeginWord
 pub mod Views
 pub mod CheckTurns
+pub mod CheckEnds
 pub mod Told
 pub mod Advances
 pub mod Replays

@@ -52,7 +52,7 @@ fresh_is st k i check good f =
     let place = f.place in
     fresh_snapshot (run_is st) (log_of st) (k + 1) i check good.state.start good.state.legal (omega (arith, point, size)) (omega (arith, place, size))
     (f.pages_are ∙ good.state.pages_are) (ap length f.pages_are ∙ state_pages (run_is st) (log_of st) st.frames st.sessions.items st.last st.all st.size good.state)
-    (ongoing_is st check.ongoing.items good f.ongoing) f.undone
+    (ongoing_is st check.ongoing.items good f.ongoing) f.phase
 
 -- the record of a check
 check_begun : (st : State) (k workers : ℕ) (x : Session) → IsGood st → slice_get st.sessions.items k ≡ Some x → x.doing ≡ Idle →

@@ -1,5 +1,5 @@
 -- A check takes items back from its pages.
-use Rattle.std.specs.Prelude.{if◌then◌else◌, ◌≡◌, ℕ, ◌+◌, ◌<◌, ◌≤◌, Bool, true, List, length, reverse, take, slice_get, count_by, Option, Some, ◌⊎◌}
+use Rattle.std.specs.Prelude.{◌≡◌, ℕ, ◌+◌, ◌<◌, ◌≤◌, true, List, length, reverse, take, slice_get, count_by, Option, Some, ◌⊎◌}
 use Rattle.spec_file.specs.Image.{Image}
 use Rattle.spec_log.specs.declared.item.Record.{Record}
 use Rattle.spec_log.specs.declared.item.Record.TheVariants.{Change, Undo}
@@ -8,6 +8,8 @@ use Rattle.spec_log.specs.Log.{item_at}
 use Rattle.spec_log.specs.Images.{page_of_cell, take_back, taken_back}
 use Rattle.vol_pool.specs.Cells.{FitsCell}
 use Rattle.db_core.specs.declared.session.Check.{Check}
+use Rattle.db_core.specs.declared.session.Phase.TheVariants as phases
+use Rattle.db_core.specs.Reading.{reads_left}
 use Rattle.db_core.specs.States.{is_among}
 
 -- the first items, the newest first
@@ -42,14 +44,14 @@ pub record TakesLast (items : List Record) (old new : Check) : Type 0 where
   pub below : new.place < old.place
   pub last : (image : Image) → without old.ongoing.items items old.place image ≡ without old.ongoing.items items (new.place + 1) image
   pub pages : new.pages ≡ take_back (first_back items new.place) item old.pages
-  pub undone : new.undone ≡ old.undone
+  pub phase : new.phase ≡ old.phase
 
 -- no item of the open transactions is left
 pub record FindsNone (items : List Record) (old new : Check) : Type 0 where
   pub none : (image : Image) → without old.ongoing.items items old.place image ≡ image
   pub place : new.place ≡ 0
   pub pages : new.pages ≡ old.pages
-  pub undone : new.undone ≡ true
+  pub phase : new.phase ≡ phases.Undone
 
 -- one step of a check: it takes one item back, or finds none
 pub record GoesBack (items : List Record) (old new : Check) : Type 0 where
@@ -57,14 +59,10 @@ pub record GoesBack (items : List Record) (old new : Check) : Type 0 where
   pub ongoing : new.ongoing.items ≡ old.ongoing.items
   pub step : TakesLast items old new ⊎ FindsNone items old new
 
--- one step more, where the check doesn't know yet that none is left
-abbrev pub last_step : Bool → ℕ
-last_step undone = if undone then 0 else 1
-
 -- how many of the first items are of these transactions
 abbrev pub theirs_among : List ℕ → List Record → ℕ → ℕ
 theirs_among ongoing items place = count_by (λ x. is_among ongoing (tran_of x)) (take place items)
 
--- how many steps a check takes at most until it knows that none is left
+-- how many turns a check takes at most before the one that ends it
 abbrev pub steps_left : List Record → Check → ℕ
-steps_left items check = theirs_among check.ongoing.items items check.place + last_step check.undone
+steps_left items check = theirs_among check.ongoing.items items check.place + reads_left (length check.pages) check.phase

@@ -1,3 +1,4 @@
+pub mod Reading
 pub mod Back
 pub mod Bounds
 pub mod States

@@ -27,6 +27,7 @@ use Rattle.db_core.specs.declared.session.Doing.{Doing}
 use Rattle.db_core.specs.declared.session.Doing.TheVariants.{Idle, Changing, Ending, Undoing, Checking}
 use Rattle.db_core.specs.declared.session.Check.{Check}
 use Rattle.db_core.specs.declared.session.Session.{Session}
+use Rattle.db_core.specs.Reading.{is_back, IsPhaseOf}
 
 -- what contracts see of the core: what the run began with, its history, the newest entry first, and for each session
 -- how many turns its statement that is under way still takes at most
@@ -64,7 +65,8 @@ items_before run log number = reverse (take (number - 1) (reverse (whole_log run
 abbrev pub is_among : List ℕ → ℕ → Bool
 is_among trans t = list_any (λ u. u == t) trans
 
--- taking back what is left of the items before the check's Snap gives the image that it reports
+-- taking back what is left of the items before the check's Snap gives the image that it reports; behind that nothing is
+-- left, and a scan is one of these pages
 pub record IsSnapshot (run : Setting) (log : List Record) (check : Check) (telling : Telling) : Type 0 where
   pub above : 0 < check.point
   pub inside : check.point ≤ length (whole_log run log)
@@ -73,7 +75,8 @@ pub record IsSnapshot (run : Setting) (log : List Record) (check : Check) (telli
   pub open_is : (t : ℕ) → is_unfinished (items_before run log check.point) t ≡ is_among check.ongoing.items t
   pub reports : telling ≡ Reports check.point (taken_back (is_unfinished (items_before run log check.point))
       (reverse (take check.place (reverse (whole_log run log)))) check.pages)
-  pub undone : check.undone ≡ true → check.place ≡ 0
+  pub undone : is_back check.phase ≡ false → check.place ≡ 0
+  pub phase_is : IsPhaseOf check.pages check.phase
 
 -- what the session is doing: the items that it owes, and what it is told after them
 abbrev pub IsAt : Setting → List Record → ℕ → ℕ → ℕ → Progress → Doing → Type 0

@@ -8,7 +8,7 @@ ghost use Rattle.spec_log.specs.Images.{put_after, take_back};
 ghost use Rattle.db_core.specs.States.{is_among};
 ghost use Rattle.db_core.specs.Back.{first_back, without, MayPutLeft, MayTakeBack, MayGoBack, GoesBack};
 
-use crate::session::Check;
+use crate::session::{Check, Phase};
 use spec_log::{Record, tran_of_item};
 use vol_pool::Frames;
 
@@ -88,7 +88,7 @@ fn take_at(check: &mut Check, items: &[Record], at: usize)
     ensures pages { (x : Record) → slice_get items.now at ≡ Some x → check.new.pages ≡ take_back (first_back items.now at) x check.old.pages }
     ensures point { check.new.point ≡ check.old.point }
     ensures ongoing { check.new.ongoing.items ≡ check.old.ongoing.items }
-    ensures undone { check.new.undone ≡ check.old.undone }
+    ensures phase { check.new.phase ≡ check.old.phase }
 {
     take_item_back(&mut check.pages, &items[..at], &items[at]);
     check.place = at;
@@ -103,7 +103,7 @@ pub fn go_back(check: &mut Check, items: &[Record])
     let last = last_among(items, check.ongoing.as_slice(), check.place);
     if last == 0 {
         check.place = 0;
-        check.undone = true;
+        check.phase = Phase::Undone;
     } else {
         take_at(check, items, last - 1);
     }

@@ -1,78 +1,46 @@
 //! The turns of a check.
-ghost use Rattle.std.specs.Prelude.{◌≡◌, ◌+◌, ◌<◌, length, slice_get, Some, true, false, IfErr, IfOk, vec_len, vec_capacity};
-ghost use Rattle.spec_file.specs.declared.geometry.Geometry.TheVariants.{Small};
-ghost use Rattle.spec_tables.specs.Written.{IsCheckOf};
-ghost use Rattle.spec_file.specs.Places.{HasShape};
+ghost use Rattle.std.specs.Prelude.{◌≡◌, ◌+◌, ◌<◌, length, slice_get, Some, true, false, IfOk, OnOk, vec_len, vec_capacity};
 ghost use Rattle.db_core.specs.Back.{MayGoBack};
-ghost use Rattle.db_core.specs.Checks.{BacksIn, Begins, Checked, EndsAtOnce, EndsBy, IsChecking, IsFresh, Snapped, SnapsOr};
+ghost use Rattle.db_core.specs.Checks.{BacksIn, Begins, Checked, EndsAtOnce, EndsBy, IsChecking, IsFresh, MayReadIn, ReadsIn, ReadsOr, Snapped, SnapsOr, StaysAs, TakesCheck};
+ghost use Rattle.db_core.specs.Reading as phases;
 ghost use Rattle.db_core.specs.Stages.{IsStage};
 ghost use Rattle.db_core.specs.Store.{IsGood, IsNearer};
 ghost use Rattle.db_core.specs.declared.session.Doing.TheVariants.{Checking};
 ghost use Rattle.db_core.specs.declared.stage.Stage.TheVariants as stage;
-ghost use Rattle.pg_base.specs.declared.reader.ReadStop.TheVariants as stops;
 
 use crate::back::go_back;
-use crate::session::{Check, Doing, Session};
+use crate::reading::{is_back, is_read, read_on, report_of};
+use crate::session::{Check, Doing, Phase, Session};
 use crate::starts::StatementNo;
 use crate::state::{State, owed_by, settle};
 use crate::steps::end;
 use crate::turns::place_of;
 use crate::view::ongoing;
-use ck_alloc::read_maps;
-use ck_scan::scan_one;
-use pg_base::{Geometry, ReadStop};
-use spec_check::CheckReport;
 use spec_file::{Lsn, NoMemory};
 use spec_log::{REPORTED, Record, SHORT};
 use spec_script::{NO_MEMORY, Refusal, Reply};
 use std::alloc::Global;
-use vol_pool::{Frames, FramesReader};
+use std::mem::replace;
+use vol_pool::Frames;
 
-/// The written check of pages in memory, whose reading neither fails nor ends.
-fn report_of(alloc: Global, pages: &Frames) -> Result<CheckReport, ReadStop>
-    requires { HasShape Small (length pages.now) }
-    ensures report { IfOk result (IsCheckOf Small pages.now) }
-    ensures cause { IfErr result (λ stop. stop ≡ stops.NoMemory) }
-{
-    let mut reader = FramesReader::of(pages);
-    let map = read_maps(alloc, &mut reader, Geometry::Small, pages.count() as u32)?;
-    let report = scan_one(alloc, &mut reader, &map)?;
-    Ok(report)
-}
-
-/// The report of the pages of a session's check.
-fn report_in(alloc: Global, session: &Session) -> Result<CheckReport, NoMemory>
-    requires checking { IsChecking session.now.doing }
-    requires shape { (check : Check) → session.now.doing ≡ Checking check → HasShape Small (length check.pages) }
-    ensures { IfOk result (λ report. (check : Check) → session.now.doing ≡ Checking check → IsCheckOf Small check.pages report) }
-{
-    let Doing::Checking(check) = &session.doing else {
-        unreachable!();
-    };
-    match report_of(alloc, &check.pages) {
-        Ok(report) => Ok(report),
-        Err(_) => Err(NoMemory),
-    }
-}
-
-/// The number of the Snap of a session's check.
-fn point_of(session: &Session) -> u64
+/// Whether a session's check takes items back.
+fn is_back_in(session: &Session) -> bool
     requires { IsChecking session.now.doing }
-    ensures { (check : Check) → session.now.doing ≡ Checking check → result ≡ check.point }
+    ensures { (check : Check) → session.now.doing ≡ Checking check → result ≡ phases.is_back check.phase }
 {
     match &session.doing {
-        Doing::Checking(check) => check.point,
+        Doing::Checking(check) => is_back(&check.phase),
         _ => unreachable!(),
     }
 }
 
-/// Whether a session's check knows that nothing is left to take back.
-fn is_undone(session: &Session) -> bool
+/// Whether a session's check has read all extents.
+fn is_read_in(session: &Session) -> bool
     requires { IsChecking session.now.doing }
-    ensures { (check : Check) → session.now.doing ≡ Checking check → result ≡ check.undone }
+    ensures { (check : Check) → session.now.doing ≡ Checking check → result ≡ phases.is_read check.phase }
 {
     match &session.doing {
-        Doing::Checking(check) => check.undone,
+        Doing::Checking(check) => is_read(&check.phase),
         _ => unreachable!(),
     }
 }
@@ -89,33 +57,73 @@ fn back_in(session: &mut Session, items: &[Record])
     }
 }
 
+/// The maps or an extent more in a session's check.
+fn read_in(alloc: Global, session: &mut Session) -> Result<(), NoMemory>
+    requires checking { IsChecking session.old.doing }
+    requires may { MayReadIn session.old }
+    requires more { (check : Check) → session.old.doing ≡ Checking check → phases.is_read check.phase ≡ false }
+    ensures reads { OnOk result (ReadsIn session.old session.new) }
+    ensures stays { StaysAs session.old session.new }
+{
+    match &mut session.doing {
+        Doing::Checking(check) => read_on(alloc, &check.pages, &mut check.phase),
+        _ => unreachable!(),
+    }
+}
+
+/// A session's check, in the middle of which it no longer is.
+fn take_check(session: &mut Session) -> Check
+    requires { IsChecking session.old.doing }
+    ensures { TakesCheck result session.old session.new }
+{
+    match replace(&mut session.doing, Doing::Idle) {
+        Doing::Checking(check) => check,
+        _ => unreachable!(),
+    }
+}
+
 /// The end of a session's check.
-fn end_in(
-    alloc: Global,
-    session: &mut Session,
-    place: StatementNo,
-    found: Result<CheckReport, NoMemory>,
-) -> Record
+fn end_in(alloc: Global, session: &mut Session, place: StatementNo) -> Record
     requires room { vec_len session.old.replies < vec_capacity session.old.replies }
     requires checking { IsChecking session.old.doing }
-    requires report { IfOk found (λ report. (check : Check) → session.old.doing ≡ Checking check → IsCheckOf Small check.pages report) }
+    requires may { MayReadIn session.old }
+    requires read { (check : Check) → session.old.doing ≡ Checking check → phases.is_read check.phase ≡ true }
     ensures { EndsBy place session.old session.new result }
 {
-    let StatementNo {
-        session: number,
-        index,
-    } = place;
-    let lsn = Lsn(point_of(session));
-    match found {
+    let Check {
+        point,
+        pages,
+        phase,
+        ..
+    } = take_check(session);
+    let lsn = Lsn(point);
+    match report_of(alloc, &pages, phase) {
         Ok(report) => {
             end(session, Reply::Report { lsn, report });
             Record::CheckEnd {
-                session: number,
-                index,
+                session: place.session,
+                index: place.index,
                 outcome: REPORTED,
             }
         }
         Err(NoMemory) => short_end(alloc, session, place),
+    }
+}
+
+/// One turn of reading in a session's check: the maps, an extent, or its end. Where there is no memory it
+/// ends too.
+fn read_or_end(alloc: Global, session: &mut Session, place: StatementNo) -> Option<Record>
+    requires room { vec_len session.old.replies < vec_capacity session.old.replies }
+    requires checking { IsChecking session.old.doing }
+    requires may { MayReadIn session.old }
+    ensures { ReadsOr place session.old session.new result }
+{
+    if is_read_in(session) {
+        return Some(end_in(alloc, session, place));
+    }
+    match read_in(alloc, session) {
+        Ok(()) => None,
+        Err(NoMemory) => Some(short_end(alloc, session, place)),
     }
 }
 
@@ -149,7 +157,7 @@ fn fresh_check(
         pages,
         ongoing,
         place: (point - 1) as usize,
-        undone: false,
+        phase: Phase::Back,
     })
 }
 
@@ -169,27 +177,28 @@ fn back_turn(state: &mut State, at: usize)
     requires at { at < length state.old.sessions.items }
     requires good { IsGood state.old }
     requires checking { (x : Session) → slice_get state.old.sessions.items at ≡ Some x → IsStage x stage.Checking }
-    requires undone { (x : Session) (check : Check) → slice_get state.old.sessions.items at ≡ Some x → x.doing ≡ Checking check → check.undone ≡ false }
+    requires back { (x : Session) (check : Check) → slice_get state.old.sessions.items at ≡ Some x → x.doing ≡ Checking check → phases.is_back check.phase ≡ true }
     ensures checked { Checked at state.old state.new }
     ensures nearer { IsNearer at state.old state.new }
 {
     back_in(&mut state.sessions[at], &state.items);
 }
 
-/// Ends a check that has taken everything back.
-fn end_turn(state: &mut State, at: usize)
+/// Reads on in a check that has taken everything back, or ends it.
+fn read_turn(state: &mut State, at: usize)
     requires at { at < length state.old.sessions.items }
     requires good { IsGood state.old }
     requires checking { (x : Session) → slice_get state.old.sessions.items at ≡ Some x → IsStage x stage.Checking }
-    requires undone { (x : Session) (check : Check) → slice_get state.old.sessions.items at ≡ Some x → x.doing ≡ Checking check → check.undone ≡ true }
+    requires behind { (x : Session) (check : Check) → slice_get state.old.sessions.items at ≡ Some x → x.doing ≡ Checking check → phases.is_back check.phase ≡ false }
     ensures checked { Checked at state.old state.new }
     ensures nearer { IsNearer at state.old state.new }
 {
     let before = owed_by(&state.sessions[at]);
     let place = place_of(at, &state.sessions[at]);
-    let found = report_in(state.alloc, &state.sessions[at]);
-    let item = end_in(state.alloc, &mut state.sessions[at], place, found);
-    settle(state, at, before, item);
+    match read_or_end(state.alloc, &mut state.sessions[at], place) {
+        None => {}
+        Some(item) => settle(state, at, before, item),
+    }
 }
 
 /// The next step of a check that is under way.
@@ -200,10 +209,10 @@ pub fn go_on_check(state: &mut State, at: usize)
     ensures checked { Checked at state.old state.new }
     ensures nearer { IsNearer at state.old state.new }
 {
-    if is_undone(&state.sessions[at]) {
-        end_turn(state, at);
-    } else {
+    if is_back_in(&state.sessions[at]) {
         back_turn(state, at);
+    } else {
+        read_turn(state, at);
     }
 }
 

@@ -10,6 +10,7 @@ mod checks;
 mod db;
 mod out;
 mod plans;
+mod reading;
 mod replay;
 mod session;
 mod stage;

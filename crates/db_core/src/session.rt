@@ -1,9 +1,22 @@
 //! What the core keeps of each session.
 
+use ck_facts::AllocMap;
+use ck_scan::Scan;
 use spec_file::Resource;
 use spec_plan::Planned;
 use spec_script::{Reply, Statement};
 use vol_pool::Frames;
+
+/// How far a check has come.
+#[derive(Drop)]
+pub enum Phase {
+    /// Items are being taken back.
+    Back,
+    /// It was found that none is left.
+    Undone,
+    /// The maps are read, and extents are being read by them.
+    Scanning { map: AllocMap, scan: Scan },
+}
 
 /// A check that is under way.
 #[derive(Drop)]
@@ -16,8 +29,7 @@ pub struct Check {
     pub ongoing: Vec<u64>,
     /// How many of the log's first items may still have to be taken back.
     pub place: usize,
-    /// Whether it was found that none has to.
-    pub undone: bool,
+    pub phase: Phase,
 }
 
 /// What a session is in the middle of.

@@ -1,17 +1,17 @@
-use Rattle.std.proofs.Common.{◌≡◌, ◌<◌, length, arith}
-use Rattle.std.proofs.lemmas.Bool.Decides.{nat_tests}
-use Rattle.ck_scan.proofs.Reports.{check_of_system, checked, empty_list, told_if}
+use Rattle.std.proofs.Common.{◌∙◌}
+use Rattle.pg_base.proofs.ReadingLaws.{reads_none, reads_then}
 use Rattle.ck_scan.proofs.scan.scan_one.Goals as goal
 
-pub returns-then-not-is_empty-clause-report : goal.returns-then-not-is_empty-clause-report
-returns-then-not-is_empty-clause-report g c =
-    let m = c.args.map.now in
-    let some : 0 < length m.system.items = grind (arith, nat_tests) in
-    told_if _ _ _ c.requires.map (λ x at of. check_of_system m.geometry x m.system.items _ some of.system
-    c.in_ok-system_report.ensures.errors c.in_ok-system_report.ensures.tables)
+pub extents-init : goal.extents-init
+extents-init g c = record {
+  by = c.in_ok-scan.ensures.by;
+  of = λ image at of. c.in_ok-scan.ensures.of image of;
+  reads = reads_none g.R.SnapReader c.args.reader.now;
+}
 
-pub returns-clause-report : goal.returns-clause-report
-returns-clause-report g c =
-    let m = c.args.map.now in
-    let none : length m.system.items ≡ 0 = grind (arith, nat_tests) in
-    checked _ m c.rules_report.result (empty_list m.system.items none) c.requires.map c.rules_report.ensures.report
+pub extents-preserved : goal.extents-preserved
+extents-preserved g c = record {
+  by = c.in_ok-read_next.ensures.next.by;
+  of = λ image at of. c.in_ok-read_next.ensures.next.of image (c.extents.invariant.reads.image ∙ at) (c.extents.invariant.of image at of);
+  reads = reads_then g.R.SnapReader _ _ _ _ c.extents.invariant.reads c.in_ok-read_next.ensures.reads;
+}

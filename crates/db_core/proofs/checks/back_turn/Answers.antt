@@ -29,4 +29,4 @@ returns-clause-nearer c a b ea eb =
     let x = c.index_mut.result.now in
     let y = c.back_in.new.session in
     let here = get_at st.sessions.items c.args.at x c.requires.at c.index_mut.ensures.value in
-    back_nearer st c.args.at x y c.requires.at here (subst (λ is. BacksIn is x y) c.deref.ensures.value c.back_in.ensures) (λ check. c.requires.undone x check here) a b ea eb
+    back_nearer st c.args.at x y c.requires.at here (subst (λ is. BacksIn is x y) c.deref.ensures.value c.back_in.ensures) (λ check. c.requires.back x check here) a b ea eb

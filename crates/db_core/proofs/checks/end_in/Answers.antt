@@ -1,34 +1,14 @@
-use Rattle.std.proofs.Common.{◌∷◌, [], ◌++◌, inl, inr, refl, ap, ◌∙◌}
-use Rattle.spec_script.specs.declared.reply.Reply.TheVariants.{Report}
-use Rattle.db_core.proofs.CheckTurns.{found_report}
+use Rattle.std.proofs.Common.{inl, refl}
+use Rattle.db_core.proofs.CheckEnds.{ended, ended_short}
 use Rattle.db_core.proofs.checks.end_in.Goals as goal
 
 pub returns-in-Ok : goal.returns-in-Ok
 returns-in-Ok c =
-    let check = c.requires.checking.0 in
-    let was = c.requires.checking.1 in
-    record {
-      check = check;
-      was = was;
-      ends = inl (
-        c.in-Ok.report,
-        found_report _ c.args.found c.in-Ok.report c.in-Ok.is c.requires.report check was,
-        c.end.ensures.replies ∙ ap (λ n. c.args.session.now.replies.items ++ Report (record { 0 = n }) c.in-Ok.report ∷ []) (c.point_of.ensures check was),
-        refl,
-      );
-      kept = c.end.ensures.kept;
-      left = c.end.ensures.left;
-      doing = c.end.ensures.doing;
-      room = c.end.ensures.kept_room;
-    }
+    let take = c.take_check-point.ensures in
+    ended c.args.place c.take_check-point.result c.args.session.now c.take_check-point.new.session c.end.new.session _ take.was take.stays
+    (inl (c.in-Ok.report, c.requires.read c.take_check-point.result take.was, c.in-Ok.ensures, c.end.ensures.replies, refl)) c.end.ensures.kept c.end.ensures.left c.end.ensures.doing c.end.ensures.kept_room
 
-pub returns-in-Err : goal.returns-in-Err
-returns-in-Err c = record {
-  check = c.requires.checking.0;
-  was = c.requires.checking.1;
-  ends = inr (c.short_end.ensures.replies, c.short_end.ensures.item);
-  kept = c.short_end.ensures.kept;
-  left = c.short_end.ensures.left;
-  doing = c.short_end.ensures.doing;
-  room = c.short_end.ensures.room;
-}
+pub returns : goal.returns
+returns c =
+    let take = c.take_check-point.ensures in
+    ended_short c.args.place c.take_check-point.result c.args.session.now c.take_check-point.new.session c.short_end.new.session c.short_end.result take.was take.stays c.short_end.ensures

@@ -1,18 +1,18 @@
 use Rattle.db_core.proofs.Good.{get_at, get_same}
-use Rattle.db_core.proofs.CheckTurns.{undone_of}
+use Rattle.db_core.proofs.CheckTurns.{phase_of}
 use Rattle.db_core.proofs.checks.go_on_check.Goals as goal
 
-pub is_undone-requires : goal.is_undone-requires
-is_undone-requires c = c.requires.checking c.index.result.now (get_at c.args.state.now.sessions.items c.args.at c.index.result.now c.requires.at c.index.ensures)
+pub is_back_in-requires : goal.is_back_in-requires
+is_back_in-requires c = c.requires.checking c.index.result.now (get_at c.args.state.now.sessions.items c.args.at c.index.result.now c.requires.at c.index.ensures)
 
-pub end_turn-requires-clause-undone : goal.end_turn-requires-clause-undone
-end_turn-requires-clause-undone c x check here doing =
+pub back_turn-requires-clause-back : goal.back_turn-requires-clause-back
+back_turn-requires-clause-back c x check here doing =
     let st = c.args.state.now in
     let same = get_same st.sessions.items c.args.at c.index.result.now x (get_at st.sessions.items c.args.at c.index.result.now c.requires.at c.index.ensures) here in
-    undone_of c.index.result.now x check same doing c.is_undone.ensures c.if-is_undone.true
+    phase_of c.index.result.now x check same doing c.is_back_in.ensures c.if-is_back_in.true
 
-pub back_turn-requires-clause-undone : goal.back_turn-requires-clause-undone
-back_turn-requires-clause-undone c x check here doing =
+pub read_turn-requires-clause-behind : goal.read_turn-requires-clause-behind
+read_turn-requires-clause-behind c x check here doing =
     let st = c.args.state.now in
     let same = get_same st.sessions.items c.args.at c.index.result.now x (get_at st.sessions.items c.args.at c.index.result.now c.requires.at c.index.ensures) here in
-    undone_of c.index.result.now x check same doing c.is_undone.ensures c.if-is_undone.false
+    phase_of c.index.result.now x check same doing c.is_back_in.ensures c.if-is_back_in.false

@@ -5,7 +5,7 @@ use Rattle.spec_tables.specs.Written.{IsRuleError}
 use Rattle.ck_error.proofs.GatheringLaws.{lists_in_order}
 use Rattle.ck_scan.proofs.Reports.{Joins, rule_errors}
 use Rattle.ck_scan.proofs.TableLaws.{tables_found}
-use Rattle.ck_scan.proofs.scan.report_of.Goals as goal
+use Rattle.ck_scan.proofs.report.report_of.Goals as goal
 
 pub returns : goal.returns
 returns c = record {

@@ -1,7 +1,7 @@
 use Rattle.std.proofs.Common.{◌≡◌, ◌⊎◌, ◌↔◌, List, ◌++◌, Contains, sym, subst, ⊎_elim}
 use Rattle.spec_check.specs.declared.report.CheckError.{CheckError}
 use Rattle.std.proofs.lemmas.List.Elements.{Contains-append_left, Contains-append_right, Contains-append_cases}
-use Rattle.ck_scan.proofs.scan.joined.Goals as goal
+use Rattle.ck_scan.proofs.report.joined.Goals as goal
 
 together : (both first second : List CheckError) (x : CheckError) → both ≡ first ++ second → Contains both x ↔ (Contains first x ⊎ Contains second x)
 together both first second x is = (

@@ -9,7 +9,7 @@ use Rattle.spec_plan.specs.ReplayForm.{IsReplayForm}
 use Rattle.spec_run.specs.Begun.{Setting}
 use Rattle.spec_file.specs.Places.{HasShape}
 use Rattle.law_run.specs.Laws.{IsStart}
-use Rattle.db_core.specs.Runs.{setting_of}
+use Rattle.spec_run.specs.Schedules.{setting_of}
 use Rattle.db_core.specs.States.{Db}
 use Rattle.run_file.specs.Opening.{AreAllPages}
 use Rattle.run_file.specs.Sources.{AreTexts, AreTurnsOf}
@@ -52,6 +52,8 @@ is_run lefts file log start core over n begins = record {
   pages = subst (λ (r : Setting). IfSome file (AreAllPages r.image)) (sym over.run) begins.pages;
   empty = begins.empty;
   rest = over.rest ∙ sym (ap (λ (r : Setting). length r.scripts) over.run);
+  left = over.left;
+  after = over.after;
   taken = over.taken;
   whole = over.whole;
 }

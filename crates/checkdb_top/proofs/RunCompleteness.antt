@@ -10,7 +10,7 @@ use Rattle.spec_script.specs.declared.stop.ScriptWhy.{ScriptWhy}
 use Rattle.spec_script.specs.Replies.{text_of}
 use Rattle.spec_run.specs.Begun.{Setting}
 use Rattle.spec_run.specs.Entries.{Entry, items_of}
-use Rattle.db_core.specs.Reports.{is_terminated}
+use Rattle.spec_run.specs.Answers.{is_terminated}
 use Rattle.db_core.proofs.Reports.{none_terminated}
 use Rattle.spec_log.specs.declared.limits.TheConstants.{LONGEST_LOG}
 use Rattle.run_file.specs.Opening.{IsRunFile}

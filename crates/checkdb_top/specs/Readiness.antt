@@ -8,8 +8,9 @@ use Rattle.spec_plan.specs.ReplayForm.{IsReplayForm}
 use Rattle.spec_run.specs.Begun.{Setting}
 use Rattle.spec_run.specs.Entries.{Entry}
 use Rattle.spec_run.specs.Turns.{IsWhole, Run}
+use Rattle.spec_run.specs.Bounds.{TurnsLeft, RunWithin}
 use Rattle.spec_file.specs.Places.{HasShape}
-use Rattle.db_core.specs.Runs.{rest_from, setting_of, turns_of}
+use Rattle.spec_run.specs.Schedules.{rest_from, setting_of, turns_of}
 use Rattle.db_core.specs.States.{Db}
 use Rattle.run_file.specs.Sources.{AreShort, AreTurnsOf}
 use Rattle.checkdb_top.specs.declared.start.Start.{Start}
@@ -37,7 +38,9 @@ pub record IsOver (image : Image) (turns : List (ℕ × ℕ)) (scripts : List (L
   pub run : core.run ≡ setting_of image scripts
   pub counts : List ℕ
   pub rest : length counts ≡ length scripts
-  pub taken : Run core.run [] (turns_of turns ++ rest_from 1 counts) core.entries
+  pub left : TurnsLeft
+  pub after : TurnsLeft
+  pub taken : RunWithin core.run left [] (turns_of turns ++ rest_from 1 counts) after core.entries
   pub whole : IsWhole core.run core.entries
 
 -- the replies of each session can be numbered

@@ -3,7 +3,7 @@ use Rattle.std.specs.Prelude.{◌≡◌, ℕ, ◌-◌, ◌<◌, ◌==◌, Bool, 
 use Rattle.std.specs.List.{list_any, list_all}
 use Rattle.std.specs.Io.KnownBytes.{IsAtEnd}
 use Rattle.spec_file.specs.declared.geometry.Geometry.TheVariants.{Small}
-use Rattle.spec_file.specs.Image.{Image}
+use Rattle.spec_file.specs.Image.{Image, page}
 use Rattle.spec_log.specs.declared.limits.TheConstants.{SHORT}
 use Rattle.spec_log.specs.declared.item.Record.{Record}
 use Rattle.spec_log.specs.declared.item.Record.TheVariants.{CheckEnd}
@@ -19,12 +19,12 @@ use Rattle.spec_run.specs.Begun.{Setting}
 use Rattle.spec_run.specs.Entries.{Entry, items_of}
 use Rattle.spec_run.specs.Progress.{script_of}
 use Rattle.spec_run.specs.Sessions.{placed_of}
-use Rattle.spec_run.specs.Turns.{AreTold, told_to, IsLegalRun, IsSession, IsWhole, Run}
+use Rattle.spec_run.specs.Turns.{AreTold, told_to, IsLegalRun, IsSession, IsWhole}
+use Rattle.spec_run.specs.Bounds.{TurnsLeft, RunWithin}
+use Rattle.spec_run.specs.ChangedPages.{is_changed}
 use Rattle.law_shape.specs.Answered.{AreAnswered}
-use Rattle.db_core.specs.Reports.{is_terminated}
-use Rattle.db_core.specs.Runs.{rest_from, setting_of, turns_of}
-use Rattle.vol_pool.specs.Changed.{changes_page}
-use Rattle.vol_pool.specs.Writing.{SameUnmarked, is_marked}
+use Rattle.spec_run.specs.Answers.{is_terminated}
+use Rattle.spec_run.specs.Schedules.{rest_from, setting_of, turns_of}
 use Rattle.run_file.specs.Sources.{AreTexts}
 use Rattle.run_file.specs.Opening.{AreAllPages}
 use Rattle.checkdb_top.specs.Answers.{ended}
@@ -63,7 +63,7 @@ abbrev pub AreStatements : List (List Statement) → Type 0
 AreStatements scripts = IsTrue (list_all (list_all is_statement) scripts)
 
 -- a whole history of the sessions whose scripts are the sources' texts, over the pages of the file and an
--- empty log, in the turns of the schedule and then of each session, rising, to its end
+-- empty log, in the turns of the schedule and then of each session, rising, to its end, each check within its bound
 pub record IsRunOf (lefts : List (Option (List ℕ))) (file log : Option (List ℕ)) (run : Setting) (entries : List Entry) : Type 0 where
   pub turns : List (ℕ × ℕ)
   pub counts : List ℕ
@@ -73,16 +73,18 @@ pub record IsRunOf (lefts : List (Option (List ℕ))) (file log : Option (List �
   pub pages : IfSome file (AreAllPages run.image)
   pub empty : IfSome log IsEmptyLog
   pub rest : length counts ≡ length run.scripts
-  pub taken : Run run [] (turns_of turns ++ rest_from 1 counts) entries
+  pub left : TurnsLeft
+  pub after : TurnsLeft
+  pub taken : RunWithin run left [] (turns_of turns ++ rest_from 1 counts) after entries
   pub whole : IsWhole run entries
 
 -- the pages at the end of a history
 abbrev pub last_of : Setting → List Entry → Image
 last_of run entries = final_image run.opened (items_of entries) run.image
 
--- of so many pages those are marked that an item changes, and no other
-abbrev pub MarkChanged : List Bool → ℕ → List Record → Type 0
-MarkChanged changed pages log = (p : ℕ) → p < pages → is_marked changed p ≡ list_any (changes_page p) log
+-- the pages that no item changes are as the run found them
+abbrev pub StayUnchanged : Setting → List Entry → Type 0
+StayUnchanged run entries = (p : ℕ) → p < length run.image → is_changed (items_of entries) p ≡ false → page run.image p ≡ page (last_of run entries) p
 
 -- each session's items are those of its script's statements in order, each once, and each answered at its record as a one-thread
 -- database answers there
@@ -96,10 +98,8 @@ pub record Closes (run : Setting) (entries : List Entry) (file file_now log log_
   pub count : length replies ≡ length run.scripts
   pub legal : IsLegalRun run entries (replies_to replies)
   pub answered : AreAllAnswered run (items_of entries)
-  pub changed : List Bool
-  pub marks : MarkChanged changed (length run.image) (items_of entries)
-  pub stay : SameUnmarked changed (last_of run entries) run.image
-  pub writes : Writes (log_bytes (items_of entries)) changed (last_of run entries) (text_of replies) (ended_as (items_of entries) replies)
+  pub stay : StayUnchanged run entries
+  pub writes : Writes (log_bytes (items_of entries)) (is_changed (items_of entries)) (last_of run entries) (text_of replies) (ended_as (items_of entries) replies)
       file file_now log log_now out out_now s
 
 -- a run ends: it doesn't begin, or want of memory ends it before its close, and then nothing is written; or its

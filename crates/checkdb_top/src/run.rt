@@ -12,8 +12,9 @@ ghost use Rattle.run_file.specs.Opening.{AreAllPages};
 ghost use Rattle.checkdb_top.specs.Answers.{IsDevice};
 ghost use Rattle.checkdb_top.specs.Runs.{ends_short, has_errors, ended_as, replies_to, AreAllTold, Closes, Ends};
 ghost use Rattle.checkdb_top.specs.Writes.{Writes};
-ghost use Rattle.db_core.specs.Reports.{is_terminated};
+ghost use Rattle.spec_run.specs.Answers.{is_terminated};
 ghost use Rattle.checkdb_top.specs.Readiness.{IsMade, IsOver, MayBegin, AreFew};
+ghost use Rattle.vol_pool.specs.Writing.{is_marked};
 ghost use Rattle.run_close.specs.Close.{MayClose};
 ghost use Rattle.checkdb_top.specs.declared.status.Device.{Device as AnyDevice};
 ghost use Rattle.checkdb_top.specs.declared.status.Device.TheVariants.{Volume, Log, Source, Sink};
@@ -135,7 +136,7 @@ fn write_run<V: vol_dev::Volume, L: LogFile, K: vol_dev::Sink>(
     requires few { AreFew (map (λ r. r.now) replies.now) }
     requires sessions { length replies.now < 2 ^ 32 }
     requires known { (d : AnyDevice) → ¬ IsDevice d known }
-    ensures writes { Writes close.now.bytes.items close.now.changed.items frames.now (text_of (map (λ r. r.now) replies.now)) known
+    ensures writes { Writes close.now.bytes.items (is_marked close.now.changed.items) frames.now (text_of (map (λ r. r.now) replies.now)) known
         (V.contents volume.old) (V.contents volume.new) (L.contents log.old) (L.contents log.new) (K.contents out.old) (K.contents out.new) result }
     ensures source_fault { ¬ IsDevice Source result }
     ensures volume_faults { Counts (IsDevice Volume result) (V.faults volume.old) (V.faults volume.new) }

@@ -1,20 +1,15 @@
 -- One turn of a session, whatever it does.
-use Rattle.std.proofs.Common.{◌≡◌, ℕ, zero, suc, ◌+◌, ◌<◌, ◌≤◌, get_or, true, List, [], ◌∷◌, length, Some, None, inl, inr, refl, sym, ap, ◌∙◌, subst, arith, vec_len}
-use Rattle.std.specs.Prelude.{slice_get, Result, Ok, Err, IfOk, nat_le}
-use Rattle.std.proofs.lemmas.Bool.{and_parts, leb-true}
+use Rattle.std.proofs.Common.{◌≡◌, ℕ, zero, suc, ◌+◌, ◌<◌, get_or, true, List, [], ◌∷◌, length, Some, None, inl, inr, refl, sym, ap, ◌∙◌, subst, arith, vec_len}
+use Rattle.std.specs.Prelude.{slice_get}
 use Rattle.std.proofs.lemmas.Option.{slice_get_within}
-use Rattle.spec_file.specs.declared.data.NoMemory.{NoMemory}
 use Rattle.spec_log.specs.declared.item.Record.{Record}
 use Rattle.spec_log.specs.declared.item.Record.TheVariants.{Snap}
+use Rattle.spec_script.specs.Lines.{is_statement}
 use Rattle.spec_script.specs.declared.statement.Statement.{Statement}
 use Rattle.spec_script.specs.declared.statement.Statement.TheVariants as statement
-use Rattle.spec_plan.specs.Statements.{count_outcome, insert_outcome}
 use Rattle.spec_run.specs.Begun.{Setting}
-use Rattle.spec_run.specs.Sights.{sight_of}
 use Rattle.spec_run.specs.Progress.{progress_of, at_work, with_statement, script_of, first_of, next_of}
 use Rattle.spec_run.specs.Turns.{Rests}
-use Rattle.db_heap.specs.declared.plan.Plan.{Plan}
-use Rattle.db_heap.specs.Plans.{outcome_of}
 use Rattle.db_core.specs.declared.session.Doing.{Doing}
 use Rattle.db_core.specs.declared.session.Doing.TheVariants.{Idle, Changing, Ending, Undoing, Checking}
 use Rattle.db_core.specs.declared.session.Session.{Session}
@@ -22,19 +17,17 @@ use Rattle.db_core.specs.declared.state.State.{State}
 use Rattle.db_core.specs.declared.out.TurnOut.{TurnOut}
 use Rattle.db_core.specs.declared.out.TurnOut.TheVariants as out
 use Rattle.db_core.specs.Checks.{Checked, Snapped}
-use Rattle.db_core.specs.Plans.{IsPlanned}
-use Rattle.db_core.specs.Stages.{IsStage, is_table}
+use Rattle.db_plan.specs.Plans.{is_planned}
+use Rattle.db_core.specs.Stages.{IsStage}
 use Rattle.db_core.specs.declared.stage.Stage.{Stage}
 use Rattle.db_core.specs.declared.stage.Stage.TheVariants as stages
 use Rattle.db_core.specs.Rooms.{started_of}
 use Rattle.db_core.specs.States.{IsAt, IsSession, IsUnderWay}
 use Rattle.db_core.specs.Words.{statement_of}
 use Rattle.db_core.specs.Store.{run_is, log_of, told_count, SaysOut, IsGood, Answers, Advanced}
-use Rattle.db_core.specs.Views.{tran_of_session, sight_at}
 use Rattle.db_core.proofs.CheckTurns.{no_longer}
 use Rattle.db_core.proofs.Good.{items_entries, get_same}
 use Rattle.db_core.proofs.Next.{told_count as replies_told}
-use Rattle.db_core.proofs.Planned.{insert_planned, count_planned, want_planned}
 
 -- the statement that stands at a place
 pub at_statement : (xs : List Statement) (i : ℕ) (s y : Statement) → slice_get xs i ≡ Some s → y ≡ get_or xs i y → y ≡ s
@@ -43,39 +36,18 @@ at_statement (x ∷ xs) zero s y e at = (let same : x ≡ s = cc in at ∙ same)
 at_statement (x ∷ xs) (suc i) s y e at = at_statement xs i s y e at
 
 -- the statement that comes next is the one that was found
-pub next_is : (x : Session) (len : ℕ) (y : Statement) → IsStage x stages.Table → len ≡ vec_len x.replies → y ≡ get_or x.script.items len y →
-    (slice_get x.script.items (length x.replies.items) ≡ Some y) × (is_table y ≡ true)
+pub next_is : (x : Session) (len : ℕ) (y : Statement) → IsStage x stages.Planned → len ≡ vec_len x.replies → y ≡ get_or x.script.items len y →
+    (slice_get x.script.items (length x.replies.items) ≡ Some y) × (is_planned y ≡ true)
 next_is x len y stage len_is at =
     let count : len ≡ length x.replies.items = len_is ∙ x.replies.ok.0 in
     let same = at_statement x.script.items len stage.1.0 y (ap (slice_get x.script.items) count ∙ stage.1.1) at in
-    (stage.1.1 ∙ ap Some (sym same), ap is_table same ∙ stage.1.2)
+    (stage.1.1 ∙ ap Some (sym same), ap is_planned same ∙ stage.1.2)
 
--- what a transaction sees is what its session does
-pub same_sight : (st : State) (k : ℕ) (x : Session) → slice_get st.sessions.items k ≡ Some x → sight_at st k ≡ sight_of (run_is st) (log_of st) x.tran
-same_sight st k x here = ap (λ o. sight_of (run_is st) (log_of st) (tran_of_session o)) here
-
-pub table_insert : (st : State) (k : ℕ) (x : Session) (table : List ℕ) (key : ℕ) (payload : List ℕ) → IsGood st → slice_get st.sessions.items k ≡ Some x → x.doing ≡ Idle →
-    slice_get x.script.items (length x.replies.items) ≡ Some (statement.Insert table key payload) → (result : Result Plan NoMemory) →
-    IfOk result (λ p. outcome_of p ≡ insert_outcome (sight_at st k) table key payload) → IsPlanned st k x result
-table_insert st k x table key payload good here idle next (Ok p) is =
-    insert_planned st k x table key payload p good here idle next (is ∙ ap (λ s. insert_outcome s table key payload) (same_sight st k x here))
-table_insert st k x table key payload good here idle next (Err e) is = want_planned st k x e (statement.Insert table key payload) idle next refl
-
-pub table_count : (st : State) (k : ℕ) (x : Session) (table : List ℕ) → IsGood st → slice_get st.sessions.items k ≡ Some x → x.doing ≡ Idle →
-    slice_get x.script.items (length x.replies.items) ≡ Some (statement.Count table) → (result : Result Plan NoMemory) →
-    IfOk result (λ p. outcome_of p ≡ count_outcome (sight_at st k) table) → IsPlanned st k x result
-table_count st k x table good here idle next (Ok p) is = count_planned st k x table p good idle next (is ∙ ap (λ s. count_outcome s table) (same_sight st k x here))
-table_count st k x table good here idle next (Err e) is = want_planned st k x e (statement.Count table) idle next refl
-
--- the payload of a statement of a script
-pub short_payload : (st : State) (k : ℕ) (x : Session) (table : List ℕ) (key : ℕ) (payload : List ℕ) → IsGood st → slice_get st.sessions.items k ≡ Some x →
-    slice_get x.script.items (length x.replies.items) ≡ Some (statement.Insert table key payload) → length payload ≤ 1013
-short_payload st k x table key payload good here next =
+-- a statement of a script is one of the language
+pub proper_next : (st : State) (k : ℕ) (x : Session) (s : Statement) → IsGood st → slice_get st.sessions.items k ≡ Some x → slice_get x.script.items (length x.replies.items) ≡ Some s → is_statement s ≡ true
+proper_next st k x s good here next =
     let mine = good.state.each k x here in
-    let proper = good.proper (k + 1) (length x.replies.items) (statement.Insert table key payload) (ap (λ script. slice_get script (length x.replies.items)) mine.script_is ∙ next) in
-    let parts = and_parts _ _ proper in
-    let payload_is = and_parts _ (nat_le (length payload) 1013) parts.1 in
-    leb-true (length payload) 1013 payload_is.1
+    good.proper (k + 1) (length x.replies.items) s (ap (λ script. slice_get script (length x.replies.items)) mine.script_is ∙ next)
 
 -- a session whose script is done has no next item
 pub done_next : (run : Setting) (log : List Record) (s : ℕ) (x : Session) → IsSession run log s x → x.doing ≡ Idle → slice_get x.script.items (length x.replies.items) ≡ None → next_of run s log ≡ None
@@ -111,8 +83,8 @@ statement_left st k x y stage good here there is more = by_stage stage (subst (�
   where
     started : (d : Doing) → IsUnderWay d → started_of d ≡ 1
     started Idle h = absurd h
-    started (Changing next later own rows) h = refl
-    started (Ending rows) h = refl
+    started (Changing next later own reply) h = refl
+    started (Ending reply) h = refl
     started Undoing h = refl
     started (Checking check) h = absurd h
 
@@ -122,7 +94,7 @@ statement_left st k x y stage good here there is more = by_stage stage (subst (�
     by_stage stages.Checking h m = let busy = (good.each_room k x here).busy in let one = ap started_of h.1 in omega (arith, busy, one)
     by_stage (stages.Word word) h m = slice_get_within x.script.items (length x.replies.items) (statement_of word) h.1
     by_stage stages.Check h m = slice_get_within x.script.items (length x.replies.items) (statement.Check h.1.0) h.1.1
-    by_stage stages.Table h m = slice_get_within x.script.items (length x.replies.items) h.1.0 h.1.1
+    by_stage stages.Planned h m = slice_get_within x.script.items (length x.replies.items) h.1.0 h.1.1
 
 pub checked_advanced : (old new : State) (k before : ℕ) (x y : Session) (answer : TurnOut) → IsGood old → slice_get old.sessions.items k ≡ Some x → length x.replies.items < length x.script.items →
     Checked k old new → before ≡ length x.replies.items → slice_get new.sessions.items k ≡ Some y → Answers before y answer → Advanced k old new answer

@@ -1,10 +1,11 @@
 -- A turn of an idle session whose next statement needs no plan.
-use Rattle.std.proofs.Common.{◌≡◌, ℕ, ◌+◌, ◌<◌, ◌≤◌, false, [], ◌∷◌, ◌++◌, length, Some, None, inl, inr, refl, sym, ap, ◌∙◌, arith}
+use Rattle.std.proofs.Common.{◌≡◌, ℕ, ◌+◌, ◌<◌, ◌≤◌, false, [], ◌∷◌, ◌++◌, length, Some, inl, inr, refl, sym, ap, ◌∙◌, arith}
 use Rattle.std.specs.Prelude.{slice_get}
 use Rattle.std.proofs.lemmas.Option.{slice_get_within}
 use Rattle.std.proofs.lemmas.List.{length_push}
 use Rattle.spec_log.specs.declared.item.Record.{Record}
 use Rattle.db_core.specs.declared.session.Doing.{Doing}
+use Rattle.spec_script.specs.declared.reply.Reply.TheVariants.{Done}
 use Rattle.db_core.specs.declared.session.Doing.TheVariants.{Idle, Ending, Undoing}
 use Rattle.db_core.specs.declared.session.Session.{Session}
 use Rattle.db_core.specs.declared.starts.StatementNo.{StatementNo}
@@ -99,7 +100,7 @@ word_room word last place old new x next room kept_room st = by_word word (slice
     by_word Begin more (inl r) = opening_room place (last + 1) old new x next.idle more room kept_room r.1
     by_word Begin more (inr r) = refusal_room place 60001 old new x next.idle more room kept_room r.1
     by_word Commit more (inl r) = refusal_room place 3902 old new x next.idle more room kept_room r.1
-    by_word Commit more (inr r) = going_room place (Ending None) old new x refl refl next.idle more room kept_room r.1
+    by_word Commit more (inr r) = going_room place (Ending Done) old new x refl refl next.idle more room kept_room r.1
     by_word Rollback more (inl r) = refusal_room place 3903 old new x next.idle more room kept_room r.1
     by_word Rollback more (inr r) = going_room place Undoing old new x refl refl next.idle more room kept_room r.1
 

@@ -1,12 +1,11 @@
 -- Sessions that have done nothing, runs one after another, and what contracts see of the core.
 use Rattle.std.proofs.Common.{◌≡◌, ℕ, zero, suc, ◌+◌, ◌-◌, ◌<◌, ◌≤◌, true, false, List, [], ◌∷◌, ◌++◌, length, map, reverse, get_or, Option, Some, None, inl, refl, sym, ap, ◌∙◌, subst, arith, vec_len, vec_capacity}
-use Rattle.std.specs.Prelude.{if◌then◌else◌, slice_get, slice_index, sum_by}
+use Rattle.std.specs.Prelude.{if◌then◌else◌, slice_get, sum_by}
 use Rattle.std.specs.List.{list_any}
 use Rattle.std.proofs.lemmas.Bool.{ne_eqb}
 use Rattle.std.proofs.lemmas.List.{reverse-append}
 use Rattle.spec_file.specs.Image.{Image}
 use Rattle.spec_log.specs.declared.item.Record.{Record}
-use Rattle.spec_log.specs.declared.item.Record.TheVariants.{Snap}
 use Rattle.spec_log.specs.Items.{has_form}
 use Rattle.spec_log.specs.Cells.{HasWholePages}
 use Rattle.spec_log.specs.Rules.{HaveForm}
@@ -19,26 +18,25 @@ use Rattle.spec_file.specs.Places.{HasShape}
 use Rattle.spec_script.specs.declared.statement.Statement.{Statement}
 use Rattle.spec_run.specs.Begun.{Setting}
 use Rattle.spec_run.specs.Entries.{items_of}
-use Rattle.spec_run.specs.Turns.{AreTold, told_to, IsLegal, IsWhole, Run}
+use Rattle.spec_run.specs.Turns.{AreTold, told_to, IsLegal, IsWhole}
 use Rattle.spec_run.specs.Progress.{script_of, progress_of, next_of}
 use Rattle.law_run.proofs.Legal.{legal_is_sound}
 use Rattle.db_core.specs.declared.session.Doing.TheVariants.{Idle}
 use Rattle.db_core.specs.declared.session.Session.{Session}
-use Rattle.db_core.specs.Bounds.{most_turns, IsAtWork, HasBound}
+use Rattle.spec_run.specs.Bounds.{TakesTurn, RunWithin}
 use Rattle.db_core.specs.Rooms.{owed_by, pending_of, started_of, HasOwnRoom, turns_left, left_of_statement}
 use Rattle.db_core.specs.declared.state.State.{State}
 use Rattle.db_core.specs.declared.out.TurnOut.{TurnOut}
-use Rattle.db_core.specs.Reports.{is_terminated}
+use Rattle.spec_run.specs.Answers.{is_terminated}
 use Rattle.db_core.proofs.Reports.{none_terminated}
-use Rattle.db_core.specs.Runs.{AreNew, IsNew, setting_of, turns_of, rest_from}
+use Rattle.spec_run.specs.Schedules.{setting_of, turns_of, rest_from}
+use Rattle.db_core.specs.Runs.{AreNew, IsNew}
 use Rattle.db_core.specs.Replays.{RunsSchedule, EndsSessions}
 use Rattle.db_core.specs.States.{Db, left_in, TurnIn, entries_of, run_of, IsAt, IsState}
-use Rattle.db_core.specs.Store.{run_is, log_of, left_at, db_of, AreProper, IsGood, IsTurn, SaysOut, Advanced, GoesNearer}
-use Rattle.db_core.specs.ViewLaws.{get_within}
-use Rattle.db_core.proofs.Advances.{same_many}
+use Rattle.db_core.specs.Store.{run_is, log_of, db_of, AreProper, IsGood, IsTurn, SaysOut, Advanced, GoesNearer}
 use Rattle.law_pages.specs.Bytes.{HasPagesOfBytes}
 use Rattle.db_core.proofs.Good.{get_at, owed_low, sum_low, items_entries, same_bytes}
-use Rattle.db_core.proofs.Replays.{run_then, less_left}
+use Rattle.db_core.proofs.TurnsLeft.{within_then, left_seen, takes_turn}
 
 -- one more session, for one more script
 pub new_more : {X : Type 0} (v : X → List Statement) (xs : List X) (x : X) (sessions : List Session) (y : Session) → AreNew (map v xs) sessions → IsNew (v x) y →
@@ -191,15 +189,6 @@ setting_fresh image scripts st fresh = ap (setting_of image) (scripts_new script
 log_fresh : (image : Image) (scripts : List (List Statement)) (st : State) → IsFresh image scripts st → log_of st ≡ []
 log_fresh image scripts st fresh = ap reverse fresh.items
 
--- how many turns are left, as contracts see it
-pub left_seen : (st : State) (s : ℕ) → left_in (db_of st) s ≡ left_at st (s - 1)
-left_seen st s = by_list st.sessions.items (s - 1)
-  where
-    by_list : (sessions : List Session) (j : ℕ) → slice_index (map (λ (x : Session). turns_left st.items.items x x.doing) sessions) j ≡ left_of_statement st.items.items (slice_get sessions j)
-    by_list [] j = refl
-    by_list (x ∷ sessions) zero = refl
-    by_list (x ∷ sessions) (suc j) = by_list sessions j
-
 -- what contracts see of it
 pub seen_fresh : (image : Image) (scripts : List (List Statement)) (st : State) → IsFresh image scripts st →
     (run_is st ≡ setting_of image scripts) × (entries_of (log_of st) ≡ []) × ((s : ℕ) → left_in (db_of st) s ≡ 0)
@@ -276,40 +265,10 @@ says_seen old new db at s out view place says =
 
 -- and of how many turns are left
 pub bound_seen : (old new : State) (db : Db) (at s : ℕ) (answer : TurnOut) → db_of old ≡ db → at + 1 ≡ s → IsGood old → at < length old.sessions.items → Advanced at old new answer → GoesNearer at old new →
-    HasBound s db (db_of new)
+    TakesTurn db.run s db.entries (entries_of (log_of new)) (left_in db) (left_in (db_of new))
 bound_seen old new db at s answer view place good inside adv nearer =
-    subst (λ d. HasBound s d (db_of new)) view (subst (λ n. HasBound n (db_of old) (db_of new)) place of_states)
-  where
-    run : Setting
-    run = run_is old
-
-    back : at + 1 - 1 ≡ at
-    back = omega arith
-
-    found : (x : Session) × (slice_get old.sessions.items at ≡ Some x)
-    found = get_within old.sessions.items at inside
-
-    now : (y : Session) × (slice_get new.sessions.items at ≡ Some y)
-    now = get_within new.sessions.items at (same_many old new at good adv.good adv.turn.0 inside)
-
-    busy : IsAtWork run (at + 1) (entries_of (log_of old)) → found.0.doing ≡ Idle → ⊥
-    busy work idle = work (ap (λ l. (progress_of run (at + 1) l).due) (items_entries (log_of old))
-        ∙ subst (IsAt run (log_of old) (at + 1) (length found.0.replies.items + 1) found.0.tran (progress_of run (at + 1) (log_of old))) idle (good.state.each at found.0 found.1).doing_is)
-
-    now_left : left_in (db_of new) (at + 1) ≡ left_at new at
-    now_left = left_seen new (at + 1) ∙ ap (left_at new) back
-
-    old_left : left_in (db_of old) (at + 1) ≡ left_at old at
-    old_left = left_seen old (at + 1) ∙ ap (left_at old) back
-
-    of_states : HasBound (at + 1) (db_of old) (db_of new)
-    of_states = record {
-      fewer = λ work. (let less = less_left old new at found.0 now.0 found.1 now.1 (busy work) nearer in omega (arith, now_left, old_left, less));
-      begins = λ index e. subst (λ n. n ≤ most_turns run (items_of (entries_of (log_of old)))) (sym now_left)
-          (subst (λ l. left_at new at ≤ most_turns run l) (sym (items_entries (log_of old)))
-          (adv.begins index (sym (items_entries (log_of new)) ∙ ap items_of e ∙ ap (λ l. Snap (at + 1) index ∷ l) (items_entries (log_of old)))));
-      others = λ other is differ. (let above = is.0 in left_seen new other ∙ adv.others (other - 1) (λ e. differ (omega (arith, e, above))) ∙ sym (left_seen old other));
-    }
+    subst (λ (d : Db). TakesTurn d.run s d.entries (entries_of (log_of new)) (left_in d) (left_in (db_of new))) view
+    (subst (λ n. TakesTurn (run_is old) n (entries_of (log_of old)) (entries_of (log_of new)) (left_in (db_of old)) (left_in (db_of new))) place (takes_turn old new at answer good inside adv nearer))
 
 -- what a session was told, its items and the pages, as contracts see them
 pub told_seen : (st : State) (db : Db) (at s : ℕ) (x : Session) → db_of st ≡ db → at + 1 ≡ s → IsGood st → slice_get st.sessions.items at ≡ Some x →
@@ -364,7 +323,7 @@ pub record IsReplayed (schedule : List (ℕ × ℕ)) (old new : Db) : Type 0 whe
   pub same : new.run ≡ old.run
   pub counts : List ℕ
   pub all : length counts ≡ length old.run.scripts
-  pub run : Run old.run old.entries (turns_of schedule ++ rest_from 1 counts) new.entries
+  pub run : RunWithin old.run (left_in old) old.entries (turns_of schedule ++ rest_from 1 counts) (left_in new) new.entries
   pub whole : IsWhole new.run new.entries
 
 -- a schedule's turns and then each session's lead to the end of all
@@ -380,8 +339,9 @@ whole_seen old mid new db schedule view first last =
           same = same;
           counts = last.counts;
           all = last.all ∙ first.good.state.few ∙ ap (λ (r : Setting). length r.scripts) mid_run;
-          run = run_then (run_is old) (turns_of schedule) (rest_from 1 last.counts) (entries_of (log_of old)) (entries_of (log_of mid)) (entries_of (log_of new))
-              first.run (subst (λ r. Run r (entries_of (log_of mid)) (rest_from 1 last.counts) (entries_of (log_of new))) mid_run last.follows.run);
+          run = within_then (run_is old) (turns_of schedule) (rest_from 1 last.counts) (left_in (db_of old)) (left_in (db_of mid)) (left_in (db_of new))
+              (entries_of (log_of old)) (entries_of (log_of mid)) (entries_of (log_of new)) first.run
+              (subst (λ r. RunWithin r (left_in (db_of mid)) (entries_of (log_of mid)) (rest_from 1 last.counts) (left_in (db_of new)) (entries_of (log_of new))) mid_run last.follows.run);
           whole = λ s is.
               let count : length mid.sessions.items ≡ length (run_is new).scripts =
               first.good.state.few ∙ ap (λ (r : Setting). length r.scripts) (sym last.follows.same) in

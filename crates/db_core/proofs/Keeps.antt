@@ -88,8 +88,8 @@ snapshot_more run log x check telling p =
 at_other : (run : Setting) (log : List Record) (x : Record) (s index t : ℕ) (p : Progress) (doing : Doing) → (0 < t → tran_of x ≡ t → ⊥) →
     IsAt run log s index t p doing → IsAt run (x ∷ log) s index t p doing
 at_other run log x s index t p Idle n d = d
-at_other run log x s index t p (Changing next later own rows) n d = d
-at_other run log x s index t p (Ending rows) n d = d
+at_other run log x s index t p (Changing next later own reply) n d = d
+at_other run log x s index t p (Ending reply) n d = d
 at_other run log x s index t p Undoing n d = (d.0 ∙ ap (abort_items t) (sym (left_other x (whole_log run log) t (n d.2))), d.1, d.2)
 at_other run log x s index t p (Checking check) n d = (d.0, snapshot_more run log x check p.telling d.1, d.2)
 

@@ -18,7 +18,7 @@ use Rattle.db_core.specs.declared.starts.StatementNo.{StatementNo}
 use Rattle.db_core.specs.declared.state.State.{State}
 use Rattle.db_core.specs.Back.{theirs_among}
 use Rattle.db_core.specs.Reading.{reads_left}
-use Rattle.db_core.specs.Bounds.{unfinished_items, most_turns}
+use Rattle.spec_run.specs.Bounds.{unfinished_items, most_turns}
 use Rattle.db_core.specs.Checks.{Begins, IsFresh}
 use Rattle.db_core.specs.Rooms.{turns_left, left_of_statement}
 use Rattle.db_core.specs.States.{whole_log, is_among, IsAt}
@@ -42,8 +42,8 @@ fewer_theirs ongoing items n m x here theirs low =
 left_kept : (run : Setting) (log items added : List Record) (s index t : ℕ) (p : Progress) (x : Session) (d : Doing) → length (whole_log run log) ≡ length items → IsAt run log s index t p d →
     turns_left (items ++ added) x d ≡ turns_left items x d
 left_kept run log items added s index t p x Idle size at = refl
-left_kept run log items added s index t p x (Changing next later own rows) size at = refl
-left_kept run log items added s index t p x (Ending rows) size at = refl
+left_kept run log items added s index t p x (Changing next later own reply) size at = refl
+left_kept run log items added s index t p x (Ending reply) size at = refl
 left_kept run log items added s index t p x Undoing size at = refl
 left_kept run log items added s index t p x (Checking check) size at =
     let inside = at.1.inside in

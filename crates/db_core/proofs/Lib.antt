@@ -13,12 +13,10 @@ pub mod Phases
 pub mod Left
 pub mod RoomSteps
 pub mod GoOn
-pub mod PlanSizes
 pub mod PlanSteps
 pub mod PlanRooms
 pub mod Ready
 pub mod PlanTurn
-pub mod Numbers
 pub mod Planned
 pub mod BeginWord
 pub mod Views
@@ -26,6 +24,7 @@ pub mod CheckTurns
 pub mod CheckEnds
 pub mod Told
 pub mod Advances
+pub mod TurnsLeft
 pub mod Replays
 pub mod Begun
 pub mod SnapTurns

@@ -1,5 +1,5 @@
 -- The next item of a session, and what the core keeps of the session behind it.
-use Rattle.std.proofs.Common.{◌≡◌, ℕ, ◌+◌, ◌<◌, Bool, false, List, [], ◌∷◌, ◌++◌, length, map, reverse, Option, Some, ◌⊎◌, inl, inr, refl, sym, ap, ◌∙◌, subst, arith}
+use Rattle.std.proofs.Common.{◌≡◌, ℕ, ◌+◌, ◌<◌, Bool, false, List, [], ◌∷◌, ◌++◌, length, map, reverse, Some, ◌⊎◌, inl, inr, refl, sym, ap, ◌∙◌, subst, arith}
 use Rattle.std.specs.Prelude.{if◌then◌else◌, slice_get}
 use Rattle.std.proofs.lemmas.Bool.{eq-eqb}
 use Rattle.std.proofs.lemmas.List.{reverse-append, length-reverse}
@@ -21,7 +21,7 @@ use Rattle.law_run.specs.Doing.{change_items, abort_items}
 use Rattle.law_run.proofs.Legal.{with_begun}
 use Rattle.db_core.specs.declared.session.Doing.TheVariants.{Idle, Changing, Ending, Undoing}
 use Rattle.db_core.specs.declared.session.Session.{Session}
-use Rattle.db_core.specs.States.{whole_log, reply_of, IsAt, IsOpen, IsSession}
+use Rattle.db_core.specs.States.{whole_log, IsAt, IsOpen, IsSession}
 use Rattle.db_core.proofs.Keeps.{steps_of}
 use Rattle.db_core.proofs.Moves.{goes_on, ends_with}
 use Rattle.db_core.proofs.Opens.{open_change, open_undo}
@@ -71,16 +71,16 @@ opens_after run log x t old next before after (inr o) more =
     (more (subst (λ u. IsOpen (whole_log run log) u old.left.items old.held.items old.used) before o)))
 
 -- what a session with changes to make owes
-changing_due : (run : Setting) (log : List Record) (s : ℕ) (old : Session) (c : Planned) (later : _) (own : Bool) (rows : Option ℕ) → old.doing ≡ Changing c later own rows → IsSession run log s old →
-    ((progress_of run s log).due ≡ change_item old.tran c ∷ change_items old.tran (reverse later.items) own) × ((progress_of run s log).telling ≡ Answers (reply_of rows))
-changing_due run log s old c later own rows doing mine =
+changing_due : (run : Setting) (log : List Record) (s : ℕ) (old : Session) (c : Planned) (later : _) (own : Bool) (reply : Reply) → old.doing ≡ Changing c later own reply → IsSession run log s old →
+    ((progress_of run s log).due ≡ change_item old.tran c ∷ change_items old.tran (reverse later.items) own) × ((progress_of run s log).telling ≡ Answers reply)
+changing_due run log s old c later own reply doing mine =
     subst (IsAt run log s (length old.replies.items + 1) old.tran (progress_of run s log)) doing mine.doing_is
 
 -- a change comes
-pub change_comes : (run : Setting) (log : List Record) (s : ℕ) (old : Session) (c : Planned) (later : _) (own : Bool) (rows : Option ℕ) → old.doing ≡ Changing c later own rows →
+pub change_comes : (run : Setting) (log : List Record) (s : ℕ) (old : Session) (c : Planned) (later : _) (own : Bool) (reply : Reply) → old.doing ≡ Changing c later own reply →
     IsSession run log s old → MayCome (work_of run s log) (change_item old.tran c)
-change_comes run log s old c later own rows doing mine =
-    busy_comes run log s (change_item old.tran c) (change_items old.tran (reverse later.items) own) (changing_due run log s old c later own rows doing mine).0
+change_comes run log s old c later own reply doing mine =
+    busy_comes run log s (change_item old.tran c) (change_items old.tran (reverse later.items) own) (changing_due run log s old c later own reply doing mine).0
 
 -- what the core keeps of the transaction behind a Change
 pub record ChangeKept (log : List Record) (old next : Session) : Type 0 where
@@ -101,17 +101,17 @@ change_opens run log s old next c mine kept =
     (open_change (whole_log run log) old.tran c old.left.items old.held.items old.used o))))
 
 -- others are left, or the Commit: what the session does next owes them
-pub change_goes : (run : Setting) (log : List Record) (s : ℕ) (old next : Session) (c : Planned) (later : _) (own : Bool) (rows : Option ℕ) →
-    IsStart run → IsLegal run log → 0 < s → old.doing ≡ Changing c later own rows → IsSession run log s old →
+pub change_goes : (run : Setting) (log : List Record) (s : ℕ) (old next : Session) (c : Planned) (later : _) (own : Bool) (reply : Reply) →
+    IsStart run → IsLegal run log → 0 < s → old.doing ≡ Changing c later own reply → IsSession run log s old →
     ChangeKept (whole_log run log) old next → next.replies.items ≡ old.replies.items →
     (change_items old.tran (reverse later.items) own ≡ [] → ⊥) →
-    ((p : Progress) → p.due ≡ change_items old.tran (reverse later.items) own → p.telling ≡ Answers (reply_of rows) →
+    ((p : Progress) → p.due ≡ change_items old.tran (reverse later.items) own → p.telling ≡ Answers reply →
     IsAt run (change_item old.tran c ∷ log) s (length old.replies.items + 1) old.tran p next.doing) →
     IsSession run (change_item old.tran c ∷ log) s next
-change_goes run log s old next c later own rows start legal hs doing mine kept replies some at =
+change_goes run log s old next c later own reply start legal hs doing mine kept replies some at =
     let x = change_item old.tran c in
     let rest = change_items old.tran (reverse later.items) own in
-    let due = changing_due run log s old c later own rows doing mine in
+    let due = changing_due run log s old c later own reply doing mine in
     let same = busy run log s x rest due.0 in
     let st = steps_of run log s x start legal hs (busy_comes run log s x rest due.0) in
     goes_by run log s x rest old next st.belongs (ap (λ (q : Progress). q.due) same ∙ due.0) some refl mine kept.script replies kept.tran
@@ -120,40 +120,40 @@ change_goes run log s old next c later own rows start legal hs doing mine kept r
     (change_opens run log s old next c mine kept)
 
 -- or it was the last, and the transaction goes on
-pub change_ends : (run : Setting) (log : List Record) (s : ℕ) (old next : Session) (c : Planned) (later : _) (rows : Option ℕ) →
-    IsStart run → IsLegal run log → 0 < s → old.doing ≡ Changing c later false rows → later.items ≡ [] → IsSession run log s old →
-    ChangeKept (whole_log run log) old next → next.replies.items ≡ old.replies.items ++ reply_of rows ∷ [] → next.doing ≡ Idle →
+pub change_ends : (run : Setting) (log : List Record) (s : ℕ) (old next : Session) (c : Planned) (later : _) (reply : Reply) →
+    IsStart run → IsLegal run log → 0 < s → old.doing ≡ Changing c later false reply → later.items ≡ [] → IsSession run log s old →
+    ChangeKept (whole_log run log) old next → next.replies.items ≡ old.replies.items ++ reply ∷ [] → next.doing ≡ Idle →
     IsSession run (change_item old.tran c ∷ log) s next
-change_ends run log s old next c later rows start legal hs doing none mine kept replies doing_next =
+change_ends run log s old next c later reply start legal hs doing none mine kept replies doing_next =
     let x = change_item old.tran c in
-    let due_is = changing_due run log s old c later false rows doing mine in
+    let due_is = changing_due run log s old c later false reply doing mine in
     let due : (progress_of run s log).due ≡ x ∷ [] = due_is.0 ∙ ap (λ xs. x ∷ change_items old.tran (reverse xs) false) none in
     let same = busy run log s x [] due in
     let st = steps_of run log s x start legal hs (busy_comes run log s x [] due) in
-    ends_with run log s x (reply_of rows) old next st.belongs (ap (λ (q : Progress). q.due) same ∙ due) refl
-    (subst (λ tell. Tells run.geometry tell (reply_of rows)) (sym (ap (λ (q : Progress). q.telling) same ∙ due_is.1)) refl)
+    ends_with run log s x reply old next st.belongs (ap (λ (q : Progress). q.due) same ∙ due) refl
+    (subst (λ tell. Tells run.geometry tell reply) (sym (ap (λ (q : Progress). q.telling) same ∙ due_is.1)) refl)
     mine kept.script replies kept.tran doing_next (change_opens run log s old next c mine kept)
 
 -- the Commit of a transaction
-ending_due : (run : Setting) (log : List Record) (s : ℕ) (old : Session) (rows : Option ℕ) → old.doing ≡ Ending rows → IsSession run log s old →
-    ((progress_of run s log).due ≡ Commit (record { 0 = old.tran }) ∷ []) × ((progress_of run s log).telling ≡ Answers (reply_of rows))
-ending_due run log s old rows doing mine = subst (IsAt run log s (length old.replies.items + 1) old.tran (progress_of run s log)) doing mine.doing_is
+ending_due : (run : Setting) (log : List Record) (s : ℕ) (old : Session) (reply : Reply) → old.doing ≡ Ending reply → IsSession run log s old →
+    ((progress_of run s log).due ≡ Commit (record { 0 = old.tran }) ∷ []) × ((progress_of run s log).telling ≡ Answers reply)
+ending_due run log s old reply doing mine = subst (IsAt run log s (length old.replies.items + 1) old.tran (progress_of run s log)) doing mine.doing_is
 
-pub commit_comes : (run : Setting) (log : List Record) (s : ℕ) (old : Session) (rows : Option ℕ) → old.doing ≡ Ending rows → IsSession run log s old →
+pub commit_comes : (run : Setting) (log : List Record) (s : ℕ) (old : Session) (reply : Reply) → old.doing ≡ Ending reply → IsSession run log s old →
     MayCome (work_of run s log) (Commit (record { 0 = old.tran }))
-commit_comes run log s old rows doing mine = busy_comes run log s (Commit (record { 0 = old.tran })) [] (ending_due run log s old rows doing mine).0
+commit_comes run log s old reply doing mine = busy_comes run log s (Commit (record { 0 = old.tran })) [] (ending_due run log s old reply doing mine).0
 
-pub commit_ends : (run : Setting) (log : List Record) (s : ℕ) (old next : Session) (rows : Option ℕ) →
-    IsStart run → IsLegal run log → 0 < s → old.doing ≡ Ending rows → IsSession run log s old →
-    next.script.items ≡ old.script.items → next.replies.items ≡ old.replies.items ++ reply_of rows ∷ [] → next.tran ≡ 0 → next.doing ≡ Idle →
+pub commit_ends : (run : Setting) (log : List Record) (s : ℕ) (old next : Session) (reply : Reply) →
+    IsStart run → IsLegal run log → 0 < s → old.doing ≡ Ending reply → IsSession run log s old →
+    next.script.items ≡ old.script.items → next.replies.items ≡ old.replies.items ++ reply ∷ [] → next.tran ≡ 0 → next.doing ≡ Idle →
     IsSession run (Commit (record { 0 = old.tran }) ∷ log) s next
-commit_ends run log s old next rows start legal hs doing mine script replies tran doing_next =
+commit_ends run log s old next reply start legal hs doing mine script replies tran doing_next =
     let x = Commit (record { 0 = old.tran }) in
-    let due = ending_due run log s old rows doing mine in
+    let due = ending_due run log s old reply doing mine in
     let same = busy run log s x [] due.0 in
     let st = steps_of run log s x start legal hs (busy_comes run log s x [] due.0) in
-    ends_with run log s x (reply_of rows) old next st.belongs (ap (λ (q : Progress). q.due) same ∙ due.0) refl
-    (subst (λ tell. Tells run.geometry tell (reply_of rows)) (sym (ap (λ (q : Progress). q.telling) same ∙ due.1)) refl)
+    ends_with run log s x reply old next st.belongs (ap (λ (q : Progress). q.due) same ∙ due.0) refl
+    (subst (λ tell. Tells run.geometry tell reply) (sym (ap (λ (q : Progress). q.telling) same ∙ due.1)) refl)
     mine script replies tran doing_next (inl tran)
 
 -- what a session owes that undoes

@@ -1,5 +1,5 @@
 -- The room of a session behind the record of a planned statement, and the sums.
-use Rattle.std.proofs.Common.{◌≡◌, ℕ, ◌+◌, ◌*◌, ◌<◌, ◌≤◌, Bool, true, false, eqb, ltb, not, ◌&&◌, ◌||◌, List, [], ◌∷◌, length, Some, inl, inr, refl, sym, ap, ◌∙◌, arith}
+use Rattle.std.proofs.Common.{◌≡◌, ℕ, ◌+◌, ◌*◌, ◌<◌, ◌≤◌, Bool, true, false, eqb, ltb, not, ◌&&◌, ◌||◌, List, [], ◌∷◌, length, inl, inr, refl, sym, ap, ◌∙◌, arith}
 use Rattle.std.specs.Prelude.{if◌then◌else◌}
 use Rattle.std.proofs.lemmas.Bool.{eqb-true, ltb-false, eq-eqb, ne_eqb, cases_Bool, or_parts}
 use Rattle.std.proofs.lemmas.List.{length_push}
@@ -14,7 +14,8 @@ use Rattle.db_core.specs.declared.starts.StatementNo.{StatementNo}
 use Rattle.db_core.specs.Rooms.{pending_of, started_of, owed_by, HasOwnRoom}
 use Rattle.db_core.specs.States.{GoesOnWith, KeepsRoom}
 use Rattle.db_core.specs.Store.{is_snap}
-use Rattle.db_core.specs.Plans.{used_now, exceeds, HasRoomFor, Writes, announced_by, bytes_by}
+use Rattle.db_plan.specs.Limits.{exceeds}
+use Rattle.db_core.specs.Plans.{used_now, HasRoomFor, Writes, announced_by, bytes_by}
 use Rattle.db_core.specs.Words.{IsEnded}
 use Rattle.db_core.proofs.RoomSteps.{changing_counts}
 
@@ -81,27 +82,27 @@ pub record Goes (old new : Session) (n : ℕ) : Type 0 where
   pub busy : length new.replies.items + started_of new.doing ≡ length old.replies.items + 1
   pub some : started_of new.doing ≤ 1
 
-goes_counts : (old new : Session) (changes : List Planned) (own : Bool) → GoesOnWith changes own (Some 1) old new → Goes old new (length changes)
-goes_counts old new [] true goes =
+goes_counts : (old new : Session) (changes : List Planned) (own : Bool) (reply : Reply) → GoesOnWith changes own reply old new → Goes old new (length changes)
+goes_counts old new [] true reply goes =
     let replies = ap length goes.1 in
     let started = ap started_of goes.0 in
     record { pending = ap pending_of goes.0; busy = omega (arith, replies, started); some = omega (arith, started) }
-goes_counts old new [] false goes =
+goes_counts old new [] false reply goes =
     let replies = ap length goes.1 ∙ length_push old.replies.items _ in
     let started = ap started_of goes.0 in
     record { pending = ap pending_of goes.0; busy = omega (arith, replies, started); some = omega (arith, started) }
-goes_counts old new (c ∷ cs) own goes =
-    let counts = changing_counts new c cs own (Some 1) new.doing goes.0 in
+goes_counts old new (c ∷ cs) own reply goes =
+    let counts = changing_counts new c cs own reply new.doing goes.0 in
     let pending = counts.0 in
     let started = counts.1 in
     let replies = ap length goes.1 in
     record { pending = omega (arith, pending); busy = omega (arith, replies, started); some = omega (arith, started) }
 
-goes_room : (old new : Session) (changes : List Planned) (own : Bool) (takes : ℕ) → old.doing ≡ Idle → length old.replies.items < length old.script.items → HasOwnRoom old → KeepsRoom old new →
+goes_room : (old new : Session) (changes : List Planned) (own : Bool) (reply : Reply) (takes : ℕ) → old.doing ≡ Idle → length old.replies.items < length old.script.items → HasOwnRoom old → KeepsRoom old new →
     HasRoomFor old (length changes) takes → new.script.items ≡ old.script.items → length new.left.items ≤ length old.left.items → length new.left.items + length changes ≤ new.used → new.used ≤ 8192 →
-    GoesOnWith changes own (Some 1) old new → PlanRoom old new (length changes)
-goes_room old new changes own takes idle more room kept_room free script_is left announced used goes =
-    let counts = goes_counts old new changes own goes in
+    GoesOnWith changes own reply old new → PlanRoom old new (length changes)
+goes_room old new changes own reply takes idle more room kept_room free script_is left announced used goes =
+    let counts = goes_counts old new changes own reply goes in
     let pending = counts.pending in let busy = counts.busy in let some = counts.some in
     let script = ap length script_is in
     let pending_old = ap pending_of idle in
@@ -133,22 +134,22 @@ used_low x room = elim (cases_Bool (eqb x.tran 0)) [
   | inr e ↦ let u = ap (λ c. if c then 0 else x.used) e in let g = room.used in omega (arith, u, g)
 ]
 
-pub writes_room : (last : ℕ) (place : StatementNo) (takes : List Resource) (changes : List Planned) (old new : Session) (x : Record) → old.doing ≡ Idle → length old.replies.items < length old.script.items →
-    HasOwnRoom old → KeepsRoom old new → HasRoomFor old (length changes) (length takes) → used_now old + length changes ≤ 8192 → Writes last place takes changes old new x → PlanRoom old new (length changes)
-writes_room last place takes changes old new x idle more room kept_room free low (inl w) =
+pub writes_room : (last : ℕ) (place : StatementNo) (reply : Reply) (takes : List Resource) (changes : List Planned) (old new : Session) (x : Record) → old.doing ≡ Idle → length old.replies.items < length old.script.items →
+    HasOwnRoom old → KeepsRoom old new → HasRoomFor old (length changes) (length takes) → used_now old + length changes ≤ 8192 → Writes last place reply takes changes old new x → PlanRoom old new (length changes)
+writes_room last place reply takes changes old new x idle more room kept_room free low (inl w) =
     let r = w.1 in
     let used = r.used_is in
     let now = used_fresh old w.0 in
     let left = ap length r.left_is in
-    goes_room old new changes true (length takes) idle more room kept_room free r.script (omega (arith, left)) (omega (arith, left, used)) (omega (arith, used, low, now)) r.goes
-writes_room last place takes changes old new x idle more room kept_room free low (inr w) =
+    goes_room old new changes true reply (length takes) idle more room kept_room free r.script (omega (arith, left)) (omega (arith, left, used)) (omega (arith, used, low, now)) r.goes
+writes_room last place reply takes changes old new x idle more room kept_room free low (inr w) =
     let r = w.1 in
     let used = r.used_is in
     let now = used_open old w.0 in
     let left = ap length r.left_is in
     let pending = ap pending_of idle in
     let f = room.announced in
-    goes_room old new changes false (length takes) idle more room kept_room free r.script (omega (arith, left)) (omega (arith, left, used, pending, f)) (omega (arith, used, low, now)) r.goes
+    goes_room old new changes false reply (length takes) idle more room kept_room free r.script (omega (arith, left)) (omega (arith, left, used, pending, f)) (omega (arith, used, low, now)) r.goes
 
 -- the item of changes
 pub record Announces (x : Record) (n bytes : ℕ) : Type 0 where
@@ -159,7 +160,7 @@ pub record Announces (x : Record) (n bytes : ℕ) : Type 0 where
 pub ended_announces : (place : StatementNo) (number : ℕ) (reply : Reply) (old new : Session) (x : Record) → IsEnded place number reply old new x → Announces x 0 0
 ended_announces place number reply old new x r = record { silent = ap is_snap r.item; changes_are = ap announced_by r.item; bytes_are = ap bytes_by r.item }
 
-pub writes_announces : (last : ℕ) (place : StatementNo) (takes : List Resource) (changes : List Planned) (old new : Session) (x : Record) → Writes last place takes changes old new x →
+pub writes_announces : (last : ℕ) (place : StatementNo) (reply : Reply) (takes : List Resource) (changes : List Planned) (old new : Session) (x : Record) → Writes last place reply takes changes old new x →
     Announces x (length changes) (planned_size changes)
-writes_announces last place takes changes old new x (inl w) = record { silent = ap is_snap w.1.item; changes_are = ap announced_by w.1.item; bytes_are = ap bytes_by w.1.item }
-writes_announces last place takes changes old new x (inr w) = record { silent = ap is_snap w.1.item; changes_are = ap announced_by w.1.item; bytes_are = ap bytes_by w.1.item }
+writes_announces last place reply takes changes old new x (inl w) = record { silent = ap is_snap w.1.item; changes_are = ap announced_by w.1.item; bytes_are = ap bytes_by w.1.item }
+writes_announces last place reply takes changes old new x (inr w) = record { silent = ap is_snap w.1.item; changes_are = ap announced_by w.1.item; bytes_are = ap bytes_by w.1.item }

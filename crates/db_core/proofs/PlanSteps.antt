@@ -1,7 +1,7 @@
 -- The record of a planned statement may come, and what the core keeps of the session behind it.
 use Rattle.std.proofs.Common.{◌≡◌, ℕ, ◌+◌, ◌<◌, Bool, true, false, eqb, not, List, [], ◌∷◌, ◌++◌, length, Some, ◌⊎◌, inl, inr, refl, sym, ap, ◌∙◌, subst, arith}
 use Rattle.std.specs.Prelude.{if◌then◌else◌}
-use Rattle.std.proofs.lemmas.Bool.{eq-eqb, ne_eqb, eqb-true, eqb-false, lt-ltb, or_left, cases_Bool, cond_both}
+use Rattle.std.proofs.lemmas.Bool.{eq-eqb, ne_eqb, eqb-true, eqb-false, lt-ltb, or_left, cases_Bool}
 use Rattle.spec_file.specs.Image.{Image}
 use Rattle.spec_file.specs.declared.data.Resource.{Resource}
 use Rattle.spec_log.specs.declared.item.Record.{Record}
@@ -10,16 +10,13 @@ use Rattle.spec_log.specs.Log.{has_started, is_unfinished, greatest_of}
 use Rattle.spec_log.specs.Limits.{changes_of, all_changes, all_bytes, passes_limit}
 use Rattle.spec_log.specs.Images.{apply}
 use Rattle.spec_script.specs.declared.reply.Reply.{Reply}
-use Rattle.spec_script.specs.declared.reply.Reply.TheVariants.{Rows, Refused}
+use Rattle.spec_script.specs.declared.reply.Reply.TheVariants.{Refused}
 use Rattle.spec_script.specs.declared.statement.Statement.{Statement}
 use Rattle.spec_plan.specs.declared.plan.Planned.{Planned}
 use Rattle.spec_plan.specs.Planned.{planned_size}
 use Rattle.spec_script.specs.Refusals.{plain_refusal}
-use Rattle.spec_plan.specs.Refusals.{log_full}
-use Rattle.spec_plan.specs.Sight.{Outcome, Refuses, Counts, Writes as Writing}
 use Rattle.spec_run.specs.Shapes.{Writing as WritingShape, plain_start, tran_to_write}
-use Rattle.spec_run.specs.Begun.{Setting, Answers, Begun, with_memory, refused, begun_by}
-use Rattle.spec_run.specs.Sights.{by_outcome}
+use Rattle.spec_run.specs.Begun.{Setting, Answers, Begun, with_memory, begun_by}
 use Rattle.spec_run.specs.Progress.{is_short, work_of, MayCome}
 use Rattle.spec_run.specs.Sessions.{open_after}
 use Rattle.law_undo.proofs.Holders.{unfinished_from}
@@ -30,7 +27,8 @@ use Rattle.law_run.proofs.Legal.{legal_right, doing_opens}
 use Rattle.db_core.specs.declared.session.Session.{Session}
 use Rattle.db_core.specs.declared.starts.StatementNo.{StatementNo}
 use Rattle.db_core.specs.States.{whole_log, IsAt, IsOpen, IsSession, GoesOnWith}
-use Rattle.db_core.specs.Plans.{used_now, exceeds, IsWriting, Writes, announced_by, bytes_by}
+use Rattle.db_plan.specs.Limits.{exceeds}
+use Rattle.db_core.specs.Plans.{used_now, IsWriting, Writes, announced_by, bytes_by}
 use Rattle.db_core.specs.Words.{IsEnded}
 use Rattle.db_core.proofs.Opens.{none_used, open_start, open_fresh}
 use Rattle.db_core.proofs.Records.{IsBegun, begun_comes, want_comes, begun_ends, begun_goes, begun_short}
@@ -73,30 +71,22 @@ short_step run log s place old new st b pages x h ps pi want r =
       still = refl;
     })
 
--- any outcome may end for want of memory
-pub want_of : (log : List Record) (t : ℕ) (o : Outcome) → (by_outcome log t o).may_want ≡ true
-want_of log t (Refuses refusal) = refl
-want_of log t (Counts count) = refl
-want_of log t (Writing takes changes) =
-    cond_both (passes_limit log (tran_to_write log t) (length changes) (planned_size changes)) (refused t log_full)
-    (with_memory (WritingShape (tran_to_write log t) takes changes (eqb t 0)) (Rows 1 [])) (λ b. b.may_want ≡ true) (λ e. refl) (λ e. refl)
-
 -- the Start of changes, which come next
-going_on : (run : Setting) (log : List Record) (s u : ℕ) (takes : List Resource) (old new : Session) (st : Statement) (b : Begun) (y : Record) (changes : List Planned) (own : Bool) → IsBegun run log s old st b →
-    y ≡ Start s (length old.replies.items + 1) (record { 0 = u }) 0 (length changes) (planned_size changes) takes → b.items ≡ y ∷ change_items u changes own → b.telling ≡ Answers (Rows 1 []) →
-    new.script.items ≡ old.script.items → new.tran ≡ u → IsOpen (y ∷ whole_log run log) u new.left.items new.held.items new.used → GoesOnWith changes own (Some 1) old new →
+going_on : (run : Setting) (log : List Record) (s u : ℕ) (reply : Reply) (takes : List Resource) (old new : Session) (st : Statement) (b : Begun) (y : Record) (changes : List Planned) (own : Bool) → IsBegun run log s old st b →
+    y ≡ Start s (length old.replies.items + 1) (record { 0 = u }) 0 (length changes) (planned_size changes) takes → b.items ≡ y ∷ change_items u changes own → b.telling ≡ Answers reply →
+    new.script.items ≡ old.script.items → new.tran ≡ u → IsOpen (y ∷ whole_log run log) u new.left.items new.held.items new.used → GoesOnWith changes own reply old new →
     IsSession run (y ∷ log) s new
-going_on run log s u takes old new st b y [] true h is items telling script tran opens goes =
+going_on run log s u reply takes old new st b y [] true h is items telling script tran opens goes =
     begun_goes run log s old new st b y (change_items u [] true) h items (some_commit u) (ap is_short is) script goes.1 (tran ∙ sym (ap (open_after old.tran) is))
     (λ p due tell. subst (IsAt run (y ∷ log) s (length old.replies.items + 1) new.tran p) (sym goes.0)
     (due ∙ ap (λ v. change_items v [] true) (sym tran), tell ∙ telling))
     (inr (subst (λ v. IsOpen (y ∷ whole_log run log) v new.left.items new.held.items new.used) (sym tran) opens))
-going_on run log s u takes old new st b y [] false h is items telling script tran opens goes =
-    begun_ends run log s old new st b y (Rows 1 []) h items (ap is_short is) telling script goes.1 (tran ∙ sym (ap (open_after old.tran) is)) goes.0
+going_on run log s u reply takes old new st b y [] false h is items telling script tran opens goes =
+    begun_ends run log s old new st b y reply h items (ap is_short is) telling script goes.1 (tran ∙ sym (ap (open_after old.tran) is)) goes.0
     (inr (subst (λ v. IsOpen (y ∷ whole_log run log) v new.left.items new.held.items new.used) (sym tran) opens))
-going_on run log s u takes old new st b y (c ∷ cs) own h is items telling script tran opens goes =
+going_on run log s u reply takes old new st b y (c ∷ cs) own h is items telling script tran opens goes =
     begun_goes run log s old new st b y (change_items u (c ∷ cs) own) h items (some_changes u c cs own) (ap is_short is) script goes.1 (tran ∙ sym (ap (open_after old.tran) is))
-    (λ p due tell. at_changing run (y ∷ log) s (length old.replies.items + 1) new.tran p (c ∷ cs) own (Some 1) new.doing goes.0
+    (λ p due tell. at_changing run (y ∷ log) s (length old.replies.items + 1) new.tran p (c ∷ cs) own reply new.doing goes.0
     (due ∙ ap (λ v. change_items v (c ∷ cs) own) (sym tran)) (tell ∙ telling))
     (inr (subst (λ v. IsOpen (y ∷ whole_log run log) v new.left.items new.held.items new.used) (sym tran) opens))
 
@@ -110,14 +100,14 @@ fresh_unfinished g s i u number changes size takes above =
     })
 
 -- what a writing statement appends
-abbrev pub writing_of : ℕ → ℕ → ℕ → ℕ → List Resource → List Planned → Bool → Begun
-writing_of s i t u takes changes own = begun_by s i t (with_memory (WritingShape u takes changes own) (Rows 1 []))
+abbrev pub writing_of : ℕ → ℕ → ℕ → ℕ → Reply → List Resource → List Planned → Bool → Begun
+writing_of s i t u reply takes changes own = begun_by s i t (with_memory (WritingShape u takes changes own) reply)
 
-own_step : (run : Setting) (log : List Record) (s last : ℕ) (place : StatementNo) (takes : List Resource) (changes : List Planned) (old new : Session) (st : Statement) (b : Begun) (pages : Image) (x : Record) →
+own_step : (run : Setting) (log : List Record) (s last : ℕ) (place : StatementNo) (reply : Reply) (takes : List Resource) (changes : List Planned) (old new : Session) (st : Statement) (b : Begun) (pages : Image) (x : Record) →
     IsBegun run log s old st b → place.session ≡ s → place.index ≡ length old.replies.items + 1 → last ≡ greatest_of (whole_log run log) →
-    b ≡ writing_of s (length old.replies.items + 1) old.tran (greatest_of (whole_log run log) + 1) takes changes true →
-    IsWriting place (last + 1) takes changes [] [] 0 true old new x → HasBegun run log s new pages x
-own_step run log s last place takes changes old new st b pages x h ps pi last_is is_b r =
+    b ≡ writing_of s (length old.replies.items + 1) old.tran (greatest_of (whole_log run log) + 1) reply takes changes true →
+    IsWriting place (last + 1) reply takes changes [] [] 0 true old new x → HasBegun run log s new pages x
+own_step run log s last place reply takes changes old new st b pages x h ps pi last_is is_b r =
     let g = whole_log run log in
     let u = greatest_of g + 1 in
     let n = length changes in
@@ -132,17 +122,17 @@ own_step run log s last place takes changes old new st b pages x h ps pi last_is
     (fresh_unfinished g s (length old.replies.items + 1) u 0 n size takes (omega arith)) in
     subst (HasBegun run log s new pages) (sym item) (record {
       comes = begun_comes run log s old st b y (change_items u changes true) h items;
-      mine = going_on run log s u takes old new st b y changes true h refl items (ap (λ (c : Begun). c.telling) is_b) r.script (r.tran_is ∙ ap (λ m. m + 1) last_is)
+      mine = going_on run log s u reply takes old new st b y changes true h refl items (ap (λ (c : Begun). c.telling) is_b) r.script (r.tran_is ∙ ap (λ m. m + 1) last_is)
           (subst (λ l. IsOpen (y ∷ g) u l new.held.items new.used) (sym r.left_is)
           (subst (λ t. IsOpen (y ∷ g) u [] t new.used) (sym r.held_is) (subst (IsOpen (y ∷ g) u [] takes) (omega arith ∙ sym r.used_is) fresh))) r.goes;
       still = refl;
     })
 
-open_step : (run : Setting) (log : List Record) (s : ℕ) (place : StatementNo) (takes : List Resource) (changes : List Planned) (old new : Session) (st : Statement) (b : Begun) (pages : Image) (x : Record) →
+open_step : (run : Setting) (log : List Record) (s : ℕ) (place : StatementNo) (reply : Reply) (takes : List Resource) (changes : List Planned) (old new : Session) (st : Statement) (b : Begun) (pages : Image) (x : Record) →
     IsBegun run log s old st b → place.session ≡ s → place.index ≡ length old.replies.items + 1 → (old.tran ≡ 0 → ⊥) →
-    b ≡ writing_of s (length old.replies.items + 1) old.tran old.tran takes changes false →
-    IsWriting place old.tran takes changes old.left.items old.held.items old.used false old new x → HasBegun run log s new pages x
-open_step run log s place takes changes old new st b pages x h ps pi some is_b r =
+    b ≡ writing_of s (length old.replies.items + 1) old.tran old.tran reply takes changes false →
+    IsWriting place old.tran reply takes changes old.left.items old.held.items old.used false old new x → HasBegun run log s new pages x
+open_step run log s place reply takes changes old new st b pages x h ps pi some is_b r =
     let g = whole_log run log in
     let u = old.tran in
     let n = length changes in
@@ -159,7 +149,7 @@ open_step run log s place takes changes old new st b pages x h ps pi some is_b r
     let more = open_start g u s (length old.replies.items + 1) 0 n size takes old.left.items old.held.items old.used unfinished before in
     subst (HasBegun run log s new pages) (sym item) (record {
       comes = begun_comes run log s old st b y (change_items u changes false) h items;
-      mine = going_on run log s u takes old new st b y changes false h refl items (ap (λ (c : Begun). c.telling) is_b) r.script r.tran_is
+      mine = going_on run log s u reply takes old new st b y changes false h refl items (ap (λ (c : Begun). c.telling) is_b) r.script r.tran_is
           (subst (λ l. IsOpen (y ∷ g) u l new.held.items new.used) (sym r.left_is)
           (subst (λ t. IsOpen (y ∷ g) u old.left.items t new.used) (sym r.held_is) (subst (IsOpen (y ∷ g) u old.left.items (old.held.items ++ takes)) (sym r.used_is) more))) r.goes;
       still = refl;
@@ -172,20 +162,20 @@ writer_own g t e = let b = eq-eqb t 0 e in (ap (λ c. if c then greatest_of g + 
 writer_open : (g : List Record) (t : ℕ) → (t ≡ 0 → ⊥) → (tran_to_write g t ≡ t) × (eqb t 0 ≡ false)
 writer_open g t n = let b = ne_eqb t 0 n in (ap (λ c. if c then greatest_of g + 1 else t) b, b)
 
-pub writing_step : (run : Setting) (log : List Record) (s last : ℕ) (place : StatementNo) (takes : List Resource) (changes : List Planned) (old new : Session) (st : Statement) (b : Begun) (pages : Image) (x : Record) →
+pub writing_step : (run : Setting) (log : List Record) (s last : ℕ) (place : StatementNo) (reply : Reply) (takes : List Resource) (changes : List Planned) (old new : Session) (st : Statement) (b : Begun) (pages : Image) (x : Record) →
     IsBegun run log s old st b → place.session ≡ s → place.index ≡ length old.replies.items + 1 → last ≡ greatest_of (whole_log run log) →
-    b ≡ writing_of s (length old.replies.items + 1) old.tran (tran_to_write (whole_log run log) old.tran) takes changes (eqb old.tran 0) →
-    Writes last place takes changes old new x → HasBegun run log s new pages x
-writing_step run log s last place takes changes old new st b pages x h ps pi last_is is_b (inl w) =
+    b ≡ writing_of s (length old.replies.items + 1) old.tran (tran_to_write (whole_log run log) old.tran) reply takes changes (eqb old.tran 0) →
+    Writes last place reply takes changes old new x → HasBegun run log s new pages x
+writing_step run log s last place reply takes changes old new st b pages x h ps pi last_is is_b (inl w) =
     let i = length old.replies.items + 1 in
     let own = writer_own (whole_log run log) old.tran w.0 in
-    own_step run log s last place takes changes old new st b pages x h ps pi last_is
-    (is_b ∙ ap (λ u. writing_of s i old.tran u takes changes (eqb old.tran 0)) own.0 ∙ ap (writing_of s i old.tran (greatest_of (whole_log run log) + 1) takes changes) own.1) w.1
-writing_step run log s last place takes changes old new st b pages x h ps pi last_is is_b (inr w) =
+    own_step run log s last place reply takes changes old new st b pages x h ps pi last_is
+    (is_b ∙ ap (λ u. writing_of s i old.tran u reply takes changes (eqb old.tran 0)) own.0 ∙ ap (writing_of s i old.tran (greatest_of (whole_log run log) + 1) reply takes changes) own.1) w.1
+writing_step run log s last place reply takes changes old new st b pages x h ps pi last_is is_b (inr w) =
     let i = length old.replies.items + 1 in
     let open_is = writer_open (whole_log run log) old.tran w.0 in
-    open_step run log s place takes changes old new st b pages x h ps pi w.0
-    (is_b ∙ ap (λ u. writing_of s i old.tran u takes changes (eqb old.tran 0)) open_is.0 ∙ ap (writing_of s i old.tran old.tran takes changes) open_is.1) w.1
+    open_step run log s place reply takes changes old new st b pages x h ps pi w.0
+    (is_b ∙ ap (λ u. writing_of s i old.tran u reply takes changes (eqb old.tran 0)) open_is.0 ∙ ap (writing_of s i old.tran old.tran reply takes changes) open_is.1) w.1
 
 -- what the writing transaction has announced
 pub used_is : (run : Setting) (log : List Record) (s : ℕ) (x : Session) → IsSession run log s x → changes_of (tran_to_write (whole_log run log) x.tran) (whole_log run log) ≡ used_now x

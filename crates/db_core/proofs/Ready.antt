@@ -1,34 +1,27 @@
 -- More room changes nothing else, and a plan within the limits may begin.
-use Rattle.std.proofs.Common.{◌≡◌, ℕ, ◌+◌, ◌*◌, ◌≤◌, eqb, List, [], ◌∷◌, length, reverse, Some, Ok, Err, inl, inr, refl, sym, ap, ◌∙◌, subst, arith, append-nil, vec_len, vec_capacity}
+use Rattle.std.proofs.Common.{◌≡◌, ℕ, ◌+◌, ◌*◌, ◌≤◌, true, eqb, List, [], ◌∷◌, length, reverse, Some, Ok, Err, inl, inr, refl, sym, ap, ◌∙◌, subst, arith, append-nil, vec_len, vec_capacity}
 use Rattle.std.specs.Prelude.{if◌then◌else◌, slice_get, slice_set, sum_by}
 use Rattle.std.specs.declared.result.Result.{Result}
 use Rattle.std.proofs.Math.ListN.{length-set}
-use Rattle.std.proofs.lemmas.Bool.{cond_both}
-use Rattle.spec_file.specs.declared.data.NoMemory.{NoMemory}
 use Rattle.spec_file.specs.declared.geometry.Geometry.TheVariants.{Small}
 use Rattle.spec_file.specs.Places.{HasShape}
 use Rattle.spec_log.specs.declared.item.Record.{Record}
-use Rattle.spec_script.specs.declared.reply.Reply.TheVariants.{Rows}
-use Rattle.spec_plan.specs.Planned.{planned_size}
-use Rattle.spec_script.specs.Refusals.{plain_refusal}
-use Rattle.spec_plan.specs.Refusals.{log_full}
-use Rattle.spec_run.specs.Shapes.{Writing as WritingShape, tran_to_write}
-use Rattle.spec_run.specs.Begun.{Setting, Becoming, becomes, with_memory, refused}
+use Rattle.spec_script.specs.declared.reply.Refusal.{Refusal}
+use Rattle.spec_plan.specs.Refusals.{out_of_memory}
+use Rattle.spec_run.specs.Begun.{Setting, Becoming, becomes}
 use Rattle.spec_run.specs.Progress.{progress_of}
 use Rattle.spec_run.specs.Turns.{AreTold, told_to, Turn}
-use Rattle.db_heap.specs.declared.plan.Plan.{Plan}
-use Rattle.db_heap.specs.declared.plan.Plan.TheVariants as plan
-use Rattle.db_heap.specs.Plans.{outcome_of}
+use Rattle.db_plan.specs.declared.planned.Plan.{Plan}
+use Rattle.db_plan.specs.declared.planned.Plan.TheVariants as plan
 use Rattle.db_core.specs.declared.session.Session.{Session}
 use Rattle.db_core.specs.declared.state.State.{State}
 use Rattle.db_core.specs.Rooms.{pending_of, started_of, owed_by, HasOwnRoom}
 use Rattle.db_core.specs.States.{whole_log, entries_of, IsAt, IsOpen, IsSession, IsState, IsSame, KeepsRoom}
 use Rattle.db_core.specs.Store.{AreProper, run_is, log_of, IsGood, LeavesOthers, Went}
-use Rattle.db_core.specs.Plans.{IsProper, IsByPlan, IsPlanned, used_now, exceeds, limited, changes_in, takes_in, HasRoomFor, IsWithin, IsReady, IsRoomier}
+use Rattle.db_core.specs.Plans.{IsByPlan, IsPlanned, IsWithinIfPlanned, used_now, changes_in, takes_in, HasRoomFor, IsReady, IsPrepared, IsRoomier}
 use Rattle.db_core.proofs.Good.{get_below, get_put, get_same, sum_set, run_same, same_bytes}
 use Rattle.db_core.proofs.Keeps.{get_set}
 use Rattle.db_core.proofs.Left.{leaves_others}
-use Rattle.db_core.proofs.PlanSteps.{want_of, used_is, passes_is}
 
 same_session : (run : Setting) (log : List Record) (s : ℕ) (x y : Session) → IsSame x y → IsSession run log s x → IsSession run log s y
 same_session run log s x y same mine = record {
@@ -153,8 +146,11 @@ roomier_same k old new x y here there r =
     let put : slice_get new.sessions.items k ≡ Some s.0 = ap (λ ss. slice_get ss k) s.1 ∙ get_put old.sessions.items k s.0 (get_below old.sessions.items k x here) in
     subst (IsSame x) (get_same new.sessions.items k s.0 y put there) s.2
 
+same_used : (x y : Session) → IsSame x y → used_now y ≡ used_now x
+same_used x y same = ap (λ t. if eqb t 0 then 0 else y.used) same.kept.tran ∙ ap (λ n. if eqb x.tran 0 then 0 else n) same.kept.used
+
 -- what was planned for it
-pub roomier_planned : (k : ℕ) (old new : State) (x y : Session) (result : Result Plan NoMemory) → IsRoomier k old new → IsSame x y → IsPlanned old k x result → IsPlanned new k y result
+roomier_planned : (k : ℕ) (old new : State) (x y : Session) (result : Result Plan Refusal) → IsRoomier k old new → IsSame x y → IsPlanned old k x result → IsPlanned new k y result
 roomier_planned k old new x y result r same p =
     let by : Setting → List Record → ℕ → Type 0 =
     λ run log t. IsByPlan (becomes run log t p.statement) (whole_log run log) t result in
@@ -165,73 +161,57 @@ roomier_planned k old new x y result r same p =
       by_plan = subst (λ run. by run (log_of new) y.tran) (sym (roomier_run k old new r))
           (subst (λ log. by (run_is old) log y.tran) (sym (roomier_log k old new r))
           (subst (by (run_is old) (log_of old)) (sym same.kept.tran) p.by_plan));
+      within = subst (λ u. IsWithinIfPlanned u new.all new.size result) (sym (same_used x y same)) (subst (λ a. IsWithinIfPlanned (used_now x) a new.size result) (sym r.all_is)
+          (subst (λ z. IsWithinIfPlanned (used_now x) old.all z result) (sym r.size_is) p.within));
     }
-
-same_used : (x y : Session) → IsSame x y → used_now y ≡ used_now x
-same_used x y same = ap (λ t. if eqb t 0 then 0 else y.used) same.kept.tran ∙ ap (λ n. if eqb x.tran 0 then 0 else n) same.kept.used
-
--- a plan whose limits are passed is refused instead
-limited_by : (st : State) (k : ℕ) (x : Session) (p : Plan) (b : _) → IsGood st → slice_get st.sessions.items k ≡ Some x →
-    IsByPlan b (whole_log (run_is st) (log_of st)) x.tran (Ok p) →
-    IsByPlan b (whole_log (run_is st) (log_of st)) x.tran (Ok (limited (used_now x) st.all st.size p))
-limited_by st k x (plan.Refused refusal) b good here by = by
-limited_by st k x (plan.Counted count) b good here by = by
-limited_by st k x (plan.Written takes changes) b good here by =
-    let g = whole_log (run_is st) (log_of st) in
-    let s = k + 1 in
-    let n = length changes.items in
-    let size = planned_size changes.items in
-    let whole = with_memory (WritingShape (tran_to_write g x.tran) takes changes.items (eqb x.tran 0)) (Rows 1 []) in
-    let passes = passes_is g (tran_to_write g x.tran) (used_now x) st.all st.size n size (used_is (run_is st) (log_of st) s x (good.state.each k x here)) good.state.all_is good.state.size_is in
-    cond_both (exceeds (used_now x) st.all st.size n size) (plan.Refused (plain_refusal 9002)) (plan.Written takes changes) (λ q. IsByPlan b g x.tran (Ok q))
-    (λ e. (by.0 ∙ ap (λ c. if c then refused x.tran log_full else whole) (passes ∙ e), refl))
-    (λ e. by)
-
-pub limited_planned : (st : State) (k : ℕ) (x : Session) (p : Plan) → IsGood st → slice_get st.sessions.items k ≡ Some x → IsPlanned st k x (Ok p) →
-    IsPlanned st k x (Ok (limited (used_now x) st.all st.size p))
-limited_planned st k x p good here h = record { idle = h.idle; statement = h.statement; next = h.next; by_plan = limited_by st k x p _ good here h.by_plan }
-
-limited_within : (used all size : ℕ) (p : Plan) → IsWithin used all size (limited used all size p)
-limited_within used all size (plan.Refused refusal) = tt
-limited_within used all size (plan.Counted count) = tt
-limited_within used all size (plan.Written takes changes) =
-    cond_both (exceeds used all size (length changes.items) (planned_size changes.items)) (plan.Refused (plain_refusal 9002)) (plan.Written takes changes) (IsWithin used all size) (λ e. tt) (λ e. e)
-
-pub few_in : (p : Plan) → IsProper p → changes_in p ≤ 4
-few_in (plan.Refused refusal) h = omega arith
-few_in (plan.Counted count) h = omega arith
-few_in (plan.Written takes changes) h = h.1
 
 -- want of memory may come in any case
-pub want_planned : (st : State) (k : ℕ) (x : Session) (p : Plan) (e : NoMemory) → IsPlanned st k x (Ok p) → IsPlanned st k x (Err e)
-want_planned st k x p e h = record { idle = h.idle; statement = h.statement; next = h.next; by_plan = ap (λ (b : Becoming). b.may_want) h.by_plan.0 ∙ want_of (whole_log (run_is st) (log_of st)) x.tran (outcome_of p) }
+want_by : (b : Becoming) (log : List Record) (t : ℕ) (p : Plan) → IsByPlan b log t (Ok p) → b.may_want ≡ true
+want_by b log t (plan.Read reply) by = ap (λ (c : Becoming). c.may_want) by
+want_by b log t (plan.Written reply takes changes) by = ap (λ (c : Becoming). c.may_want) by
 
-pub want_ready : (st : State) (k : ℕ) (x : Session) (e f : NoMemory) → IsPlanned st k x (Err e) → IsReady st k x (Err f)
-want_ready st k x e f h = record { planned = record { idle = h.idle; statement = h.statement; next = h.next; by_plan = h.by_plan }; free = tt }
+want_planned : (st : State) (k : ℕ) (x : Session) (p : Plan) → IsPlanned st k x (Ok p) → IsPlanned st k x (Err out_of_memory)
+want_planned st k x p h = record { idle = h.idle; statement = h.statement; next = h.next; by_plan = inr (want_by _ _ _ p h.by_plan, refl); within = tt }
 
--- the session with room
-pub ready_limited : (k : ℕ) (old new : State) (x y : Session) (p : Plan) → IsGood old → slice_get old.sessions.items k ≡ Some x → slice_get new.sessions.items k ≡ Some y → IsRoomier k old new →
-    IsPlanned old k x (Ok p) → vec_len new.items + (new.owed + 2 * changes_in (limited (used_now x) old.all old.size p)) ≤ vec_capacity new.items →
-    HasRoomFor y (changes_in (limited (used_now x) old.all old.size p)) (takes_in (limited (used_now x) old.all old.size p)) → IsReady new k y (Ok (limited (used_now x) old.all old.size p))
-ready_limited k old new x y p good here there r h items room =
-    let q = limited (used_now x) old.all old.size p in
-    let same = roomier_same k old new x y here there r in
-    record {
-      planned = roomier_planned k old new x y (Ok q) r same (limited_planned old k x p good here h);
-      free = record {
-        within = subst (λ u. IsWithin u new.all new.size q) (sym (same_used x y same)) (subst (λ a. IsWithin (used_now x) a new.size q) (sym r.all_is)
-            (subst (λ z. IsWithin (used_now x) old.all z q) (sym r.size_is) (limited_within (used_now x) old.all old.size p)));
-        items = items;
-        room = room;
-      };
-    }
-
-pub ready_want : (k : ℕ) (old new : State) (x y : Session) (p : Plan) (e : NoMemory) → IsGood old → slice_get old.sessions.items k ≡ Some x → slice_get new.sessions.items k ≡ Some y → IsRoomier k old new →
-    IsPlanned old k x (Ok p) → IsReady new k y (Err e)
-ready_want k old new x y p e good here there r h = record {
-  planned = roomier_planned k old new x y (Err e) r (roomier_same k old new x y here there r) (want_planned old k x p e h);
-  free = tt;
+-- a refusal needs no room
+pub ready_refused : (st : State) (k : ℕ) (refusal : Refusal) → IsGood st → ((x : Session) → slice_get st.sessions.items k ≡ Some x → IsPlanned st k x (Err refusal)) → IsPrepared k st st (Err refusal)
+ready_refused st k refusal good planned = record {
+  good = good;
+  run = refl;
+  log = refl;
+  few = refl;
+  others = λ j differ. refl;
+  ready = λ y at. record { planned = planned y at; free = tt };
 }
+
+-- all that was asked, with room or without
+prepared : (k : ℕ) (old new : State) (x : Session) (result : Result Plan Refusal) → IsGood old → slice_get old.sessions.items k ≡ Some x → IsRoomier k old new →
+    ((y : Session) → slice_get new.sessions.items k ≡ Some y → IsReady new k y result) → IsPrepared k old new result
+prepared k old new x result good here r ready = record {
+  good = roomier_good k old new x here r good;
+  run = roomier_run k old new r;
+  log = roomier_log k old new r;
+  few = roomier_few k old new x here r;
+  others = roomier_others k old new x here r good;
+  ready = ready;
+}
+
+pub prepared_plan : (k : ℕ) (old new : State) (x : Session) (p : Plan) → IsGood old → slice_get old.sessions.items k ≡ Some x → IsRoomier k old new → IsPlanned old k x (Ok p) →
+    vec_len new.items + (new.owed + 2 * changes_in p) ≤ vec_capacity new.items → ((y : Session) → slice_get new.sessions.items k ≡ Some y → HasRoomFor y (changes_in p) (takes_in p)) →
+    IsPrepared k old new (Ok p)
+prepared_plan k old new x p good here r h items room =
+    prepared k old new x (Ok p) good here r (λ y there. record {
+      planned = roomier_planned k old new x y (Ok p) r (roomier_same k old new x y here there r) h;
+      free = record { items = items; room = room y there };
+    })
+
+pub prepared_want : (k : ℕ) (old new : State) (x : Session) (p : Plan) → IsGood old → slice_get old.sessions.items k ≡ Some x → IsRoomier k old new → IsPlanned old k x (Ok p) →
+    IsPrepared k old new (Err out_of_memory)
+prepared_want k old new x p good here r h =
+    prepared k old new x (Err out_of_memory) good here r (λ y there. record {
+      planned = roomier_planned k old new x y (Err out_of_memory) r (roomier_same k old new x y here there r) (want_planned old k x p h);
+      free = tt;
+    })
 
 -- a turn from a state that differs in its room alone
 pub went_from : (k : ℕ) (old mid new : State) → run_is mid ≡ run_is old → log_of mid ≡ log_of old → LeavesOthers k old mid → Went k mid new → Went k old new

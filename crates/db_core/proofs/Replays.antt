@@ -7,6 +7,7 @@ use Rattle.spec_log.specs.declared.item.Record.TheVariants.{Snap, CheckEnd}
 use Rattle.spec_run.specs.Entries.{Entry, items_of}
 use Rattle.spec_run.specs.Begun.{Setting}
 use Rattle.spec_run.specs.Progress.{Progress, progress_of, script_of, next_of}
+use Rattle.spec_run.specs.Bounds.{RunWithin}
 use Rattle.spec_run.specs.Turns.{IsLegal, Turn, Rests, Appends, EndsAtOnce, Goes, Marks, Run}
 use Rattle.law_run.specs.Laws.{IsStart}
 use Rattle.law_run.proofs.Keeps.{progress_other}
@@ -16,19 +17,16 @@ use Rattle.db_core.specs.declared.session.Session.{Session}
 use Rattle.db_core.specs.declared.state.State.{State}
 use Rattle.db_core.specs.declared.out.TurnOut.{TurnOut}
 use Rattle.db_core.specs.declared.out.TurnOut.TheVariants as out
-use Rattle.db_core.specs.Rooms.{started_of, left_of_statement}
-use Rattle.db_core.specs.Runs.{turns_of, rest_from}
-use Rattle.db_core.specs.States.{entries_of, IsAt}
-use Rattle.db_core.specs.Store.{run_is, log_of, left_at, told_count, SaysOut, IsGood, IsTurn, Advanced, GoesNearer}
+use Rattle.db_core.specs.Rooms.{started_of}
+use Rattle.spec_run.specs.Schedules.{turns_of, rest_from}
+use Rattle.db_core.specs.States.{entries_of, left_in, IsAt}
+use Rattle.db_core.specs.Store.{run_is, log_of, db_of, told_count, SaysOut, IsGood, Advanced, GoesNearer}
 use Rattle.db_core.specs.Replays.{Follows, RunsTurns, RunsSchedule, IsDoneSession, MayGoOn, IsDone, EndsSession, EndsStatement, EndsFirst, GoesOn, unanswered}
 use Rattle.db_core.proofs.Keeps.{steps_of}
 use Rattle.db_core.proofs.Good.{get_same, items_entries}
 use Rattle.db_core.proofs.Next.{told_count as replies_told}
 use Rattle.db_core.proofs.Advances.{told_now}
-
-pub run_then : (run : Setting) (xs ys : List ℕ) (a b c : List Entry) → Run run a xs b → Run run b ys c → Run run a (xs ++ ys) c
-run_then run [] ys a b c e r = subst (λ m. Run run m ys c) e r
-run_then run (x ∷ xs) ys a b c h r = (h.0, h.1, run_then run xs ys h.0 b c h.2 r)
+use Rattle.db_core.proofs.TurnsLeft.{within_run, within_then, rests, takes_turn}
 
 replicate_more : (n s : ℕ) → replicate n s ++ s ∷ [] ≡ replicate (n + 1) s
 replicate_more zero s = refl
@@ -42,15 +40,21 @@ pub follows_then : (xs ys : List ℕ) (a b c : State) → Follows xs a b → Fol
 follows_then xs ys a b c f g = record {
   good = g.good;
   same = g.same ∙ f.same;
-  run = run_then (run_is a) xs ys (entries_of (log_of a)) (entries_of (log_of b)) (entries_of (log_of c)) f.run (subst (λ r. Run r (entries_of (log_of b)) ys (entries_of (log_of c))) f.same g.run);
+  run = within_then (run_is a) xs ys (left_in (db_of a)) (left_in (db_of b)) (left_in (db_of c)) (entries_of (log_of a)) (entries_of (log_of b)) (entries_of (log_of c)) f.run
+      (subst (λ r. RunWithin r (left_in (db_of b)) (entries_of (log_of b)) ys (left_in (db_of c)) (entries_of (log_of c))) f.same g.run);
 }
 
 -- one turn
-pub follows_one : (old new : State) (s : ℕ) → IsGood new → IsTurn s old new → Follows (replicate 1 s) old new
-follows_one old new s good turn = record { good = good; same = turn.0; run = (entries_of (log_of new), turn.1, refl) }
+pub follows_one : (old new : State) (at : ℕ) (answer : TurnOut) → IsGood old → at < length old.sessions.items → Advanced at old new answer → GoesNearer at old new → Follows (replicate 1 (at + 1)) old new
+follows_one old new at answer good inside adv nearer = record {
+  good = adv.good;
+  same = adv.turn.0;
+  run = (entries_of (log_of new), left_in (db_of new), adv.turn.1, takes_turn old new at answer good inside adv nearer, (refl, refl));
+}
 
-pub follows_turn : (n s : ℕ) (a b c : State) → Follows (replicate n s) a b → IsGood c → IsTurn s b c → Follows (replicate (n + 1) s) a c
-follows_turn n s a b c f good turn = subst (λ xs. Follows xs a c) (replicate_more n s) (follows_then (replicate n s) (s ∷ []) a b c f (follows_one b c s good turn))
+pub follows_turn : (n at : ℕ) (answer : TurnOut) (a b c : State) → Follows (replicate n (at + 1)) a b → at < length b.sessions.items → Advanced at b c answer → GoesNearer at b c → Follows (replicate (n + 1) (at + 1)) a c
+follows_turn n at answer a b c f inside adv nearer =
+    subst (λ xs. Follows xs a c) (replicate_more n (at + 1)) (follows_then (replicate n (at + 1)) ((at + 1) ∷ []) a b c f (follows_one b c at answer f.good inside adv nearer))
 
 -- as many sessions as before
 pub many_now : (turns : List ℕ) (old new : State) → IsGood old → Follows turns old new → length new.sessions.items ≡ length old.sessions.items
@@ -66,10 +70,11 @@ none_past (x ∷ xs) zero e lt = cc
 none_past (x ∷ xs) (suc i) e lt = none_past xs i e (omega (arith, lt))
 
 -- the first turn of a session that may go on
-pub first_goes : (old new : State) (at : ℕ) (answer : TurnOut) (x : Session) → slice_get old.sessions.items at ≡ Some x → MayGoOn x → Advanced at old new answer → GoesOn at old new
-first_goes old new at answer x here more adv = record {
+pub first_goes : (old new : State) (at : ℕ) (answer : TurnOut) (x : Session) → IsGood old → at < length old.sessions.items → slice_get old.sessions.items at ≡ Some x → MayGoOn x → Advanced at old new answer →
+    GoesNearer at old new → GoesOn at old new
+first_goes old new at answer x good inside here more adv nearer = record {
   count = 1;
-  follows = follows_one old new (at + 1) adv.good adv.turn;
+  follows = follows_one old new at answer good inside adv nearer;
   told = adv.told;
   more = λ y there idle. elim (adv.idle y there idle) [
     | inl e ↦ (let done = adv.rests x here e in absurd (none_past x.script.items (length x.replies.items) done.1 (more done.0)))
@@ -78,15 +83,16 @@ first_goes old new at answer x here more adv = record {
 }
 
 -- the next ones
-pub next_goes : (old mid new : State) (at : ℕ) (answer : TurnOut) (x : Session) → slice_get mid.sessions.items at ≡ Some x → (x.doing ≡ Idle → ⊥) → GoesOn at old mid → Advanced at mid new answer → GoesOn at old new
-next_goes old mid new at answer x here busy g adv =
+pub next_goes : (old mid new : State) (at : ℕ) (answer : TurnOut) (x : Session) → slice_get mid.sessions.items at ≡ Some x → (x.doing ≡ Idle → ⊥) → GoesOn at old mid → at < length mid.sessions.items →
+    Advanced at mid new answer → GoesNearer at mid new → GoesOn at old new
+next_goes old mid new at answer x here busy g inside adv nearer =
     let same = g.follows.same in
     let told : told_count (run_is old) (at + 1) (log_of mid) ≤ told_count (run_is old) (at + 1) (log_of new) =
     subst (λ r. told_count r (at + 1) (log_of mid) ≤ told_count r (at + 1) (log_of new)) same adv.told in
     let before = g.told in
     record {
       count = g.count + 1;
-      follows = follows_turn g.count (at + 1) old mid new g.follows adv.good adv.turn;
+      follows = follows_turn g.count at answer old mid new g.follows inside adv nearer;
       told = omega (arith, told, before);
       more = λ y there idle. elim (adv.idle y there idle) [
         | inl e ↦ absurd (busy (adv.rests x here e).0)
@@ -94,14 +100,6 @@ next_goes old mid new at answer x here busy g adv =
             subst (λ r. told_count r (at + 1) (log_of new) ≡ told_count r (at + 1) (log_of mid) + 1) same e in omega (arith, f, before))
       ];
     }
-
-pub less_left : (mid new : State) (at : ℕ) (x y : Session) → slice_get mid.sessions.items at ≡ Some x → slice_get new.sessions.items at ≡ Some y → (x.doing ≡ Idle → ⊥) → GoesNearer at mid new →
-    left_at new at < left_at mid at
-less_left mid new at x y here there busy nearer =
-    let a = ap (left_of_statement mid.items.items) here in
-    let b = ap (left_of_statement new.items.items) there in
-    let c = nearer x y here there busy in
-    omega (arith, a, b, c)
 
 pub statement_ends : (old new : State) (at : ℕ) (x : Session) → slice_get new.sessions.items at ≡ Some x → x.doing ≡ Idle → GoesOn at old new → EndsStatement at old new
 statement_ends old new at x here idle g = record {
@@ -113,8 +111,8 @@ statement_ends old new at x here idle g = record {
 
 idle_or : (d : Doing) → (d ≡ Idle) ⊎ (started_of d ≡ 1)
 idle_or Idle = inl refl
-idle_or (Changing next later own rows) = inr refl
-idle_or (Ending rows) = inr refl
+idle_or (Changing next later own reply) = inr refl
+idle_or (Ending reply) = inr refl
 idle_or Undoing = inr refl
 idle_or (Checking check) = inr refl
 
@@ -213,7 +211,8 @@ more_end old mid new at good f e =
     subst (λ xs. Follows xs old new) (sym (rest_more 1 e.count f.counts ∙ ap (λ m. rest_from 1 f.counts ++ replicate e.count m) place))
     (follows_then (rest_from 1 f.counts) (replicate e.count (at + 1)) old mid new f.follows e.follows) in
     let part : Run run (entries_of (log_of mid)) (replicate e.count (at + 1)) (entries_of (log_of new)) =
-    subst (λ r. Run r (entries_of (log_of mid)) (replicate e.count (at + 1)) (entries_of (log_of new))) f.follows.same e.follows.run in
+    subst (λ r. Run r (entries_of (log_of mid)) (replicate e.count (at + 1)) (entries_of (log_of new))) f.follows.same
+    (within_run (run_is mid) (left_in (db_of mid)) (entries_of (log_of mid)) (replicate e.count (at + 1)) (left_in (db_of new)) (entries_of (log_of new)) e.follows.run) in
     let legal : IsLegal run (items_of (entries_of (log_of new))) =
     subst (IsLegal run) (sym (items_entries (log_of new))) (subst (λ r. IsLegal r (log_of new)) follows.same follows.good.state.legal) in
     record {
@@ -234,16 +233,12 @@ more_end old mid new at good f e =
     last_or (suc m) zero le = inr (omega (arith, le))
     last_or (suc m) (suc n) le = elim (last_or m n (omega (arith, le))) [ inl a ↦ inl (omega (arith, a)) | inr e ↦ inr (omega (arith, e)) ]
 
--- turns of a session whose script is done
-rests : (run : Setting) (n s : ℕ) (entries : List Entry) → next_of run s (items_of entries) ≡ None → Run run entries (replicate n s) entries
-rests run zero s entries none = refl
-rests run (suc n) s entries none = (entries, Rests none refl, rests run n s entries none)
-
 -- the script is done, and all turns that are left rest
-pub rest_turns : (old mid new : State) (at n count : ℕ) (answer : TurnOut) → Follows (replicate n (at + 1)) old mid → Advanced at mid new answer → answer ≡ out.Finished → n < count → RunsTurns at count old new
-rest_turns old mid new at n count answer f adv finished low =
+pub rest_turns : (old mid new : State) (at n count : ℕ) (answer : TurnOut) → Follows (replicate n (at + 1)) old mid → at < length mid.sessions.items → Advanced at mid new answer →
+    GoesNearer at mid new → answer ≡ out.Finished → n < count → RunsTurns at count old new
+rest_turns old mid new at n count answer f inside adv nearer finished low =
     let says = by_answer answer finished adv.says in
-    let now = follows_turn n (at + 1) old mid new f adv.good adv.turn in
+    let now = follows_turn n at answer old mid new f inside adv nearer in
     let none : next_of (run_is old) (at + 1) (items_of (entries_of (log_of new))) ≡ None =
     ap (next_of (run_is old) (at + 1)) (items_entries (log_of new) ∙ says.1) ∙ subst (λ r. next_of r (at + 1) (log_of mid) ≡ None) f.same says.0 in
     let rest : count - (n + 1) + (n + 1) ≡ count = omega (arith, low) in
@@ -252,8 +247,8 @@ rest_turns old mid new at n count answer f adv finished low =
     (subst (λ xs. Follows xs old new) (replicate_then (n + 1) (count - (n + 1)) (at + 1)) (record {
       good = now.good;
       same = now.same;
-      run = run_then (run_is old) (replicate (n + 1) (at + 1)) (replicate (count - (n + 1)) (at + 1)) (entries_of (log_of old)) (entries_of (log_of new)) (entries_of (log_of new)) now.run
-          (rests (run_is old) (count - (n + 1)) (at + 1) (entries_of (log_of new)) none);
+      run = within_then (run_is old) (replicate (n + 1) (at + 1)) (replicate (count - (n + 1)) (at + 1)) (left_in (db_of old)) (left_in (db_of new)) (left_in (db_of new))
+          (entries_of (log_of old)) (entries_of (log_of new)) (entries_of (log_of new)) now.run (rests (run_is old) (count - (n + 1)) (at + 1) (left_in (db_of new)) (entries_of (log_of new)) none);
     }))
   where
     by_answer : (a : TurnOut) → a ≡ out.Finished → SaysOut (run_is mid) (at + 1) (log_of mid) (log_of new) a → (next_of (run_is mid) (at + 1) (log_of mid) ≡ None) × (log_of new ≡ log_of mid)

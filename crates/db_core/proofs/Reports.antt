@@ -32,11 +32,11 @@ use Rattle.spec_words.specs.Tables.{table_of, table_pages}
 use Rattle.spec_words.specs.Heaps.{heap_page, room_on, row_put, insert_plan, count_plan}
 use Rattle.law_net.specs.GoodViews.{IfGives, Leads}
 use Rattle.law_net.proofs.WordLaws.{leads_then, leads_give}
-use Rattle.law_run.proofs.Agreed.{always}
+use Rattle.law_net.proofs.InsertTakes.{always}
 use Rattle.spec_run.specs.Begun.{Setting, Telling, Answers, Reports, Tells, Becoming, shape_of, view_at, surely, with_memory, refused, by_changes, by_taken, by_end, by_damage, becomes}
 use Rattle.spec_run.specs.Progress.{Progress, progress_of, at_work, with_statement, script_of, is_short, cut_short, moved_to, moved}
 use Rattle.spec_run.specs.Turns.{AreTold, told_to}
-use Rattle.db_core.specs.Reports.{is_terminated}
+use Rattle.spec_run.specs.Answers.{is_terminated}
 
 -- a session is told so
 abbrev pub tells_terminated : Telling → Bool

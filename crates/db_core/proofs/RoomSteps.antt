@@ -1,10 +1,11 @@
 -- A step leaves a session room for what it still has to do, and brings it nearer to its end.
-use Rattle.std.proofs.Common.{◌≡◌, ℕ, ◌+◌, ◌<◌, ◌≤◌, Bool, true, false, List, [], ◌∷◌, ◌++◌, length, reverse, Option, refl, sym, ap, ◌∙◌, arith}
+use Rattle.std.proofs.Common.{◌≡◌, ℕ, ◌+◌, ◌<◌, ◌≤◌, Bool, true, false, List, [], ◌∷◌, ◌++◌, length, reverse, refl, sym, ap, ◌∙◌, arith}
 use Rattle.std.proofs.lemmas.List.{length-reverse, length_push}
 use Rattle.spec_file.specs.Image.{Image}
 use Rattle.spec_log.specs.declared.item.Record.{Record}
 use Rattle.spec_plan.specs.declared.plan.Planned.{Planned}
 use Rattle.spec_run.specs.Shapes.{change_item}
+use Rattle.spec_script.specs.declared.reply.Reply.{Reply}
 use Rattle.db_core.specs.declared.session.Doing.{Doing}
 use Rattle.db_core.specs.declared.session.Doing.TheVariants.{Idle, Changing, Ending, Undoing, Checking}
 use Rattle.db_core.specs.declared.session.Session.{Session}
@@ -13,15 +14,15 @@ use Rattle.db_core.specs.States.{IsChanging, GoesOnWith, Keeps, KeepsRoom, Steps
 use Rattle.db_core.specs.Store.{is_snap}
 
 -- what a session that makes changes still has to do
-pub changing_counts : (x : Session) (c : Planned) (cs : List Planned) (own : Bool) (rows : Option ℕ) (d : Doing) → IsChanging (c ∷ cs) own rows d →
+pub changing_counts : (x : Session) (c : Planned) (cs : List Planned) (own : Bool) (reply : Reply) (d : Doing) → IsChanging (c ∷ cs) own reply d →
     (pending_of d ≡ length cs + 1) × (started_of d ≡ 1) × ((items : List Record) → turns_left items x d ≡ length cs + 2)
-changing_counts x c cs own rows Idle is = absurd is
-changing_counts x c cs own rows (Changing next later o r) is =
+changing_counts x c cs own reply Idle is = absurd is
+changing_counts x c cs own reply (Changing next later o r) is =
     let e : length cs ≡ length later.items = (let f : cs ≡ reverse later.items = cc in ap length f ∙ length-reverse later.items) in
     (omega (arith, e), refl, λ items. omega (arith, e))
-changing_counts x c cs own rows (Ending r) is = absurd is
-changing_counts x c cs own rows Undoing is = absurd is
-changing_counts x c cs own rows (Checking check) is = absurd is
+changing_counts x c cs own reply (Ending r) is = absurd is
+changing_counts x c cs own reply Undoing is = absurd is
+changing_counts x c cs own reply (Checking check) is = absurd is
 
 -- the room of a session, from what has become of it
 pub record Lighter (old new : Session) : Type 0 where
@@ -30,9 +31,9 @@ pub record Lighter (old new : Session) : Type 0 where
   pub nearer : (before after : List Record) → turns_left after new new.doing < turns_left before old old.doing
 
 -- behind a change
-pub change_lighter : (old new : Session) (c : Planned) (later : _) (own : Bool) (rows : Option ℕ) (n : ℕ) → old.doing ≡ Changing c later own rows → HasOwnRoom old → KeepsRoom old new → Keeps old new →
-    new.left.items ≡ old.left.items ++ n ∷ [] → (ds : List Planned) → reverse later.items ≡ ds → GoesOnWith ds own rows old new → Lighter old new
-change_lighter old new c later true rows n doing room kept_room kept left [] none goes =
+pub change_lighter : (old new : Session) (c : Planned) (later : _) (own : Bool) (reply : Reply) (n : ℕ) → old.doing ≡ Changing c later own reply → HasOwnRoom old → KeepsRoom old new → Keeps old new →
+    new.left.items ≡ old.left.items ++ n ∷ [] → (ds : List Planned) → reverse later.items ≡ ds → GoesOnWith ds own reply old new → Lighter old new
+change_lighter old new c later true reply n doing room kept_room kept left [] none goes =
     let script = ap length kept.script in
     let used = kept.used in
     let replies = ap length goes.1 in
@@ -55,7 +56,7 @@ change_lighter old new c later true rows n doing room kept_room kept left [] non
       less = omega (arith, script, replies, started, started_old, d, lefts, pending, pending_old);
       nearer = λ before after. (let turns = ap (turns_left after new) goes.0 in let turns_old = ap (turns_left before old) doing in omega (arith, turns, turns_old));
     }
-change_lighter old new c later false rows n doing room kept_room kept left [] none goes =
+change_lighter old new c later false reply n doing room kept_room kept left [] none goes =
     let script = ap length kept.script in
     let used = kept.used in
     let replies = ap length goes.1 ∙ length_push old.replies.items _ in
@@ -78,8 +79,8 @@ change_lighter old new c later false rows n doing room kept_room kept left [] no
       less = omega (arith, script, replies, started, started_old, d, lefts, pending, pending_old);
       nearer = λ before after. (let turns = ap (turns_left after new) goes.0 in let turns_old = ap (turns_left before old) doing in omega (arith, turns, turns_old));
     }
-change_lighter old new c later own rows n doing room kept_room kept left (x ∷ xs) some goes =
-    let counts = changing_counts new x xs own rows new.doing goes.0 in
+change_lighter old new c later own reply n doing room kept_room kept left (x ∷ xs) some goes =
+    let counts = changing_counts new x xs own reply new.doing goes.0 in
     let size : length later.items ≡ length xs + 1 = sym (length-reverse later.items) ∙ ap length some ∙ omega arith in
     let script = ap length kept.script in
     let used = kept.used in
@@ -163,9 +164,9 @@ change_silent t c = refl
 pub step_lighter : (number : ℕ) (items : List Record) (old new : Session) (pages after : Image) (x : Record) (d : Doing) → old.doing ≡ d → HasOwnRoom old → KeepsRoom old new →
     StepsBy number items old new pages after x d → Lighter old new × (is_snap x ≡ false)
 step_lighter number items old new pages after x Idle doing room kept_room st = absurd st
-step_lighter number items old new pages after x (Changing c later own rows) doing room kept_room st =
-    (change_lighter old new c later own rows number doing room kept_room st.2 st.3 (reverse later.items) refl st.4, ap is_snap st.0 ∙ change_silent old.tran c)
-step_lighter number items old new pages after x (Ending rows) doing room kept_room st =
+step_lighter number items old new pages after x (Changing c later own reply) doing room kept_room st =
+    (change_lighter old new c later own reply number doing room kept_room st.2 st.3 (reverse later.items) refl st.4, ap is_snap st.0 ∙ change_silent old.tran c)
+step_lighter number items old new pages after x (Ending reply) doing room kept_room st =
     let used = room.used in
     (end_lighter old new _ (ap started_of doing) (λ before. (let turns = ap (turns_left before old) doing in omega (arith, turns))) room kept_room st.2 st.6 st.7 st.4 st.5, ap is_snap st.0)
 step_lighter number items old new pages after x Undoing doing room kept_room st = by_left (reverse old.left.items) refl st

@@ -25,7 +25,7 @@ use Rattle.db_core.specs.declared.session.Doing.TheVariants.{Idle, Checking}
 use Rattle.db_core.specs.declared.session.Session.{Session}
 use Rattle.db_core.specs.declared.starts.StatementNo.{StatementNo}
 use Rattle.db_core.specs.declared.state.State.{State}
-use Rattle.db_core.specs.Bounds.{most_turns}
+use Rattle.spec_run.specs.Bounds.{most_turns}
 use Rattle.db_core.specs.Checks.{Begins, Checked, EndsAtOnce, IsFresh, Snapped}
 use Rattle.db_core.specs.Rooms.{pending_of, started_of, owed_by, HasOwnRoom, turns_left, left_of_statement}
 use Rattle.db_core.specs.States.{whole_log, entries_of, IsAt, IsOpen, IsSession, IsSnapshot, IsState}

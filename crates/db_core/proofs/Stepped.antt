@@ -1,5 +1,5 @@
 -- A step of a statement that is under way fits into the pages, and keeps the core's state.
-use Rattle.std.proofs.Common.{◌≡◌, ℕ, zero, suc, ◌+◌, ◌-◌, ◌<◌, ◌≤◌, Bool, true, false, eqb, ltb, leb, List, [], ◌∷◌, ◌++◌, length, map, reverse, Option, Some, None, inl, inr, refl, sym, ap, ◌∙◌, subst, arith}
+use Rattle.std.proofs.Common.{◌≡◌, ℕ, zero, suc, ◌+◌, ◌-◌, ◌<◌, ◌≤◌, Bool, true, false, eqb, ltb, leb, List, [], ◌∷◌, ◌++◌, length, map, reverse, Some, None, inl, inr, refl, sym, ap, ◌∙◌, subst, arith}
 use Rattle.std.specs.Prelude.{if◌then◌else◌, slice_get}
 use Rattle.std.proofs.lemmas.List.{reverse-append, length-reverse, reverse-reverse}
 use Rattle.std.proofs.lemmas.Bool.{eq-eqb, ne_eqb, eqb-true, cond_both, cases_Bool, and_parts, leb-true, ltb-true, ltb-false, both_ways}
@@ -29,11 +29,12 @@ use Rattle.law_run.specs.Doing.{change_items}
 use Rattle.law_run.proofs.Left.{AreNamed, left_named}
 use Rattle.law_run.proofs.Legal.{legal_right}
 use Rattle.law_undo.proofs.Shapes.{final_shape}
+use Rattle.spec_script.specs.declared.reply.Reply.{Reply}
 use Rattle.db_core.specs.declared.session.Doing.{Doing}
 use Rattle.db_core.specs.declared.session.Doing.TheVariants.{Idle, Changing, Ending, Undoing, Checking}
 use Rattle.db_core.specs.declared.session.Session.{Session}
 use Rattle.vol_pool.specs.Cells.{FitsCell, MayPutBack, MayUndo}
-use Rattle.db_core.specs.States.{whole_log, reply_of, IsAt, IsSession, IsState, IsChanging, GoesOnWith, StepsBack, MayStep, StepsBy}
+use Rattle.db_core.specs.States.{whole_log, IsAt, IsSession, IsState, IsChanging, GoesOnWith, StepsBack, MayStep, StepsBy}
 use Rattle.db_core.proofs.Keeps.{steps_of}
 use Rattle.db_core.proofs.Next.{change_comes, ChangeKept, change_goes, change_ends, commit_comes, commit_ends, undo_comes, undo_goes, abort_comes, abort_ends}
 
@@ -146,13 +147,13 @@ may_step run log pages sessions last all size k old state here = by_doing old.do
 
     by_doing : (d : Doing) → old.doing ≡ d → MayStep pages (reverse (whole_log run log)) old d
     by_doing Idle e = tt
-    by_doing (Changing next later own rows) e =
-        let st = steps_of run log (k + 1) (change_item old.tran next) state.start state.legal (omega arith) (change_comes run log (k + 1) old next later own rows e mine) in (
+    by_doing (Changing next later own reply) e =
+        let st = steps_of run log (k + 1) (change_item old.tran next) state.start state.legal (omega arith) (change_comes run log (k + 1) old next later own reply e mine) in (
           subst (λ n. page_of_cell next.cell < n) (sym long)
               (cell_inside run.geometry (length run.image) (whole_log run log) old.tran next.cell (length next.after) (cell_some next.cell next.before next.after st.form) st.follows.1),
           cell_fits next.cell next.before next.after next.after st.form refl,
         )
-    by_doing (Ending rows) e = tt
+    by_doing (Ending reply) e = tt
     by_doing Undoing e =
         let d = subst (IsAt run log (k + 1) (length old.replies.items + 1) old.tran (progress_of run (k + 1) log)) e mine.doing_is in
         elim mine.opens [
@@ -162,16 +163,16 @@ may_step run log pages sessions last all size k old state here = by_doing old.do
     by_doing (Checking check) e = tt
 
 -- a doing that is of these changes owes them
-pub at_changing : (run : Setting) (log : List Record) (s index t : ℕ) (p : Progress) (changes : List Planned) (own : Bool) (rows : Option ℕ) (d : Doing) → IsChanging changes own rows d →
-    p.due ≡ change_items t changes own → p.telling ≡ Answers (reply_of rows) → IsAt run log s index t p d
-at_changing run log s index t p changes own rows Idle is due tell = absurd is
-at_changing run log s index t p changes own rows (Changing next later o r) is due tell = (
+pub at_changing : (run : Setting) (log : List Record) (s index t : ℕ) (p : Progress) (changes : List Planned) (own : Bool) (reply : Reply) (d : Doing) → IsChanging changes own reply d →
+    p.due ≡ change_items t changes own → p.telling ≡ Answers reply → IsAt run log s index t p d
+at_changing run log s index t p changes own reply Idle is due tell = absurd is
+at_changing run log s index t p changes own reply (Changing next later o r) is due tell = (
   due ∙ ap (λ cs. change_items t cs own) is.0 ∙ ap (change_items t (next ∷ reverse later.items)) (sym is.1),
-  tell ∙ ap (λ q. Answers (reply_of q)) (sym is.2),
+  tell ∙ ap (λ q. Answers q) (sym is.2),
 )
-at_changing run log s index t p changes own rows (Ending r) is due tell = absurd is
-at_changing run log s index t p changes own rows Undoing is due tell = absurd is
-at_changing run log s index t p changes own rows (Checking check) is due tell = absurd is
+at_changing run log s index t p changes own reply (Ending r) is due tell = absurd is
+at_changing run log s index t p changes own reply Undoing is due tell = absurd is
+at_changing run log s index t p changes own reply (Checking check) is due tell = absurd is
 
 pub some_changes : (t : ℕ) (c : Planned) (cs : List Planned) (own : Bool) → change_items t (c ∷ cs) own ≡ [] → ⊥
 some_changes t c cs own e = cc
@@ -180,20 +181,20 @@ pub some_commit : (t : ℕ) → change_items t [] true ≡ [] → ⊥
 some_commit t e = cc
 
 -- the session behind a Change
-change_session : (run : Setting) (log : List Record) (s : ℕ) (old new : Session) (c : Planned) (later : _) (own : Bool) (rows : Option ℕ) → IsStart run → IsLegal run log → 0 < s →
-    old.doing ≡ Changing c later own rows → IsSession run log s old → ChangeKept (whole_log run log) old new →
-    (ds : List Planned) → reverse later.items ≡ ds → GoesOnWith ds own rows old new → IsSession run (change_item old.tran c ∷ log) s new
-change_session run log s old new c later true rows start legal hs doing mine kept [] none goes =
-    change_goes run log s old new c later true rows start legal hs doing mine kept goes.1
+change_session : (run : Setting) (log : List Record) (s : ℕ) (old new : Session) (c : Planned) (later : _) (own : Bool) (reply : Reply) → IsStart run → IsLegal run log → 0 < s →
+    old.doing ≡ Changing c later own reply → IsSession run log s old → ChangeKept (whole_log run log) old new →
+    (ds : List Planned) → reverse later.items ≡ ds → GoesOnWith ds own reply old new → IsSession run (change_item old.tran c ∷ log) s new
+change_session run log s old new c later true reply start legal hs doing mine kept [] none goes =
+    change_goes run log s old new c later true reply start legal hs doing mine kept goes.1
     (λ e. some_commit old.tran (ap (λ ds. change_items old.tran ds true) (sym none) ∙ e))
     (λ p due tell. subst (IsAt run (change_item old.tran c ∷ log) s (length old.replies.items + 1) old.tran p) (sym goes.0)
     (due ∙ ap (λ ds. change_items old.tran ds true) none, tell))
-change_session run log s old new c later false rows start legal hs doing mine kept [] none goes =
-    change_ends run log s old new c later rows start legal hs doing (reverse_back later.items [] none) mine kept goes.1 goes.0
-change_session run log s old new c later own rows start legal hs doing mine kept (d ∷ ds) some goes =
-    change_goes run log s old new c later own rows start legal hs doing mine kept goes.1
+change_session run log s old new c later false reply start legal hs doing mine kept [] none goes =
+    change_ends run log s old new c later reply start legal hs doing (reverse_back later.items [] none) mine kept goes.1 goes.0
+change_session run log s old new c later own reply start legal hs doing mine kept (d ∷ ds) some goes =
+    change_goes run log s old new c later own reply start legal hs doing mine kept goes.1
     (λ e. some_changes old.tran d ds own (ap (λ cs. change_items old.tran cs own) (sym some) ∙ e))
-    (λ p due tell. at_changing run (change_item old.tran c ∷ log) s (length old.replies.items + 1) old.tran p (d ∷ ds) own rows new.doing goes.0
+    (λ p due tell. at_changing run (change_item old.tran c ∷ log) s (length old.replies.items + 1) old.tran p (d ∷ ds) own reply new.doing goes.0
     (due ∙ ap (λ cs. change_items old.tran cs own) some) tell)
 
 -- what comes of a step: an item that may come, the session behind it, and the pages
@@ -235,7 +236,7 @@ pub stepped : (run : Setting) (log : List Record) (s number : ℕ) (old new : Se
     number ≡ length (whole_log run log) + 1 → (d : Doing) → old.doing ≡ d → MayStep pages (reverse (whole_log run log)) old d →
     StepsBy number (reverse (whole_log run log)) old new pages after x d → IsStepped run log s new pages after x
 stepped run log s number old new pages after x start legal hs mine count Idle doing may st = absurd st
-stepped run log s number old new pages after x start legal hs mine count (Changing c later own rows) doing may st =
+stepped run log s number old new pages after x start legal hs mine count (Changing c later own reply) doing may st =
     let kept : ChangeKept (whole_log run log) old new = record {
       script = st.2.script;
       tran = st.2.tran;
@@ -244,16 +245,16 @@ stepped run log s number old new pages after x start legal hs mine count (Changi
       used = st.2.used;
     } in
     subst (IsStepped run log s new pages after) (sym st.0) (record {
-      comes = change_comes run log s old c later own rows doing mine;
-      mine = change_session run log s old new c later own rows start legal hs doing mine kept (reverse later.items) refl st.4;
+      comes = change_comes run log s old c later own reply doing mine;
+      mine = change_session run log s old new c later own reply start legal hs doing mine kept (reverse later.items) refl st.4;
       pages_are = st.1;
       all_same = refl;
       size_same = refl;
     })
-stepped run log s number old new pages after x start legal hs mine count (Ending rows) doing may st =
+stepped run log s number old new pages after x start legal hs mine count (Ending reply) doing may st =
     subst (IsStepped run log s new pages after) (sym st.0) (record {
-      comes = commit_comes run log s old rows doing mine;
-      mine = commit_ends run log s old new rows start legal hs doing mine st.2 st.5 st.3 st.4;
+      comes = commit_comes run log s old reply doing mine;
+      mine = commit_ends run log s old new reply start legal hs doing mine st.2 st.5 st.3 st.4;
       pages_are = st.1;
       all_same = refl;
       size_same = refl;

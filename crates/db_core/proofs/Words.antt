@@ -1,5 +1,5 @@
 -- The record of a statement that needs no plan keeps what the core knows.
-use Rattle.std.proofs.Common.{◌≡◌, ℕ, zero, suc, ◌+◌, ◌<◌, true, false, eqb, not, List, [], ◌∷◌, ◌++◌, length, None, ◌⊎◌, inl, inr, refl, sym, ap, ◌∙◌, subst, arith, append-nil}
+use Rattle.std.proofs.Common.{◌≡◌, ℕ, zero, suc, ◌+◌, ◌<◌, true, false, eqb, not, List, [], ◌∷◌, ◌++◌, length, ◌⊎◌, inl, inr, refl, sym, ap, ◌∙◌, subst, arith, append-nil}
 use Rattle.std.specs.Prelude.{if◌then◌else◌}
 use Rattle.std.proofs.lemmas.Bool.{eq-eqb, ne_eqb, lt-ltb, or_left}
 use Rattle.spec_file.specs.Image.{Image}
@@ -146,7 +146,7 @@ word_step run log s last place old new Commit pages x h ps pi last_is (inl r) =
     refusal_step run log s 3902 place old new (statement_of Commit) _ pages x h ps pi refl (choose_yes s (length old.replies.items + 1) old.tran _ _ r.0) r.1
 word_step run log s last place old new Commit pages x h ps pi last_is (inr r) =
     let is_b = choose_no s (length old.replies.items + 1) old.tran (surely (Refusing old.tran 3902) (Refused (plain_refusal 3902))) (surely (Committing old.tran) Done) r.0 in
-    going_step run log s place old new (statement_of Commit) _ (change_items old.tran [] true) pages x (Ending None) h ps pi (ap (λ (c : Begun). c.items) is_b) (some_commit old.tran) r.1
+    going_step run log s place old new (statement_of Commit) _ (change_items old.tran [] true) pages x (Ending Done) h ps pi (ap (λ (c : Begun). c.items) is_b) (some_commit old.tran) r.1
     (λ p due tell. (due, tell ∙ ap (λ (c : Begun). c.telling) is_b))
 word_step run log s last place old new Rollback pages x h ps pi last_is (inl r) =
     refusal_step run log s 3903 place old new (statement_of Rollback) _ pages x h ps pi refl (choose_yes s (length old.replies.items + 1) old.tran _ _ r.0) r.1

@@ -19,7 +19,7 @@ use Rattle.db_core.specs.declared.state.State.{State}
 use Rattle.db_core.specs.Back.{GoesBack}
 use Rattle.db_core.specs.Reading.{is_read, MayRead, ReadsOn}
 use Rattle.db_core.specs.States.{Keeps, KeepsRoom}
-use Rattle.db_core.specs.Bounds.{most_turns}
+use Rattle.spec_run.specs.Bounds.{most_turns}
 use Rattle.db_core.specs.Store.{run_is, log_of, left_at, told_count, IsGood, IsTurn, LeavesOthers}
 use Rattle.db_core.specs.Views.{open_trans}
 

@@ -1,6 +1,5 @@
 pub mod Reading
 pub mod Back
-pub mod Bounds
 pub mod States
 pub mod Words
 pub mod Rooms
@@ -12,7 +11,6 @@ pub mod ViewLaws
 pub mod Checks
 pub mod Runs
 pub mod Replays
-pub mod Reports
 pub mod SeenPages
 pub mod SeenLaws
 pub mod PutLaws

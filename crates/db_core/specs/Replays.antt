@@ -5,17 +5,17 @@ use Rattle.spec_run.specs.Begun.{Setting}
 use Rattle.spec_run.specs.Progress.{progress_of, script_of, next_of}
 use Rattle.db_core.specs.declared.session.Doing.TheVariants.{Idle}
 use Rattle.db_core.specs.declared.session.Session.{Session}
-use Rattle.spec_run.specs.Turns.{Run}
+use Rattle.spec_run.specs.Bounds.{RunWithin}
 use Rattle.db_core.specs.declared.state.State.{State}
-use Rattle.db_core.specs.Runs.{turns_of, rest_from}
-use Rattle.db_core.specs.States.{entries_of}
-use Rattle.db_core.specs.Store.{run_is, log_of, IsGood, told_count}
+use Rattle.spec_run.specs.Schedules.{turns_of, rest_from}
+use Rattle.db_core.specs.States.{entries_of, left_in}
+use Rattle.db_core.specs.Store.{run_is, log_of, db_of, IsGood, told_count}
 
--- these turns lead from one good state to another
+-- these turns lead from one good state to another, each within its bound
 pub record Follows (turns : List ℕ) (old new : State) : Type 0 where
   pub good : IsGood new
   pub same : run_is new ≡ run_is old
-  pub run : Run (run_is old) (entries_of (log_of old)) turns (entries_of (log_of new))
+  pub run : RunWithin (run_is old) (left_in (db_of old)) (entries_of (log_of old)) turns (left_in (db_of new)) (entries_of (log_of new))
 
 -- the turns of a schedule
 abbrev pub RunsSchedule : List (ℕ × ℕ) → State → State → Type 0

@@ -11,23 +11,23 @@ use Rattle.db_core.specs.Back.{steps_left}
 -- the changes that are still to be made
 abbrev pub pending_of : Doing → ℕ
 pending_of Idle = 0
-pending_of (Changing next later own rows) = length later.items + 1
-pending_of (Ending rows) = 0
+pending_of (Changing next later own reply) = length later.items + 1
+pending_of (Ending reply) = 0
 pending_of Undoing = 0
 pending_of (Checking check) = 0
 
 -- one statement is under way, or none
 abbrev pub started_of : Doing → ℕ
 started_of Idle = 0
-started_of (Changing next later own rows) = 1
-started_of (Ending rows) = 1
+started_of (Changing next later own reply) = 1
+started_of (Ending reply) = 1
 started_of Undoing = 1
 started_of (Checking check) = 1
 
 abbrev pub is_checking : Doing → Bool
 is_checking Idle = false
-is_checking (Changing next later own rows) = false
-is_checking (Ending rows) = false
+is_checking (Changing next later own reply) = false
+is_checking (Ending reply) = false
 is_checking Undoing = false
 is_checking (Checking check) = true
 
@@ -48,8 +48,8 @@ pub record HasOwnRoom (x : Session) : Type 0 where
 -- how many turns a statement that is under way still takes at most, over these items
 abbrev pub turns_left : List Record → Session → Doing → ℕ
 turns_left items x Idle = 0
-turns_left items x (Changing next later own rows) = length later.items + 2
-turns_left items x (Ending rows) = 1
+turns_left items x (Changing next later own reply) = length later.items + 2
+turns_left items x (Ending reply) = 1
 turns_left items x Undoing = length x.left.items + 1
 turns_left items x (Checking check) = steps_left items check + 1
 

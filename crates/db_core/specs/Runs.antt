@@ -1,24 +1,8 @@
--- The turns of a whole run (the order is this project's own).
-use Rattle.std.specs.Prelude.{◌≡◌, ℕ, ◌+◌, ◌≤◌, List, [], ◌∷◌, ◌++◌, length, replicate, flat_map, vec_capacity}
-use Rattle.spec_file.specs.Image.{Image}
-use Rattle.spec_file.specs.declared.geometry.Geometry.TheVariants.{Small}
+-- Sessions that have done nothing yet.
+use Rattle.std.specs.Prelude.{◌≡◌, ◌≤◌, List, [], ◌∷◌, length, vec_capacity}
 use Rattle.spec_script.specs.declared.statement.Statement.{Statement}
-use Rattle.spec_run.specs.Begun.{Setting}
 use Rattle.db_core.specs.declared.session.Doing.TheVariants.{Idle}
 use Rattle.db_core.specs.declared.session.Session.{Session}
-
--- the turns of a schedule: of each session so many
-abbrev pub turns_of : List (ℕ × ℕ) → List ℕ
-turns_of schedule = flat_map (λ (p : ℕ × ℕ). replicate p.1 p.0) schedule
-
--- from session s on, each session's turns, with how many each has
-abbrev pub rest_from : ℕ → List ℕ → List ℕ
-rest_from s [] = []
-rest_from s (n ∷ counts) = replicate n s ++ rest_from (s + 1) counts
-
--- what a run over these pages and scripts begins with
-abbrev pub setting_of : Image → List (List Statement) → Setting
-setting_of image scripts = record { geometry = Small; opened = []; image = image; scripts = scripts }
 
 -- a session with this script that has done nothing, with room for its replies
 pub record IsNew (script : List Statement) (x : Session) : Type 0 where

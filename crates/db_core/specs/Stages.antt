@@ -1,7 +1,8 @@
 -- What a session's next turn does.
-use Rattle.std.specs.Prelude.{◌≡◌, ℕ, Bool, true, false, length, slice_get, Option, Some, None}
+use Rattle.std.specs.Prelude.{◌≡◌, ℕ, true, length, slice_get, Option, Some, None}
 use Rattle.spec_script.specs.declared.statement.Statement.{Statement}
 use Rattle.spec_script.specs.declared.statement.Statement.TheVariants as statement
+use Rattle.db_plan.specs.Plans.{is_planned}
 use Rattle.db_core.specs.declared.session.Check.{Check}
 use Rattle.db_core.specs.declared.session.Doing.TheVariants.{Idle, Checking}
 use Rattle.db_core.specs.declared.session.Session.{Session}
@@ -10,12 +11,6 @@ use Rattle.db_core.specs.declared.stage.Stage.TheVariants as stage
 use Rattle.db_core.specs.States.{IsUnderWay}
 use Rattle.db_core.specs.Words.{statement_of}
 
--- INSERT or COUNT
-abbrev pub is_table : Statement → Bool
-is_table (statement.Insert table key payload) = true
-is_table (statement.Count table) = true
-is_table other = false
-
 -- what the turn does that begins this statement, if there is one
 abbrev pub IsStageOf : Option Statement → Stage → Type 0
 IsStageOf next stage.Done = next ≡ None
@@ -23,7 +18,7 @@ IsStageOf next stage.UnderWay = ⊥
 IsStageOf next stage.Checking = ⊥
 IsStageOf next (stage.Word word) = next ≡ Some (statement_of word)
 IsStageOf next stage.Check = (workers : ℕ) × (next ≡ Some (statement.Check workers))
-IsStageOf next stage.Table = (st : Statement) × (next ≡ Some st) × (is_table st ≡ true)
+IsStageOf next stage.Planned = (st : Statement) × (next ≡ Some st) × (is_planned st ≡ true)
 
 -- the next statement of a session
 abbrev pub next_statement : Session → Option Statement
@@ -35,4 +30,4 @@ IsStage x stage.Checking = (check : Check) × (x.doing ≡ Checking check)
 IsStage x stage.Done = (x.doing ≡ Idle) × IsStageOf (next_statement x) stage.Done
 IsStage x (stage.Word word) = (x.doing ≡ Idle) × IsStageOf (next_statement x) (stage.Word word)
 IsStage x stage.Check = (x.doing ≡ Idle) × IsStageOf (next_statement x) stage.Check
-IsStage x stage.Table = (x.doing ≡ Idle) × IsStageOf (next_statement x) stage.Table
+IsStage x stage.Planned = (x.doing ≡ Idle) × IsStageOf (next_statement x) stage.Planned

@@ -1,5 +1,5 @@
 -- What the core keeps of each session, tied to the history.
-use Rattle.std.specs.Prelude.{◌≡◌, ℕ, ◌+◌, ◌-◌, ◌<◌, ◌≤◌, ◌==◌, Bool, true, false, List, [], ◌∷◌, ◌++◌, length, map, reverse, take, slice_get, slice_index, vec_capacity, Option, Some, None, ◌⊎◌}
+use Rattle.std.specs.Prelude.{◌≡◌, ℕ, ◌+◌, ◌-◌, ◌<◌, ◌≤◌, ◌==◌, Bool, true, false, List, [], ◌∷◌, ◌++◌, length, map, reverse, take, slice_get, slice_index, vec_capacity, Some, ◌⊎◌}
 use Rattle.std.specs.List.{list_any}
 use Rattle.spec_log.specs.declared.limits.TheConstants.{MOST_CHANGES}
 use Rattle.spec_file.specs.declared.data.Resource.{Resource}
@@ -15,7 +15,7 @@ use Rattle.spec_log.specs.Cells.{put}
 use Rattle.spec_run.specs.Shapes.{change_item}
 use Rattle.vol_pool.specs.Cells.{FitsCell, MayUndo}
 use Rattle.spec_script.specs.declared.reply.Reply.{Reply}
-use Rattle.spec_script.specs.declared.reply.Reply.TheVariants.{Done, Rows}
+use Rattle.spec_script.specs.declared.reply.Reply.TheVariants.{Done}
 use Rattle.spec_plan.specs.declared.plan.Planned.{Planned}
 use Rattle.spec_run.specs.Entries.{Entry, Item}
 use Rattle.spec_run.specs.Begun.{Setting, Telling, Answers, Reports}
@@ -52,11 +52,6 @@ TurnIn s old new = (new.run ≡ old.run) × Turn old.run s old.entries new.entri
 abbrev pub whole_log : Setting → List Record → List Record
 whole_log run log = log ++ run.opened
 
--- the reply to a statement that changes the file, with the rows that it writes, and to COMMIT
-abbrev pub reply_of : Option ℕ → Reply
-reply_of None = Done
-reply_of (Some n) = Rows n []
-
 -- the items before the one with this number, the newest first
 abbrev pub items_before : Setting → List Record → ℕ → List Record
 items_before run log number = reverse (take (number - 1) (reverse (whole_log run log)))
@@ -81,8 +76,8 @@ pub record IsSnapshot (run : Setting) (log : List Record) (check : Check) (telli
 -- what the session is doing: the items that it owes, and what it is told after them
 abbrev pub IsAt : Setting → List Record → ℕ → ℕ → ℕ → Progress → Doing → Type 0
 IsAt run log s index t p Idle = p.due ≡ []
-IsAt run log s index t p (Changing next later own rows) = (p.due ≡ change_items t (next ∷ reverse later.items) own) × (p.telling ≡ Answers (reply_of rows))
-IsAt run log s index t p (Ending rows) = (p.due ≡ change_items t [] true) × (p.telling ≡ Answers (reply_of rows))
+IsAt run log s index t p (Changing next later own reply) = (p.due ≡ change_items t (next ∷ reverse later.items) own) × (p.telling ≡ Answers reply)
+IsAt run log s index t p (Ending reply) = (p.due ≡ change_items t [] true) × (p.telling ≡ Answers reply)
 IsAt run log s index t p Undoing = (p.due ≡ abort_items t (left_of t (whole_log run log))) × (p.telling ≡ Answers Done) × (0 < t)
 IsAt run log s index t p (Checking check) = (p.due ≡ CheckEnd s index 0 ∷ []) × IsSnapshot run log check p.telling × (p.want ≡ Some (CheckEnd s index 3))
 
@@ -111,18 +106,18 @@ pub record IsState (run : Setting) (log : List Record) (pages : Image) (sessions
   pub size_is : size ≡ all_bytes (whole_log run log)
 
 -- the changes that a session makes next, and what it does behind them
-abbrev pub IsChanging : List Planned → Bool → Option ℕ → Doing → Type 0
-IsChanging changes own rows Idle = ⊥
-IsChanging changes own rows (Changing next later o r) = (changes ≡ next ∷ reverse later.items) × (o ≡ own) × (r ≡ rows)
-IsChanging changes own rows (Ending r) = ⊥
-IsChanging changes own rows Undoing = ⊥
-IsChanging changes own rows (Checking check) = ⊥
+abbrev pub IsChanging : List Planned → Bool → Reply → Doing → Type 0
+IsChanging changes own reply Idle = ⊥
+IsChanging changes own reply (Changing next later o r) = (changes ≡ next ∷ reverse later.items) × (o ≡ own) × (r ≡ reply)
+IsChanging changes own reply (Ending r) = ⊥
+IsChanging changes own reply Undoing = ⊥
+IsChanging changes own reply (Checking check) = ⊥
 
 -- what a session does with these changes left: them, or the Commit of a transaction of its own, or nothing more
-abbrev pub GoesOnWith : List Planned → Bool → Option ℕ → Session → Session → Type 0
-GoesOnWith [] true rows old new = (new.doing ≡ Ending rows) × (new.replies.items ≡ old.replies.items)
-GoesOnWith [] false rows old new = (new.doing ≡ Idle) × (new.replies.items ≡ old.replies.items ++ reply_of rows ∷ [])
-GoesOnWith (c ∷ cs) own rows old new = IsChanging (c ∷ cs) own rows new.doing × (new.replies.items ≡ old.replies.items)
+abbrev pub GoesOnWith : List Planned → Bool → Reply → Session → Session → Type 0
+GoesOnWith [] true reply old new = (new.doing ≡ Ending reply) × (new.replies.items ≡ old.replies.items)
+GoesOnWith [] false reply old new = (new.doing ≡ Idle) × (new.replies.items ≡ old.replies.items ++ reply ∷ [])
+GoesOnWith (c ∷ cs) own reply old new = IsChanging (c ∷ cs) own reply new.doing × (new.replies.items ≡ old.replies.items)
 
 -- what stays of a session
 pub record Keeps (old new : Session) : Type 0 where
@@ -148,28 +143,28 @@ StepsBack (n ∷ rest) items old new pages after x =
 -- the session is in the middle of a statement that isn't a check
 abbrev pub IsUnderWay : Doing → Type 0
 IsUnderWay Idle = ⊥
-IsUnderWay (Changing next later own rows) = Unit {0}
-IsUnderWay (Ending rows) = Unit {0}
+IsUnderWay (Changing next later own reply) = Unit {0}
+IsUnderWay (Ending reply) = Unit {0}
 IsUnderWay Undoing = Unit {0}
 IsUnderWay (Checking check) = ⊥
 
 -- what the session puts next fits into the pages
 abbrev pub MayStep : Image → List Record → Session → Doing → Type 0
 MayStep pages items old Idle = Unit {0}
-MayStep pages items old (Changing next later own rows) = (page_of_cell next.cell < length pages) × FitsCell next.cell next.after
-MayStep pages items old (Ending rows) = Unit {0}
+MayStep pages items old (Changing next later own reply) = (page_of_cell next.cell < length pages) × FitsCell next.cell next.after
+MayStep pages items old (Ending reply) = Unit {0}
 MayStep pages items old Undoing = MayUndo pages items (reverse old.left.items)
 MayStep pages items old (Checking check) = Unit {0}
 
 -- the step of a session that was doing this, with item x of this number
 abbrev pub StepsBy : ℕ → List Record → Session → Session → Image → Image → Record → Doing → Type 0
 StepsBy number items old new pages after x Idle = ⊥
-StepsBy number items old new pages after x (Changing next later own rows) =
+StepsBy number items old new pages after x (Changing next later own reply) =
     (x ≡ change_item old.tran next) × (after ≡ put pages next.cell next.after) × Keeps old new × (new.left.items ≡ old.left.items ++ number ∷ [])
-    × GoesOnWith (reverse later.items) own rows old new
-StepsBy number items old new pages after x (Ending rows) =
+    × GoesOnWith (reverse later.items) own reply old new
+StepsBy number items old new pages after x (Ending reply) =
     (x ≡ Commit (record { 0 = old.tran })) × (after ≡ pages) × (new.script.items ≡ old.script.items) × (new.tran ≡ 0) × (new.doing ≡ Idle)
-    × (new.replies.items ≡ old.replies.items ++ reply_of rows ∷ []) × (new.left.items ≡ []) × (new.used ≤ MOST_CHANGES)
+    × (new.replies.items ≡ old.replies.items ++ reply ∷ []) × (new.left.items ≡ []) × (new.used ≤ MOST_CHANGES)
 StepsBy number items old new pages after x Undoing = StepsBack (reverse old.left.items) items old new pages after x
 StepsBy number items old new pages after x (Checking check) = ⊥
 

@@ -17,7 +17,7 @@ use Rattle.db_core.specs.declared.session.Session.{Session}
 use Rattle.db_core.specs.declared.state.State.{State}
 use Rattle.db_core.specs.declared.out.TurnOut.{TurnOut}
 use Rattle.db_core.specs.declared.out.TurnOut.TheVariants as out
-use Rattle.db_core.specs.Bounds.{most_turns}
+use Rattle.spec_run.specs.Bounds.{most_turns}
 use Rattle.db_core.specs.Rooms.{owed_by, HasOwnRoom, turns_left, left_of_statement}
 use Rattle.db_core.specs.States.{Db, IsState, run_of, entries_of}
 

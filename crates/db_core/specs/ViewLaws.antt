@@ -1,7 +1,7 @@
 -- The file and the sessions of a good state show a statement what its transaction sees and who holds what.
 use Rattle.std.proofs.Common.{◌≡◌, ℕ, zero, suc, ◌+◌, ◌-◌, ◌<◌, true, false, eqb, not, ◌&&◌, List, [], ◌∷◌, length, Option, Some, None, ◌⊎◌, inl, inr, refl, sym, ap, ◌∙◌, subst, arith, Contains}
 use Rattle.std.specs.Prelude.{slice_get, find, option_map}
-use Rattle.std.specs.Coded.{Coded-set, coded_ℕ, coded_bool, coded_list, coded_option, le_prop}
+use Rattle.std.specs.Coded.{Coded-set, coded_ℕ, coded_bool, coded_option}
 use Rattle.std.proofs.Math.Logic.{∥∥₁_elim}
 use Rattle.std.specs.List.{list_any}
 use Rattle.std.proofs.lemmas.Bool.{cases_Bool, eqb-true, eqb-false, not-true}
@@ -10,8 +10,7 @@ use Rattle.spec_file.specs.declared.geometry.Geometry.TheVariants.{Small}
 use Rattle.spec_log.specs.declared.item.Record.{Record}
 use Rattle.spec_log.specs.Items.{is_same}
 use Rattle.spec_log.specs.Log.{is_unfinished, has_ended, holds}
-use Rattle.spec_plan.specs.Shown.{IsShown}
-use Rattle.spec_run.specs.Begun.{Setting}
+use Rattle.spec_run.specs.Begun.{Setting, view_at}
 use Rattle.spec_run.specs.Progress.{progress_of}
 use Rattle.law_undo.specs.Laws.{IsOngoing}
 use Rattle.law_undo.proofs.Holders.{unfinished_parts}
@@ -22,14 +21,13 @@ use Rattle.law_undo.proofs.Law.{zero_open}
 use Rattle.law_run.proofs.Legal.{IsRight, legal_right, doing_opens}
 use Rattle.law_run.proofs.Ongoing.{unfinished_is_open}
 use Rattle.law_pages.specs.Laws.{ListsHolders}
-use Rattle.law_pages.proofs.Pages.{file_is_shown}
 use Rattle.law_pages.proofs.Sessions.{holder_is_session, first_is_among}
 use Rattle.spec_file.specs.Places.{HasShape}
 use Rattle.db_core.specs.declared.session.Session.{Session}
 use Rattle.db_core.specs.declared.state.State.{State}
 use Rattle.db_core.specs.States.{whole_log, IsSession}
 use Rattle.db_core.specs.Store.{run_is, log_of, IsGood}
-use Rattle.db_core.specs.Views.{tran_of_session, tran_at, sight_at, has_held, holds_beside}
+use Rattle.db_core.specs.Views.{tran_of_session, tran_at, has_held, holds_beside}
 
 -- members of a list, by their place
 pub contains_get : {A : Type 0} (xs : List A) (x : A) → Contains xs x → (k : ℕ) × (slice_get xs k ≡ Some x)
@@ -80,13 +78,6 @@ pub tran_ongoing : (st : State) (at : ℕ) → IsGood st → IsOngoing (run_is s
 tran_ongoing st at good =
     ongoing_of st (slice_get st.sessions.items at) good (λ x e. elim (tran_opens st at x good e) [ inl none ↦ inl none | inr o ↦ inr (at + 1, o) ])
 
--- the file as it stands shows what the transaction sees
-pub good_shows : (st : State) (at : ℕ) → IsGood st → IsShown (sight_at st at) st.frames
-good_shows st at good =
-    subst (IsShown (sight_at st at)) (sym good.state.pages_are)
-    (file_is_shown (run_is st) (log_of st) (tran_at st.sessions.items at) (right_of st good).sound good.state.start.whole good.state.start.shape.low
-    (tran_ongoing st at good))
-
 pub good_size : (st : State) → IsGood st → HasShape Small (length st.frames)
 good_size st good =
     let count : length st.base.value ≡ length st.frames =
@@ -135,7 +126,7 @@ lists_holders st good = record {
 
 -- the first session beside it that holds the resource tells whom the log names
 pub good_holder : (st : State) (at : ℕ) (r : Resource) → IsGood st →
-    option_map (λ (x : Session). x.tran) (find (holds_beside r (tran_at st.sessions.items at)) st.sessions.items) ≡ (sight_at st at).other r
+    option_map (λ (x : Session). x.tran) (find (holds_beside r (tran_at st.sessions.items at)) st.sessions.items) ≡ (view_at (run_is st) (log_of st) (tran_at st.sessions.items at)).other r
 good_holder st at r good =
     let run = run_is st in
     let t = tran_at st.sessions.items at in
@@ -146,32 +137,15 @@ good_holder st at r good =
     (first_is_among Session (λ x. x.tran) has_held st.sessions.items r t))
 
 -- the session itself tells what its transaction holds
-pub good_owns : (st : State) (at : ℕ) (x : Session) (r : Resource) → IsGood st → slice_get st.sessions.items at ≡ Some x → has_held x r ≡ (sight_at st at).own r
+pub good_owns : (st : State) (at : ℕ) (x : Session) (r : Resource) → IsGood st → slice_get st.sessions.items at ≡ Some x → has_held x r ≡ (view_at (run_is st) (log_of st) (tran_at st.sessions.items at)).own r
 good_owns st at x r good e =
     held_is_holds (run_is st) (log_of st) (at + 1) x r (good.state.each at x e)
     ∙ ap (λ o. holds (whole_log (run_is st) (log_of st)) (tran_of_session o) r) (sym e)
 
 -- the same, where the state is merely known to be good
-pub shown_by : (st : State) (at : ℕ) → ∥ IsGood st ∥₁ → IsShown (sight_at st at) st.frames
-shown_by st at good = record {
-  pages = ∥∥₁_elim good (Coded-set coded_ℕ _ _) (λ g. (good_shows st at g).pages);
-  whole = λ k d lt. ∥∥₁_elim good (Coded-set coded_ℕ _ _) (λ g. (good_shows st at g).whole k d lt);
-  catalog = λ free. ∥∥₁_elim good (Coded-set (coded_list coded_ℕ) _ _) (λ g. (good_shows st at g).catalog free);
-  ordinary = λ p lt is free. ∥∥₁_elim good (Coded-set (coded_list coded_ℕ) _ _) (λ g. (good_shows st at g).ordinary p lt is free);
-  byte = λ p lt free. ∥∥₁_elim good (Coded-set coded_ℕ _ _) (λ g. (good_shows st at g).byte p lt free);
-  header = λ p lt. ∥∥₁_elim good (Coded-set coded_bool _ _) (λ g. (good_shows st at g).header p lt);
-}
-
-pub size_by : (st : State) → ∥ IsGood st ∥₁ → HasShape Small (length st.frames)
-size_by st good = record {
-  low = ∥∥₁_elim good le_prop (λ g. (good_size st g).low);
-  high = ∥∥₁_elim good le_prop (λ g. (good_size st g).high);
-  whole = ∥∥₁_elim good (Coded-set coded_ℕ _ _) (λ g. (good_size st g).whole);
-}
-
 pub holder_by : (st : State) (at : ℕ) (r : Resource) → ∥ IsGood st ∥₁ →
-    option_map (λ (x : Session). x.tran) (find (holds_beside r (tran_at st.sessions.items at)) st.sessions.items) ≡ (sight_at st at).other r
+    option_map (λ (x : Session). x.tran) (find (holds_beside r (tran_at st.sessions.items at)) st.sessions.items) ≡ (view_at (run_is st) (log_of st) (tran_at st.sessions.items at)).other r
 holder_by st at r good = ∥∥₁_elim good (Coded-set (coded_option coded_ℕ) _ _) (good_holder st at r)
 
-pub owns_by : (st : State) (at : ℕ) (x : Session) (r : Resource) → ∥ IsGood st ∥₁ → slice_get st.sessions.items at ≡ Some x → has_held x r ≡ (sight_at st at).own r
+pub owns_by : (st : State) (at : ℕ) (x : Session) (r : Resource) → ∥ IsGood st ∥₁ → slice_get st.sessions.items at ≡ Some x → has_held x r ≡ (view_at (run_is st) (log_of st) (tran_at st.sessions.items at)).own r
 owns_by st at x r good e = ∥∥₁_elim good (Coded-set coded_bool _ _) (λ g. good_owns st at x r g e)

@@ -1,13 +1,9 @@
--- What a statement of a session is planned on, and which transactions are open.
+-- What the transactions of sessions hold, and which are open.
 use Rattle.std.specs.Prelude.{ℕ, ◌==◌, ◌&&◌, not, Bool, List, map, filter, slice_get, Option, Some, None}
 use Rattle.std.specs.List.{list_any}
 use Rattle.spec_file.specs.declared.data.Resource.{Resource}
 use Rattle.spec_log.specs.Items.{is_same}
-use Rattle.spec_plan.specs.Sight.{Sight}
-use Rattle.spec_run.specs.Sights.{sight_of}
 use Rattle.db_core.specs.declared.session.Session.{Session}
-use Rattle.db_core.specs.declared.state.State.{State}
-use Rattle.db_core.specs.Store.{run_is, log_of}
 
 abbrev pub tran_of_session : Option Session → ℕ
 tran_of_session None = 0
@@ -16,10 +12,6 @@ tran_of_session (Some x) = x.tran
 -- the open transaction of session `at`, counted from 0; 0 stands for none
 abbrev pub tran_at : List Session → ℕ → ℕ
 tran_at sessions at = tran_of_session (slice_get sessions at)
-
--- what its transaction sees, and who holds what
-abbrev pub sight_at : State → ℕ → Sight
-sight_at st at = sight_of (run_is st) (log_of st) (tran_at st.sessions.items at)
 
 -- the session's transaction holds the resource; a session with none holds nothing
 abbrev pub has_held : Session → Resource → Bool

@@ -1,5 +1,5 @@
 -- The records of statements that need no plan.
-use Rattle.std.specs.Prelude.{◌≡◌, ◌≢◌, ℕ, ◌+◌, [], ◌∷◌, ◌++◌, length, slice_get, None, Some, ◌⊎◌}
+use Rattle.std.specs.Prelude.{◌≡◌, ◌≢◌, ℕ, ◌+◌, [], ◌∷◌, ◌++◌, length, slice_get, Some, ◌⊎◌}
 use Rattle.spec_script.specs.declared.limits.TheConstants.{IS_OPEN, NOTHING_TO_COMMIT, NOTHING_TO_UNDO}
 use Rattle.spec_log.specs.declared.item.Record.{Record}
 use Rattle.spec_script.specs.declared.reply.Reply.{Reply}
@@ -57,7 +57,7 @@ pub record IsGoing (place : StatementNo) (doing_next : Doing) (old new : Session
 abbrev pub StartsBy : Word → ℕ → StatementNo → Session → Session → Record → Type 0
 StartsBy Begin last place old new x =
     ((old.tran ≡ 0) × IsOpening place (last + 1) old new x) ⊎ ((old.tran ≢ 0) × IsRefusal place IS_OPEN old new x)
-StartsBy Commit last place old new x = ((old.tran ≡ 0) × IsRefusal place NOTHING_TO_COMMIT old new x) ⊎ ((old.tran ≢ 0) × IsGoing place (Ending None) old new x)
+StartsBy Commit last place old new x = ((old.tran ≡ 0) × IsRefusal place NOTHING_TO_COMMIT old new x) ⊎ ((old.tran ≢ 0) × IsGoing place (Ending Done) old new x)
 StartsBy Rollback last place old new x = ((old.tran ≡ 0) × IsRefusal place NOTHING_TO_UNDO old new x) ⊎ ((old.tran ≢ 0) × IsGoing place Undoing old new x)
 
 -- an idle session's next statement

@@ -1,6 +1,7 @@
 //! One turn of a session.
 ghost use Rattle.std.specs.Prelude.{◌≡◌, ◌<◌, length, slice_get, Some};
-ghost use Rattle.db_core.specs.Plans.{IsPlanned};
+ghost use Rattle.spec_file.specs.declared.geometry.Geometry.TheVariants.{Small};
+ghost use Rattle.db_core.specs.Plans.{HasSums, IsPlanned};
 ghost use Rattle.db_core.specs.Rooms.{HasOwnRoom};
 ghost use Rattle.db_core.specs.Stages.{IsStage};
 ghost use Rattle.db_core.specs.Store.{Advanced, Answers, GoesNearer, IsGood};
@@ -8,34 +9,49 @@ ghost use Rattle.db_core.specs.declared.stage.Stage.TheVariants as stages;
 
 use crate::TurnOut;
 use crate::checks::{begin_check, go_on_check};
-use crate::plans::begin_planned;
+use crate::plans::{begin_planned, used_now};
 use crate::session::Session;
 use crate::stage::{Stage, stage_of};
 use crate::state::State;
+use crate::statement_view::StatementView;
 use crate::turns::{begin_word, go_on};
-use crate::view::TranView;
-use db_heap::{Plan, plan_count, plan_insert};
+use db_plan::{Plan, PlanAt, plan};
+use pg_base::Geometry;
 use spec_file::NoMemory;
-use spec_script::Statement;
+use spec_script::Refusal;
 
-/// The plan of the INSERT or COUNT that comes next.
-fn plan_next(state: &State, at: usize) -> Result<Plan, NoMemory>
+/// The sums by which the next statement of session `at` is planned.
+fn sums_of(state: &State, at: usize) -> PlanAt
     requires at { at < length state.now.sessions.items }
     requires good { IsGood state.now }
-    requires next { (x : Session) → slice_get state.now.sessions.items at ≡ Some x → IsStage x stages.Table }
+    ensures sums { (x : Session) → slice_get state.now.sessions.items at ≡ Some x → HasSums state.now x result }
+    ensures geometry { result.geometry ≡ Small }
+    ensures pages { result.pages ≡ length state.now.frames }
+{
+    PlanAt {
+        geometry: Geometry::Small,
+        pages: state.frames.count() as u32,
+        used_changes: used_now(&state.sessions[at]),
+        announced_changes: state.all,
+        announced_bytes: state.size,
+    }
+}
+
+/// The plan of the statement that comes next.
+fn plan_next(state: &State, at: usize) -> Result<Plan, Refusal>
+    requires at { at < length state.now.sessions.items }
+    requires good { IsGood state.now }
+    requires next { (x : Session) → slice_get state.now.sessions.items at ≡ Some x → IsStage x stages.Planned }
     ensures { (x : Session) → slice_get state.now.sessions.items at ≡ Some x → IsPlanned state.now at x result }
 {
-    let view = TranView::of(state, at);
     let session = &state.sessions[at];
-    match &session.script[session.replies.len()] {
-        Statement::Insert {
-            table,
-            key,
-            payload,
-        } => plan_insert(state.alloc, &view, table, *key, payload.as_slice()),
-        Statement::Count(table) => plan_count(state.alloc, &view, table),
-        _ => unreachable!(),
-    }
+    let mut view = StatementView::of(state.alloc, state, at);
+    plan(
+        state.alloc,
+        &session.script[session.replies.len()],
+        &mut view,
+        &sums_of(state, at),
+    )
 }
 
 /// What a turn did that left a session so, which had so many replies before it.
@@ -81,7 +97,7 @@ pub fn advance(state: &mut State, at: usize) -> TurnOut
             begin_word(state, at, word);
             told(state, at, before)
         }
-        Stage::Table => {
+        Stage::Planned => {
             let plan = plan_next(state, at);
             begin_planned(state, at, plan);
             told(state, at, before)

@@ -9,13 +9,13 @@ ghost use Rattle.db_core.specs.declared.session.Doing.TheVariants.{Checking};
 ghost use Rattle.db_core.specs.declared.stage.Stage.TheVariants as stage;
 
 use crate::back::go_back;
+use crate::holders::ongoing;
 use crate::reading::{is_back, is_read, read_on, report_of};
 use crate::session::{Check, Doing, Phase, Session};
 use crate::starts::StatementNo;
 use crate::state::{State, owed_by, settle};
 use crate::steps::end;
 use crate::turns::place_of;
-use crate::view::ongoing;
 use spec_file::{Lsn, NoMemory};
 use spec_log::{REPORTED, Record, SHORT};
 use spec_script::{NO_MEMORY, Refusal, Reply};

@@ -9,11 +9,11 @@ ghost use Rattle.spec_log.specs.Items.{has_form};
 ghost use Rattle.spec_script.specs.Lines.{is_statement};
 ghost use Rattle.spec_script.specs.declared.statement.Statement.{Statement as AnyStatement};
 ghost use Rattle.spec_run.specs.Entries.{items_of};
-ghost use Rattle.spec_run.specs.Turns.{AreTold, told_to, IsLegal, IsWhole, Run};
+ghost use Rattle.spec_run.specs.Turns.{AreTold, told_to, IsLegal, IsWhole};
 ghost use Rattle.spec_file.specs.Places.{HasShape};
-ghost use Rattle.db_core.specs.Bounds.{HasBound};
-ghost use Rattle.db_core.specs.Reports.{is_terminated};
-ghost use Rattle.db_core.specs.Runs.{rest_from, setting_of, turns_of};
+ghost use Rattle.spec_run.specs.Bounds.{TakesTurn, RunWithin};
+ghost use Rattle.spec_run.specs.Answers.{is_terminated};
+ghost use Rattle.spec_run.specs.Schedules.{rest_from, setting_of, turns_of};
 ghost use Rattle.db_core.specs.States.{TurnIn, left_in};
 ghost use Rattle.db_core.specs.Store.{SaysOut};
 ghost use Rattle.spec_log.specs.declared.item.Record.{Record as AnyRecord};
@@ -90,7 +90,7 @@ impl Core {
         requires within { session ≤ length self.old.run.scripts }
         ensures turn { TurnIn session self.old self.new }
         ensures says { SaysOut self.old.run session (items_of self.old.entries) (items_of self.new.entries) result }
-        ensures bound { HasBound session self.old self.new }
+        ensures bound { TakesTurn self.old.run session self.old.entries self.new.entries (left_in self.old) (left_in self.new) }
     {
         advance(&mut self.state, session as usize - 1)
     }
@@ -99,7 +99,7 @@ impl Core {
     pub fn replay(&mut self, schedule: &[(u32, u32)])
         requires { (k : ℕ) (p : ℕ × ℕ) → slice_get schedule.now k ≡ Some p → (0 < p.0) × (p.0 ≤ length self.old.run.scripts) }
         ensures same { self.new.run ≡ self.old.run }
-        ensures run { (counts : List ℕ) × (length counts ≡ length self.old.run.scripts) × Run self.old.run self.old.entries (turns_of schedule.now ++ rest_from 1 counts) self.new.entries }
+        ensures run { (counts : List ℕ) × (length counts ≡ length self.old.run.scripts) × RunWithin self.old.run (left_in self.old) self.old.entries (turns_of schedule.now ++ rest_from 1 counts) (left_in self.new) self.new.entries }
         ensures whole { IsWhole self.new.run self.new.entries }
     {
         run_schedule(&mut self.state, schedule);

@@ -8,6 +8,7 @@ mod begin;
 mod bytes;
 mod checks;
 mod db;
+mod holders;
 mod out;
 mod plans;
 mod reading;
@@ -19,7 +20,6 @@ mod state;
 mod statement_view;
 mod steps;
 mod turns;
-mod view;
 
 pub use db::Core;
 pub use out::TurnOut;

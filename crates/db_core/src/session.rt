@@ -44,12 +44,12 @@ pub enum Doing {
         /// Those behind it, the last first.
         later: Vec<Planned>,
         own: bool,
-        /// How many rows the statement writes, where it is one that writes rows.
-        rows: Option<u64>,
+        /// What the statement answers behind them.
+        reply: Reply,
     },
     /// Of the Commit of its transaction.
     Ending {
-        rows: Option<u64>,
+        reply: Reply,
     },
     /// Of undoing the changes of its transaction.
     Undoing,

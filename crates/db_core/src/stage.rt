@@ -20,8 +20,8 @@ pub enum Stage {
     Word(Word),
     /// It begins a check.
     Check,
-    /// It begins INSERT or COUNT.
-    Table,
+    /// It begins a statement that is planned.
+    Planned,
 }
 
 /// What the next turn of a session does.
@@ -56,7 +56,7 @@ fn stage_by(statement: &Statement) -> Stage
         Statement::Commit => Stage::Word(Word::Commit),
         Statement::Rollback => Stage::Word(Word::Rollback),
         Statement::Check { .. } => Stage::Check,
-        Statement::Insert { .. } => Stage::Table,
-        Statement::Count(_) => Stage::Table,
+        Statement::Insert { .. } => Stage::Planned,
+        Statement::Count(_) => Stage::Planned,
     }
 }

@@ -97,9 +97,9 @@ pub fn start_commit(alloc: Global, session: &mut Session, place: StatementNo) ->
     ensures kept_room { KeepsRoom session.old session.new }
     ensures left { session.new.left.items ≡ session.old.left.items }
     ensures replies { session.new.replies.items ≡ session.old.replies.items }
-    ensures doing { session.new.doing ≡ Ending None }
+    ensures doing { session.new.doing ≡ Ending Done }
 {
-    session.doing = Doing::Ending { rows: None };
+    session.doing = Doing::Ending { reply: Reply::Done };
     plain_start(alloc, place, session.tran, 0)
 }
 

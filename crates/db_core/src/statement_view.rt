@@ -10,9 +10,9 @@ ghost use Rattle.db_core.specs.Store.{IsGood, run_is, log_of};
 ghost use Rattle.db_core.specs.Views.{tran_at};
 ghost use Rattle.db_core.specs.SeenPages.{began_at, with_pages, not_held, AreFree, ArePut, IsWholePage, StandsAt, FitsAt};
 
+use crate::holders::{contains, holder_among, holds, is_same};
 use crate::session::Session;
 use crate::state::State;
-use crate::view::{contains, holder_among, holds, is_same};
 use db_locks::{PageStop, PlanPages};
 use pg_base::{Page, PageNo, is_whole};
 use spec_file::{Resource, Tran};

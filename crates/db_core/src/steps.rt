@@ -9,30 +9,16 @@ ghost use Rattle.spec_log.specs.declared.item.Record.{Record};
 ghost use Rattle.spec_run.specs.Shapes.{change_item};
 ghost use Rattle.vol_pool.specs.Cells.{FitsCell, MayPutBack, MayUndo};
 ghost use Rattle.db_core.specs.Rooms.{pending_of};
-ghost use Rattle.db_core.specs.States.{reply_of, GoesOnWith, Keeps, StepsBack, IsUnderWay, KeepsRoom, MayStep, StepsBy};
+ghost use Rattle.db_core.specs.States.{GoesOnWith, Keeps, StepsBack, IsUnderWay, KeepsRoom, MayStep, StepsBy};
 ghost use Rattle.db_core.specs.declared.session.Doing.TheVariants.{Idle};
 
 use crate::session::{Doing, Session};
 use spec_file::{Lsn, Tran};
-use spec_log::{Record, Values};
+use spec_log::Record;
 use spec_plan::Planned;
 use spec_script::Reply;
-use std::alloc::Global;
 use std::mem::replace;
 use vol_pool::Frames;
-
-/// The reply to a statement that changes the file, with the rows that it writes, and to COMMIT.
-pub fn written(alloc: Global, rows: Option<u64>) -> Reply
-    ensures { result ≡ reply_of rows }
-{
-    match rows {
-        None => Reply::Done,
-        Some(count) => Reply::Rows {
-            count,
-            payloads: Values::new(alloc),
-        },
-    }
-}
 
 /// The statement ends with this reply.
 pub fn end(session: &mut Session, reply: Reply)
@@ -51,18 +37,12 @@ pub fn end(session: &mut Session, reply: Reply)
 }
 
 /// What a session does behind a change: the rest of them, or the Commit, or nothing more.
-pub fn go_on(
-    alloc: Global,
-    session: &mut Session,
-    mut later: Vec<Planned>,
-    own: bool,
-    rows: Option<u64>,
-)
+pub fn go_on(session: &mut Session, mut later: Vec<Planned>, own: bool, reply: Reply)
     requires { vec_len session.old.replies < vec_capacity session.old.replies }
     ensures kept { Keeps session.old session.new }
     ensures kept_room { KeepsRoom session.old session.new }
     ensures left { session.new.left.items ≡ session.old.left.items }
-    ensures goes { GoesOnWith (reverse later.items) own rows session.old session.new }
+    ensures goes { GoesOnWith (reverse later.items) own reply session.old session.new }
 {
     match later.pop() {
         Some(next) => {
@@ -70,14 +50,14 @@ pub fn go_on(
                 next,
                 later,
                 own,
-                rows,
+                reply,
             };
         }
         None => {
             if own {
-                session.doing = Doing::Ending { rows };
+                session.doing = Doing::Ending { reply };
             } else {
-                end(session, written(alloc, rows));
+                end(session, reply);
             }
         }
     }
@@ -148,7 +128,7 @@ fn close(session: &mut Session)
 }
 
 /// Commits the session's transaction, and ends the statement.
-pub fn commit(alloc: Global, session: &mut Session, rows: Option<u64>) -> Record
+pub fn commit(session: &mut Session, reply: Reply) -> Record
     requires { vec_len session.old.replies < vec_capacity session.old.replies }
     ensures item { result ≡ Commit (record { 0 = session.old.tran }) }
     ensures script { session.new.script.items ≡ session.old.script.items }
@@ -156,12 +136,12 @@ pub fn commit(alloc: Global, session: &mut Session, rows: Option<u64>) -> Record
     ensures tran { session.new.tran ≡ 0 }
     ensures kept_room { KeepsRoom session.old session.new }
     ensures left { session.new.left.items ≡ [] }
-    ensures replies { session.new.replies.items ≡ session.old.replies.items ++ reply_of rows ∷ [] }
+    ensures replies { session.new.replies.items ≡ session.old.replies.items ++ reply ∷ [] }
     ensures doing { session.new.doing ≡ Idle }
 {
     let tran = Tran(session.tran);
     close(session);
-    end(session, written(alloc, rows));
+    end(session, reply);
     Record::Commit { tran }
 }
 
@@ -213,13 +193,7 @@ pub fn step_back(session: &mut Session, frames: &mut Frames, items: &[Record]) -
 }
 
 /// The next step of a statement that is under way, whose item has this number.
-pub fn step(
-    alloc: Global,
-    session: &mut Session,
-    frames: &mut Frames,
-    items: &[Record],
-    number: u64,
-) -> Record
+pub fn step(session: &mut Session, frames: &mut Frames, items: &[Record], number: u64) -> Record
     requires under_way { IsUnderWay session.old.doing }
     requires replies { vec_len session.old.replies < vec_capacity session.old.replies }
     requires left { length session.old.left.items + pending_of session.old.doing ≤ vec_capacity session.old.left }
@@ -232,13 +206,13 @@ pub fn step(
             next,
             later,
             own,
-            rows,
+            reply,
         } => {
             let item = make_change(session, frames, number, next);
-            go_on(alloc, session, later, own, rows);
+            go_on(session, later, own, reply);
             item
         }
-        Doing::Ending { rows } => commit(alloc, session, rows),
+        Doing::Ending { reply } => commit(session, reply),
         Doing::Undoing => step_back(session, frames, items),
         Doing::Idle => unreachable!(),
         Doing::Checking { .. } => unreachable!(),

@@ -21,7 +21,6 @@ pub fn go_on(state: &mut State, at: usize)
     let before = owed_by(&state.sessions[at]);
     let number = state.items.len() as u64 + 1;
     let item = step(
-        state.alloc,
         &mut state.sessions[at],
         &mut state.frames,
         &state.items,

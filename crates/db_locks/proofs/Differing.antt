@@ -1,5 +1,5 @@
 -- Images that differ only under what was taken still do, once more is taken, or a page is put that differs only there.
-use Rattle.std.proofs.Common.{◌≡◌, ℕ, ◌<◌, Bool, true, List, [], ◌∷◌, length, refl, sym, ap, ◌∙◌, subst, get_or-set_same, get_or-set_other, inl, inr}
+use Rattle.std.proofs.Common.{◌≡◌, ℕ, ◌<◌, true, List, [], ◌∷◌, length, refl, sym, ap, ◌∙◌, subst, get_or-set_same, get_or-set_other, inl, inr}
 use Rattle.std.specs.Prelude.{slice_set, slice_index, Result, Ok, Err, OnOk, OnErr}
 use Rattle.std.specs.Int.{bit_at}
 use Rattle.std.specs.List.{list_any}

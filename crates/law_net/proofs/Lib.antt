@@ -28,3 +28,4 @@ pub mod AgreeWords
 pub mod AgreeReading
 pub mod AgreePlans
 pub mod Computed
+pub mod InsertTakes

@@ -8,7 +8,7 @@ use Rattle.spec_log.specs.declared.item.Record.{Record}
 use Rattle.spec_log.specs.Bytes.{log_bytes}
 use Rattle.spec_log.specs.Images.{final_image}
 use Rattle.vol_dev.specs.Devices.{WroteFront}
-use Rattle.vol_pool.specs.Changed.{changes_page}
+use Rattle.spec_run.specs.ChangedPages.{changes_page}
 use Rattle.vol_pool.specs.Writing.{Leaves, SameUnmarked, StopsWriting, is_marked}
 use Rattle.run_close.specs.declared.close.Close.{Close}
 use Rattle.run_close.specs.declared.close.CloseStop.{CloseStop}

@@ -49,3 +49,8 @@ pub data Allows (run : Setting) (log : List Record) (t : ℕ) (statement : State
       → Allows run log t statement failed reply
   -- 701
   Short : IsTrue (takes_memory (kind_of (shape_of run) statement)) → reply ≡ Refused out_of_memory → Allows run log t statement failed reply
+
+-- a check ended without its report
+abbrev pub is_terminated : Reply → Bool
+is_terminated (Terminated cause) = true
+is_terminated other = false

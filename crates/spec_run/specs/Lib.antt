@@ -7,3 +7,6 @@ pub mod Sights
 pub mod Answers
 pub mod Progress
 pub mod Turns
+pub mod Bounds
+pub mod Schedules
+pub mod ChangedPages

@@ -12,17 +12,7 @@ use Rattle.spec_log.specs.declared.item.Record.TheVariants.{Start, Change, Undo,
 use Rattle.spec_log.specs.Cells.{put}
 use Rattle.spec_log.specs.Images.{page_of_cell, put_before, apply, final_image}
 use Rattle.spec_log.specs.Log.{item_at}
-
--- the item is a Change of page p
-abbrev pub changes_page : ℕ → Record → Bool
-changes_page p (Change tran cell before after) = page_of_cell cell == p
-changes_page p (Start session index tran number changes size takes) = false
-changes_page p (Undo tran change) = false
-changes_page p (Commit tran) = false
-changes_page p (Abort tran) = false
-changes_page p (Snap session index) = false
-changes_page p (Failed session index page) = false
-changes_page p (CheckEnd session index outcome) = false
+use Rattle.spec_run.specs.ChangedPages.{changes_page}
 
 -- the page that is named is p
 abbrev pub names : ℕ → Option ℕ → Bool

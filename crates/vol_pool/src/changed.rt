@@ -4,7 +4,8 @@ ghost use Rattle.std.specs.List.{list_any};
 ghost use Rattle.spec_file.specs.Image.{Image};
 ghost use Rattle.spec_log.specs.declared.item.Record.{Record};
 ghost use Rattle.spec_log.specs.Images.{final_image, page_of_cell};
-ghost use Rattle.vol_pool.specs.Changed.{changes_page, names};
+ghost use Rattle.spec_run.specs.ChangedPages.{changes_page};
+ghost use Rattle.vol_pool.specs.Changed.{names};
 ghost use Rattle.vol_pool.specs.Writing.{is_marked, SameUnmarked};
 
 use pg_base::NoMemory;

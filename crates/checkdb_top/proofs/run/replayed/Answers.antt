@@ -4,6 +4,7 @@ use Rattle.std.proofs.lemmas.List.{length-map}
 use Rattle.spec_script.specs.Lines.{is_statement}
 use Rattle.spec_run.specs.Begun.{Setting}
 use Rattle.run_file.specs.Sources.{IsTurnOf}
+use Rattle.db_core.specs.States.{left_in}
 use Rattle.checkdb_top.proofs.Running.{at_place, passes_at}
 use Rattle.checkdb_top.proofs.run.replayed.Goals as goal
 
@@ -28,6 +29,8 @@ returns c =
       run = same ∙ begun.0;
       counts = made.0;
       rest = size;
+      left = left_in c.in_ok-core.core;
+      after = left_in c.replay.new.core;
       taken = rw same (rw (begun.1, c.deref.ensures.value) at made.2);
       whole = c.replay.ensures.whole;
     }

@@ -1,6 +1,7 @@
-use Rattle.std.proofs.Common.{length, map}
+use Rattle.std.proofs.Common.{[], length, map}
 use Rattle.checkdb_top.specs.Runs.{Runs}
 use Rattle.pg_base.proofs.FaultLaws.{counts_then}
+use Rattle.db_core.proofs.TurnsLeft.{within_run}
 use Rattle.checkdb_top.proofs.Begun.{may_begin, starts, is_run}
 use Rattle.checkdb_top.proofs.run.run.Goals as goal
 
@@ -27,7 +28,9 @@ close_run-requires-clause-start g c =
     starts c.in-Ok.start c.in-Ok-replayed.core c.in-Ok-replayed.ensures c.in-Ok.ensures.begins.form c.in-Ok.ensures.begins.shape
 
 pub close_run-requires-clause-made : goal.close_run-requires-clause-made
-close_run-requires-clause-made g c = (_, c.in-Ok-replayed.ensures.taken)
+close_run-requires-clause-made g c =
+    let over = c.in-Ok-replayed.ensures in
+    (_, within_run _ over.left [] _ over.after _ over.taken)
 
 pub close_run-requires-clause-whole : goal.close_run-requires-clause-whole
 close_run-requires-clause-whole g c = c.in-Ok-replayed.ensures.whole

@@ -25,7 +25,7 @@ pub plan_next-plan-requires-clause-next : goal.plan_next-plan-requires-clause-ne
 plan_next-plan-requires-clause-next c z here =
     let st = c.args.state.now in
     let x = c.index-2.result.now in
-    subst (λ y. IsStage y stages.Table) (get_same st.sessions.items c.args.at x z (get_at st.sessions.items c.args.at x c.requires.at c.index-2.ensures) here) c.in-Table.ensures
+    subst (λ y. IsStage y stages.Planned) (get_same st.sessions.items c.args.at x z (get_at st.sessions.items c.args.at x c.requires.at c.index-2.ensures) here) c.in-Planned.ensures
 
 pub begin_check-requires-clause-next : goal.begin_check-requires-clause-next
 begin_check-requires-clause-next c z here =
@@ -83,22 +83,22 @@ returns-in-Word-clause-nearer c p q ep eq busy =
     let same = get_same st.sessions.items c.args.at x p (get_at st.sessions.items c.args.at x c.requires.at c.index-2.ensures) ep in
     absurd (busy (subst (λ z. z.doing ≡ Idle) same c.in-Word.ensures.0))
 
-pub returns-in-Table-clause-advanced : goal.returns-in-Table-clause-advanced
-returns-in-Table-clause-advanced c =
+pub returns-in-Planned-clause-advanced : goal.returns-in-Planned-clause-advanced
+returns-in-Planned-clause-advanced c =
     let st = c.args.state.now in
     let x = c.index.result.now in
     let here = get_at st.sessions.items c.args.at x c.requires.at c.index.ensures in
     let checked = went_checked c.args.at st c.begin_planned.new.state c.requires.good c.begin_planned.ensures.went in
     let found = get_within c.begin_planned.new.state.sessions.items c.args.at (same_many st c.begin_planned.new.state c.args.at c.requires.good checked.good checked.turn.0 c.requires.at) in
-    let more = statement_left st c.args.at x c.index-2.result.now stages.Table c.requires.good here (get_at st.sessions.items c.args.at c.index-2.result.now c.requires.at c.index-2.ensures) c.in-Table.ensures (λ e. cc) in
-    checked_advanced st c.begin_planned.new.state c.args.at c.len-before.result x found.0 c.told-in-Table.result c.requires.good here more checked (c.len-before.ensures ∙ x.replies.ok.0) found.1 (c.told-in-Table.ensures found.0 found.1)
+    let more = statement_left st c.args.at x c.index-2.result.now stages.Planned c.requires.good here (get_at st.sessions.items c.args.at c.index-2.result.now c.requires.at c.index-2.ensures) c.in-Planned.ensures (λ e. cc) in
+    checked_advanced st c.begin_planned.new.state c.args.at c.len-before.result x found.0 c.told-in-Planned.result c.requires.good here more checked (c.len-before.ensures ∙ x.replies.ok.0) found.1 (c.told-in-Planned.ensures found.0 found.1)
 
-pub returns-in-Table-clause-nearer : goal.returns-in-Table-clause-nearer
-returns-in-Table-clause-nearer c p q ep eq busy =
+pub returns-in-Planned-clause-nearer : goal.returns-in-Planned-clause-nearer
+returns-in-Planned-clause-nearer c p q ep eq busy =
     let st = c.args.state.now in
     let x = c.index-2.result.now in
     let same = get_same st.sessions.items c.args.at x p (get_at st.sessions.items c.args.at x c.requires.at c.index-2.ensures) ep in
-    absurd (busy (subst (λ z. z.doing ≡ Idle) same c.in-Table.ensures.0))
+    absurd (busy (subst (λ z. z.doing ≡ Idle) same c.in-Planned.ensures.0))
 
 pub returns-in-Ok-clause-advanced : goal.returns-in-Ok-clause-advanced
 returns-in-Ok-clause-advanced c = snapped_advanced c.args.state.now c.begin_check.new.state c.args.at c.in-Ok.ensures

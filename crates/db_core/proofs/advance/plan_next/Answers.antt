@@ -1,53 +1,56 @@
-use Rattle.std.proofs.Common.{◌≡◌, ◌≤◌, length, true, Some, refl, sym, ap, ◌∙◌, subst}
-use Rattle.std.specs.Prelude.{IfOk}
-use Rattle.spec_script.specs.declared.statement.Statement.{Statement}
-use Rattle.spec_script.specs.declared.statement.Statement.TheVariants as statement
-use Rattle.spec_plan.specs.Statements.{count_outcome, insert_outcome}
-use Rattle.db_heap.specs.Plans.{outcome_of}
-use Rattle.db_core.specs.Stages.{is_table}
-use Rattle.db_core.specs.Views.{sight_at}
+use Rattle.std.proofs.Common.{◌≡◌, length, sym, ap, ◌∙◌, subst, arith}
+use Rattle.spec_words.specs.NetChanges.{FileShape}
+use Rattle.spec_words.specs.Statements.{Plans, kind_of}
+use Rattle.spec_words.specs.Views.{View}
+use Rattle.spec_run.specs.Begun.{shape_of, view_at}
+use Rattle.law_undo.proofs.Shapes.{final_shape}
+use Rattle.db_core.specs.declared.session.Session.{Session}
+use Rattle.db_core.specs.Store.{run_is, log_of}
 use Rattle.db_core.specs.Plans.{IsPlanned}
+use Rattle.db_core.specs.StatementViews.{state_of}
+use Rattle.db_core.specs.Views.{tran_of_session}
 use Rattle.db_core.proofs.Good.{get_at, get_same}
-use Rattle.db_core.proofs.Advances.{next_is, table_insert, table_count, short_payload}
+use Rattle.db_core.proofs.Advances.{next_is, proper_next}
+use Rattle.db_core.proofs.Planned.{planned_words, planned}
 use Rattle.db_core.proofs.advance.plan_next.Goals as goal
 
-pub plan_insert-requires : goal.plan_insert-requires
-plan_insert-requires c =
+pub plan-requires-clause-pages : goal.plan-requires-clause-pages
+plan-requires-clause-pages c =
+    let st = c.args.state.now in
+    let good = c.requires.good in
+    c.sums_of.ensures.pages ∙ ap length good.state.pages_are ∙ (final_shape (run_is st).opened (log_of st) (run_is st).image).pages
+    ∙ sym (ap (λ (v : View). v.shape.pages) c.of-view.ensures.begins)
+
+pub plan-requires-clause-proper : goal.plan-requires-clause-proper
+plan-requires-clause-proper c =
     let st = c.args.state.now in
     let x = c.index-session.result.now in
     let here = get_at st.sessions.items c.args.at x c.requires.at c.index-session.ensures in
-    let next = (next_is c.index-session.result.now c.len.result c.index.result.now (c.requires.next c.index-session.result.now (get_at c.args.state.now.sessions.items c.args.at c.index-session.result.now c.requires.at c.index-session.ensures)) c.len.ensures c.index.ensures).0 ∙ ap Some c.in-Insert.is in
-    subst (λ p. length p ≤ 1013) (sym c.as_slice.ensures) (short_payload st c.args.at x c.in-Insert.table c.in-Insert.key c.in-Insert.payload c.requires.good here next)
+    proper_next st c.args.at x c.index.result.now c.requires.good here (next_is x c.len.result c.index.result.now (c.requires.next x here) c.len.ensures c.index.ensures).0
 
-pub unreachable-requires : goal.unreachable-requires
-unreachable-requires c = by_statement c.index.result.now refl (next_is c.index-session.result.now c.len.result c.index.result.now (c.requires.next c.index-session.result.now (get_at c.args.state.now.sessions.items c.args.at c.index-session.result.now c.requires.at c.index-session.ensures)) c.len.ensures c.index.ensures).1
-  where
-    by_statement : (s : Statement) → c.index.result.now ≡ s → is_table s ≡ true → ⊥
-    by_statement (statement.Insert table key payload) is e = c.in_default.not-Insert table key payload is
-    by_statement (statement.Count table) is e = c.in_default.not-Count table is
-    by_statement other is e = cc
+pub plan-requires-clause-planned : goal.plan-requires-clause-planned
+plan-requires-clause-planned c =
+    let x = c.index-session.result.now in
+    let here = get_at c.args.state.now.sessions.items c.args.at x c.requires.at c.index-session.ensures in
+    (next_is x c.len.result c.index.result.now (c.requires.next x here) c.len.ensures c.index.ensures).1
 
-pub returns-in-Insert : goal.returns-in-Insert
-returns-in-Insert c x here =
+pub returns : goal.returns
+returns c x here =
     let st = c.args.state.now in
-    let x0 = c.index-session.result.now in
-    let first = get_at st.sessions.items c.args.at x0 c.requires.at c.index-session.ensures in
-    let idle = (c.requires.next x0 first).0 in
-    let next = (next_is c.index-session.result.now c.len.result c.index.result.now (c.requires.next c.index-session.result.now (get_at c.args.state.now.sessions.items c.args.at c.index-session.result.now c.requires.at c.index-session.ensures)) c.len.ensures c.index.ensures).0 ∙ ap Some c.in-Insert.is in
-    subst (λ z. IsPlanned st c.args.at z c.plan_insert.result) (get_same st.sessions.items c.args.at x0 x first here)
-    (table_insert st c.args.at x0 c.in-Insert.table c.in-Insert.key c.in-Insert.payload c.requires.good first idle next c.plan_insert.result
-    (subst (λ s. IfOk c.plan_insert.result (λ p. outcome_of p ≡ insert_outcome (sight_at s c.args.at) c.in-Insert.table c.in-Insert.key c.in-Insert.payload)) c.of-view.ensures.state
-    (subst (λ k. IfOk c.plan_insert.result (λ p. outcome_of p ≡ insert_outcome (sight_at c.of-view.result.state.now k) c.in-Insert.table c.in-Insert.key c.in-Insert.payload)) c.of-view.ensures.at
-    (subst (λ b. IfOk c.plan_insert.result (λ p. outcome_of p ≡ insert_outcome (sight_at c.of-view.result.state.now c.of-view.result.at) c.in-Insert.table c.in-Insert.key b)) c.as_slice.ensures c.plan_insert.ensures))))
-
-pub returns-in-Count : goal.returns-in-Count
-returns-in-Count c x here =
-    let st = c.args.state.now in
-    let x0 = c.index-session.result.now in
-    let first = get_at st.sessions.items c.args.at x0 c.requires.at c.index-session.ensures in
-    let idle = (c.requires.next x0 first).0 in
-    let next = (next_is c.index-session.result.now c.len.result c.index.result.now (c.requires.next c.index-session.result.now (get_at c.args.state.now.sessions.items c.args.at c.index-session.result.now c.requires.at c.index-session.ensures)) c.len.ensures c.index.ensures).0 ∙ ap Some c.in-Count.is in
-    subst (λ z. IsPlanned st c.args.at z c.plan_count.result) (get_same st.sessions.items c.args.at x0 x first here)
-    (table_count st c.args.at x0 c.in-Count.table c.requires.good first idle next c.plan_count.result
-    (subst (λ s. IfOk c.plan_count.result (λ p. outcome_of p ≡ count_outcome (sight_at s c.args.at) c.in-Count.table)) c.of-view.ensures.state
-    (subst (λ k. IfOk c.plan_count.result (λ p. outcome_of p ≡ count_outcome (sight_at c.of-view.result.state.now k) c.in-Count.table)) c.of-view.ensures.at c.plan_count.ensures)))
+    let k = c.args.at in
+    let run = run_is st in
+    let first = c.index-session.result.now in
+    let first_here = get_at st.sessions.items k first c.requires.at c.index-session.ensures in
+    let stage = c.requires.next first first_here in
+    let s = c.index.result.now in
+    let next = next_is first c.len.result s stage c.len.ensures c.index.ensures in
+    let w = planned_words (shape_of run) s next.1 in
+    let old = state_of c.of-view.result in
+    let new = state_of c.plan.new.v in
+    let begins = c.of-view.ensures.begins in
+    let same = get_same st.sessions.items k first x first_here here in
+    let view = begins ∙ ap (λ o. view_at run (log_of st) (tran_of_session o)) first_here in
+    let is = c.plan.ensures w.words (subst (λ (f : FileShape). kind_of f s ≡ Plans w.words) (sym (ap (λ (v : View). v.shape) begins)) w.kind) in
+    subst (λ (z : Session). IsPlanned st k z c.plan.result) same
+    (planned st k first s w.words c.sums_of.result old new c.plan.result c.requires.good first_here stage.0 next.0 w.kind w.numbered (c.sums_of.ensures.sums first first_here) view c.of-view.ensures.told
+    (λ rose. omega (arith, rose)) is)

@@ -1,7 +1,8 @@
 use Rattle.db_core.specs.ViewLaws.{get_within}
 use Rattle.db_core.proofs.Good.{get_at}
 use Rattle.db_core.proofs.Advances.{same_many}
-use Rattle.db_core.proofs.Replays.{first_goes, next_goes, less_left, statement_ends}
+use Rattle.db_core.proofs.TurnsLeft.{less_left}
+use Rattle.db_core.proofs.Replays.{first_goes, next_goes, statement_ends}
 use Rattle.db_core.proofs.replay.finish_statement.Goals as goal
 
 pub turns-init : goal.turns-init
@@ -10,7 +11,7 @@ turns-init c =
     let new = c.advance-first.new.state in
     let adv = c.advance-first.ensures.advanced in
     let found = get_within st.sessions.items c.args.at c.requires.at in
-    (same_many st new c.args.at c.requires.good adv.good adv.turn.0 c.requires.at, first_goes st new c.args.at c.advance-first.result found.0 found.1 (c.requires.more found.0 found.1) adv)
+    (same_many st new c.args.at c.requires.good adv.good adv.turn.0 c.requires.at, first_goes st new c.args.at c.advance-first.result found.0 c.requires.good c.requires.at found.1 (c.requires.more found.0 found.1) adv c.advance-first.ensures.nearer)
 
 pub turns-smaller : goal.turns-smaller
 turns-smaller c =
@@ -29,7 +30,7 @@ turns-preserved c =
     let adv = c.advance-next.ensures.advanced in
     let x = c.index.result.now in
     let here = get_at mid.sessions.items c.args.at x c.turns.invariant.0 c.index.ensures in
-    (same_many mid new c.args.at c.turns.invariant.1.follows.good adv.good adv.turn.0 c.turns.invariant.0, next_goes c.args.state.now mid new c.args.at c.advance-next.result x here c.turns-test.ensures c.turns.invariant.1 adv)
+    (same_many mid new c.args.at c.turns.invariant.1.follows.good adv.good adv.turn.0 c.turns.invariant.0, next_goes c.args.state.now mid new c.args.at c.advance-next.result x here c.turns-test.ensures c.turns.invariant.1 c.turns.invariant.0 adv c.advance-next.ensures.nearer)
 
 pub returns : goal.returns
 returns c =

@@ -1,5 +1,6 @@
 use Rattle.std.proofs.Common.{◌<◌, ◌≤◌, length, arith, subst, sym}
-use Rattle.vol_pool.specs.Changed.{changes_page, unchanged_stays}
+use Rattle.spec_run.specs.ChangedPages.{changes_page}
+use Rattle.vol_pool.specs.Changed.{unchanged_stays}
 use Rattle.vol_pool.proofs.Marked.{none_changes}
 use Rattle.vol_pool.proofs.changed.changed_pages.Goals as goal
 

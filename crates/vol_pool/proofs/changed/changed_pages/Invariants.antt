@@ -1,6 +1,6 @@
 use Rattle.std.proofs.Common.{◌≡◌, ◌<◌, ℕ, length, take}
 use Rattle.std.specs.List.{list_any}
-use Rattle.vol_pool.specs.Changed.{changes_page}
+use Rattle.spec_run.specs.ChangedPages.{changes_page}
 use Rattle.vol_pool.specs.Writing.{is_marked}
 use Rattle.vol_pool.proofs.changed.changed_pages.Given as goal
 

@@ -2,7 +2,7 @@ use Rattle.std.proofs.Common.{◌-◌, ◌∙◌, ap, arith, length, subst, sym}
 use Rattle.std.specs.List.{list_any}
 use Rattle.spec_run.specs.Entries.{items_of}
 use Rattle.spec_run.specs.Turns.{AreTold, told_to}
-use Rattle.db_core.specs.Reports.{is_terminated}
+use Rattle.spec_run.specs.Answers.{is_terminated}
 use Rattle.db_core.proofs.Begun.{few_seen, reported_seen, stands_seen, told_seen}
 use Rattle.db_core.proofs.db.Core.replies.Goals as goal
 

@@ -2,7 +2,7 @@ use Rattle.std.proofs.Common.{rules, tests, not, eqb}
 use Rattle.std.proofs.lemmas.Iterator.{items_from_collect, YieldsList-from_slice, YieldsList-from_map}
 use Rattle.std.proofs.lemmas.Iterator.Consumers.{YieldsList-at, YieldsList-from_filter}
 use Rattle.db_core.specs.declared.session.Session.{Session}
-use Rattle.db_core.proofs.view.collected.Goals as goal
+use Rattle.db_core.proofs.holders.collected.Goals as goal
 
 pub returns : goal.returns
 returns c =

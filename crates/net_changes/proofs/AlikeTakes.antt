@@ -84,7 +84,7 @@ free_stays shape taken a b images under p i lt small free =
 
 -- ---- so it stays
 
-pub past_page : (shape : FileShape) (image : Image) (p : ℕ) → length image ≡ shape.pages → shape.pages ≤ p → page image p ≡ []
+past_page : (shape : FileShape) (image : Image) (p : ℕ) → length image ≡ shape.pages → shape.pages ≤ p → page image p ≡ []
 past_page shape image p count past = get_or_past image p [] (subst (λ n. n ≤ p) (sym count) past)
 
 pub past_byte : (shape : FileShape) (taken : List Resource) (a b : Image) → AreImages shape a b → ∥ DifferUnder shape taken a b ∥₁ → (p : ℕ) → shape.pages ≤ p → is_byte_changed shape.geometry a b p ≡ false

@@ -14,19 +14,19 @@ pub bits_none : (q : ℕ) (old new : List ℕ) (low : ℕ) → bits_between q ol
 unfolding bits_between
 bits_none q old new low = refl
 
-pub bits_parts : (q : ℕ) (old new : List ℕ) (low m n : ℕ) → bits_between q old new low (m + n) ≡ bits_between q old new low m ++ bits_between q old new (low + m) n
+bits_parts : (q : ℕ) (old new : List ℕ) (low m n : ℕ) → bits_between q old new low (m + n) ≡ bits_between q old new low m ++ bits_between q old new (low + m) n
 unfolding bits_between
 bits_parts q old new low m n = map_parts (is_bit_turned old new) (bit_between q old new) low m n
 
-pub bit_turns : (q : ℕ) (old new : List ℕ) (n : ℕ) → is_bit_turned old new n ≡ true → bits_between q old new n 1 ≡ bit_between q old new n ∷ []
+bit_turns : (q : ℕ) (old new : List ℕ) (n : ℕ) → is_bit_turned old new n ≡ true → bits_between q old new n 1 ≡ bit_between q old new n ∷ []
 unfolding bits_between
 bit_turns q old new n e = ap (λ b. map (bit_between q old new) (if b then n ∷ [] else [])) e
 
-pub bit_stays : (q : ℕ) (old new : List ℕ) (n : ℕ) → is_bit_turned old new n ≡ false → bits_between q old new n 1 ≡ []
+bit_stays : (q : ℕ) (old new : List ℕ) (n : ℕ) → is_bit_turned old new n ≡ false → bits_between q old new n 1 ≡ []
 unfolding bits_between
 bit_stays q old new n e = ap (λ b. map (bit_between q old new) (if b then n ∷ [] else [])) e
 
-pub byte_stays : (q : ℕ) (old new : List ℕ) (b n : ℕ) → n ≤ 8 → slice_index old (maps_start + b) ≡ slice_index new (maps_start + b) → bits_between q old new (8 * b) n ≡ []
+byte_stays : (q : ℕ) (old new : List ℕ) (b n : ℕ) → n ≤ 8 → slice_index old (maps_start + b) ≡ slice_index new (maps_start + b) → bits_between q old new (8 * b) n ≡ []
 unfolding bits_between
 byte_stays q old new b n few same = ap (map (bit_between q old new)) (none_pass (is_bit_turned old new) n (8 * b) (λ x low high.
     let here : x / 8 ≡ b = omega (arith, low, high, few) in
@@ -93,9 +93,6 @@ bits_zero q old new count olds = nothing olds (bits_between q old new 0 (min 0 c
 
 pub below_ceil : (b count n : ℕ) → n ≡ div_ceil count 8 → b < n → 8 * b < count
 below_ceil b count n e lt = omega (arith, e, lt)
-
-pub bits_whole : (b count n : ℕ) → n ≡ div_ceil count 8 → n ≤ b → min (8 * b) count ≡ count
-bits_whole b count n e le = omega (arith, e, le)
 
 -- what was there was nothing
 pub from_none : {A : Type 0} (all none part : List A) → none ≡ [] → all ≡ none ++ part → all ≡ part

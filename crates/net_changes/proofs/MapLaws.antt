@@ -22,7 +22,7 @@ use Rattle.net_changes.proofs.Ranges.{map_ranges, map_parts}
 
 -- ---- parts of so many: part m begins below n
 
-pub part_below : (m size n parts : ℕ) → 0 < size → parts ≡ div_ceil n size → m < parts → m * size < n
+part_below : (m size n parts : ℕ) → 0 < size → parts ≡ div_ceil n size → m < parts → m * size < n
 part_below m size n parts some e lt =
     let most = (div_ceil_times n size some).1 in
     let next : size * (m + 1) ≤ size * div_ceil n size = mul-le-mul_left size (omega (arith, e, lt)) in
@@ -31,7 +31,7 @@ part_below m size n parts some e lt =
     below : (a b c d size n : ℕ) → b ≡ a + size → b ≤ c → c ≡ d → d < n + size → a < n
     below a b c d size n e le f lt = omega (arith, e, le, f, lt)
 
-pub parts_whole : (m size n parts : ℕ) → 0 < size → parts ≡ div_ceil n size → parts ≤ m → min (m * size) n ≡ n
+parts_whole : (m size n parts : ℕ) → 0 < size → parts ≡ div_ceil n size → parts ≤ m → min (m * size) n ≡ n
 parts_whole m size n parts some e le =
     let all = (div_ceil_times n size some).0 in
     let more : size * div_ceil n size ≤ size * m = mul-le-mul_left size (omega (arith, e, le)) in
@@ -40,21 +40,13 @@ parts_whole m size n parts some e le =
     whole : (a b c d n : ℕ) → a ≡ b → c ≤ b → d ≡ c → n ≤ d → min a n ≡ n
     whole a b c d n e le f h = omega (arith, e, le, f, h)
 
-pub some_extents : (g : Geometry) → 0 < interval_size g
+some_extents : (g : Geometry) → 0 < interval_size g
 some_extents Standard = omega arith
 some_extents Small = omega arith
 
-pub some_pages : (g : Geometry) → 0 < pfs_span g
+some_pages : (g : Geometry) → 0 < pfs_span g
 some_pages Standard = omega arith
 some_pages Small = omega arith
-
-pub few_extents : (g : Geometry) → interval_size g ≤ 63904
-few_extents Standard = omega arith
-few_extents Small = omega arith
-
-pub few_pages : (g : Geometry) → pfs_span g ≤ 8088
-few_pages Standard = omega arith
-few_pages Small = omega arith
 
 -- ---- bits
 
@@ -98,7 +90,7 @@ unfolding bits_shown
 no_bits s place size n olds = nothing olds (bits_shown s place 0 (min (0 * size) n)) (ap (bits_shown s place 0) (least_part size n))
 
 -- those of one interval behind those of the intervals before it
-pub interval_step : (s : PlanState) (map : Map) (g : Geometry) (m n q : ℕ) (all before olds : List Planned) → m * interval_size g < n → q ≡ (map_place map g (m * interval_size g)).page →
+interval_step : (s : PlanState) (map : Map) (g : Geometry) (m n q : ℕ) (all before olds : List Planned) → m * interval_size g < n → q ≡ (map_place map g (m * interval_size g)).page →
     before ≡ olds ++ bits_shown s (map_place map g) 0 (min (m * interval_size g) n) →
     all ≡ before ++ bits_between q (page s.first q) (page s.shown q) 0 (min (interval_size g) (n - m * interval_size g)) →
     all ≡ olds ++ bits_shown s (map_place map g) 0 (min ((m + 1) * interval_size g) n)
@@ -142,9 +134,6 @@ pub intervals_whole : (s : PlanState) (map : Map) (g : Geometry) (m n size parts
     all ≡ olds ++ bits_shown s (map_place map g) 0 (min (m * interval_size g) n) → all ≡ olds ++ bits_shown s (map_place map g) 0 n
 intervals_whole s map g m n size parts all olds e f le inv =
     inv ∙ ap (λ k. olds ++ bits_shown s (map_place map g) 0 k) (parts_whole m (interval_size g) n parts (some_extents g) (f ∙ ap (div_ceil n) e) le)
-
-pub interval_few : (g : Geometry) (size count rest : ℕ) → size ≡ interval_size g → count ≡ min size rest → count ≤ 63904
-interval_few g size count rest e f = let few = few_extents g in omega (arith, e, f, few)
 
 -- ---- runs
 
@@ -253,7 +242,7 @@ unfolding runs_shown
 no_runs s size n olds = nothing olds (runs_shown s 0 (min (0 * size) n)) (ap (runs_shown s 0) (least_part size n))
 
 -- those of one PFS page behind those of the pages before it
-pub span_step : (s : PlanState) (g : Geometry) (m n q : ℕ) (all before olds : List Planned) → g ≡ s.view.shape.geometry → m * pfs_span g < n → q ≡ (pfs_place g (m * pfs_span g)).page →
+span_step : (s : PlanState) (g : Geometry) (m n q : ℕ) (all before olds : List Planned) → g ≡ s.view.shape.geometry → m * pfs_span g < n → q ≡ (pfs_place g (m * pfs_span g)).page →
     before ≡ olds ++ runs_shown s 0 (min (m * pfs_span g) n) →
     all ≡ before ++ runs_between q (page s.first q) (page s.shown q) 0 (min (pfs_span g) (n - m * pfs_span g)) →
     all ≡ olds ++ runs_shown s 0 (min ((m + 1) * pfs_span g) n)
@@ -300,9 +289,6 @@ span_below g m n size parts e f lt = part_below m size n parts (subst (λ z. 0 <
 pub spans_whole : (s : PlanState) (g : Geometry) (m n size parts : ℕ) (all olds : List Planned) → size ≡ pfs_span g → parts ≡ div_ceil n size → parts ≤ m →
     all ≡ olds ++ runs_shown s 0 (min (m * pfs_span g) n) → all ≡ olds ++ runs_shown s 0 n
 spans_whole s g m n size parts all olds e f le inv = inv ∙ ap (λ k. olds ++ runs_shown s 0 k) (parts_whole m (pfs_span g) n parts (some_pages g) (f ∙ ap (div_ceil n) e) le)
-
-pub span_few : (g : Geometry) (size count rest : ℕ) → size ≡ pfs_span g → count ≡ min size rest → count ≤ 8088
-span_few g size count rest e f = let few = few_pages g in omega (arith, e, f, few)
 
 -- the file's pages are inside its geometry's limit
 pub in_limit : (g h : Geometry) (a pages count : ℕ) → g ≡ h → pages ≡ count → HasShape h count → a < pages → a < page_limit g

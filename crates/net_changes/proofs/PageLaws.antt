@@ -1,5 +1,5 @@
 -- The changes of one page, and of the pages that were put.
-use Rattle.std.proofs.Common.{◌≡◌, ℕ, ◌+◌, ◌-◌, ◌*◌, ◌<◌, ◌≤◌, min, max, get_or, ext_get_or, take, Bool, true, false, eqb, not, ◌&&◌, ◌||◌, List, [], ◌∷◌, ◌++◌, append-nil, length, refl, sym, ap, ◌∙◌, subst, arith, Contains}
+use Rattle.std.proofs.Common.{◌≡◌, ℕ, ◌+◌, ◌-◌, ◌*◌, ◌<◌, ◌≤◌, min, max, get_or, ext_get_or, take, Bool, true, false, eqb, not, ◌||◌, List, [], ◌∷◌, ◌++◌, append-nil, length, refl, sym, ap, ◌∙◌, subst, arith, Contains}
 use Rattle.std.specs.Prelude.{if◌then◌else◌, slice_index, bytes_eq, filter, flat_map}
 use Rattle.std.specs.List.{range_with_len}
 use Rattle.std.proofs.lemmas.Bool.{and_parts, and_left, or_left, eqb-true, eqb-false, not-true, not-false}
@@ -17,7 +17,7 @@ use Rattle.spec_words.specs.NetChanges.{part_changes, is_iam, becomes_allocated,
 use Rattle.law_net.proofs.Touched.{filter_touched}
 use Rattle.db_locks.specs.States.{PlanState, are_rising}
 use Rattle.net_changes.specs.declared.pair.Pair.{Pair}
-use Rattle.net_changes.specs.Bytes.{is_differing, is_changed_page, is_kind, page_between}
+use Rattle.net_changes.specs.Bytes.{is_differing, is_kind, page_between}
 use Rattle.net_changes.specs.Shown.{IsPair, numbers, is_due, pages_shown}
 use Rattle.net_changes.proofs.AlikePages.{part_between, three, stays_same}
 use Rattle.net_changes.proofs.BitLaws.{with_part}
@@ -40,7 +40,7 @@ same_bytes xs ys lx ly same =
 
 -- ---- the changes of one page
 
-pub page_is : (g : Geometry) (a b : Image) (p : ℕ) (one : Bool) → one ≡ (is_iam b p || becomes_allocated g a b p) → page_between one p (page a p) (page b p) ≡ page_changes g a b p
+page_is : (g : Geometry) (a b : Image) (p : ℕ) (one : Bool) → one ≡ (is_iam b p || becomes_allocated g a b p) → page_between one p (page a p) (page b p) ≡ page_changes g a b p
 page_is g a b p one e =
     by_test one ∙ ap (λ c. if c then part_changes a b p 0 8192 else (part_changes a b p 96 s ++ (part_changes a b p s 8192 ++ part_changes a b p 0 96))) e
   where
@@ -71,7 +71,7 @@ pages_more s iams xs ys =
     ap (flat_map (page_changes s.view.shape.geometry s.first s.shown)) (filter-append (is_due s iams) xs ys)
     ∙ flat_map-append (page_changes s.view.shape.geometry s.first s.shown) (filter (is_due s iams) xs) (filter (is_due s iams) ys)
 
-pub page_due : (s : PlanState) (iams : Bool) (p : ℕ) → is_due s iams p ≡ true → pages_shown s iams (p ∷ []) ≡ page_changes s.view.shape.geometry s.first s.shown p
+page_due : (s : PlanState) (iams : Bool) (p : ℕ) → is_due s iams p ≡ true → pages_shown s iams (p ∷ []) ≡ page_changes s.view.shape.geometry s.first s.shown p
 unfolding pages_shown
 page_due s iams p e =
     ap (λ b. flat_map (page_changes s.view.shape.geometry s.first s.shown) (if b then p ∷ [] else [])) e ∙ append-nil (page_changes s.view.shape.geometry s.first s.shown p)
@@ -116,13 +116,6 @@ pub boot_shown : (s : PlanState) (p : ℕ) (pair : Pair) → IsPair s p pair →
 boot_shown s p pair is =
     ap (λ xs. plan.change_between p xs pair.after.bytes 0 8192) is.before ∙ ap (λ xs. plan.change_between p (page s.first p) xs 0 8192) is.after
     ∙ sym (part_between s.first s.shown p 0 8192 (omega arith))
-
-pub due_is : (s : PlanState) (g : Geometry) (iams : Bool) (p : ℕ) (pair : Pair) (b c : Bool) → g ≡ s.view.shape.geometry → IsPair s p pair →
-    b ≡ is_changed_page g p pair.before.bytes pair.after.bytes → c ≡ is_kind iams pair.after.bytes → (b && c) ≡ is_due s iams p
-due_is s g iams p pair b c same is eb ec =
-    ap (λ x. x && c) (eb ∙ ap (λ h. is_changed_page h p pair.before.bytes pair.after.bytes) same ∙ ap (λ xs. is_changed_page s.view.shape.geometry p xs pair.after.bytes) is.before
-    ∙ ap (λ xs. is_changed_page s.view.shape.geometry p (page s.first p) xs) is.after)
-    ∙ ap (λ x. is_page_changed s.view.shape.geometry s.first s.shown p && x) (ec ∙ ap (is_kind iams) is.after)
 
 pub one_cell_iam : (s : PlanState) (g : Geometry) (iams : Bool) (p : ℕ) → iams ≡ true → is_kind iams (page s.shown p) ≡ true → true ≡ (is_iam s.shown p || becomes_allocated g s.first s.shown p)
 one_cell_iam s g iams p e kind = sym (or_left (is_iam s.shown p) (becomes_allocated g s.first s.shown p) (subst (λ b. is_kind b (page s.shown p) ≡ true) e kind))

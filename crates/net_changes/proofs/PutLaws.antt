@@ -16,7 +16,7 @@ contains_put (q ∷ ps) p h = elim (or_cases (eqb q.0 p.0) (is_put ps p.0) h) [
   | inr e ↦ let r = contains_put ps p e in let lt = r.1 in (suc r.0, omega (arith, lt), r.2)
 ]
 
-pub put_contains : (ps : List PageNo) (p : PageNo) → Contains ps p → is_put ps p.0 ≡ true
+put_contains : (ps : List PageNo) (p : PageNo) → Contains ps p → is_put ps p.0 ≡ true
 put_contains [] p c = absurd (let lt = c.1 in omega (arith, lt))
 put_contains (q ∷ ps) p (zero, lt, same) = or_left (eqb q.0 p.0) (is_put ps p.0) (eq-eqb q.0 p.0 (ap (λ (r : PageNo). r.0) same))
 put_contains (q ∷ ps) p (suc k, lt, same) = or_right (eqb q.0 p.0) (is_put ps p.0) (put_contains ps p (k, omega (arith, lt), same))

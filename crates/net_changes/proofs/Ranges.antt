@@ -12,7 +12,7 @@ pub record SameAt {A : Type 0} (t u : ℕ → Bool) (f h : ℕ → A) (x y : ℕ
   pub test : t x ≡ u y
   pub made : t x ≡ true → f x ≡ h y
 
-pub flat_ranges : {A : Type 0} (t u : ℕ → Bool) (f h : ℕ → List A) (n a b : ℕ) → ((k x y : ℕ) → k < n → x ≡ a + k → y ≡ b + k → SameAt t u f h x y) →
+flat_ranges : {A : Type 0} (t u : ℕ → Bool) (f h : ℕ → List A) (n a b : ℕ) → ((k x y : ℕ) → k < n → x ≡ a + k → y ≡ b + k → SameAt t u f h x y) →
     flat_map f (filter t (range_with_len a n)) ≡ flat_map h (filter u (range_with_len b n))
 flat_ranges t u f h zero a b all = refl
 flat_ranges t u f h (suc n) a b all =

@@ -1,5 +1,5 @@
 -- The runs of a PFS page, byte by byte.
-use Rattle.std.proofs.Common.{◌≡◌, ℕ, suc, ◌+◌, ◌-◌, ◌%◌, ◌<◌, ◌≤◌, Bool, true, false, not, List, [], ◌∷◌, ◌++◌, refl, sym, ap, ◌∙◌, arith}
+use Rattle.std.proofs.Common.{◌≡◌, ℕ, suc, ◌+◌, ◌-◌, ◌%◌, ◌<◌, Bool, true, false, not, List, [], ◌∷◌, ◌++◌, refl, sym, ap, ◌∙◌, arith}
 use Rattle.std.specs.Prelude.{if◌then◌else◌, slice_index, map}
 use Rattle.std.proofs.lemmas.Bool.{and_left, eq-eqb}
 use Rattle.spec_file.specs.Image.{maps_start}
@@ -17,11 +17,11 @@ pub runs_parts : (q : ℕ) (old new : List ℕ) (low m n : ℕ) → runs_between
 unfolding runs_between
 runs_parts q old new low m n = map_parts (begins_at old new) (run_between q old new) low m n
 
-pub run_begins : (q : ℕ) (old new : List ℕ) (k : ℕ) → begins_at old new k ≡ true → runs_between q old new k 1 ≡ run_between q old new k ∷ []
+run_begins : (q : ℕ) (old new : List ℕ) (k : ℕ) → begins_at old new k ≡ true → runs_between q old new k 1 ≡ run_between q old new k ∷ []
 unfolding runs_between
 run_begins q old new k e = ap (λ b. map (run_between q old new) (if b then k ∷ [] else [])) e
 
-pub no_run : (q : ℕ) (old new : List ℕ) (k : ℕ) → begins_at old new k ≡ false → runs_between q old new k 1 ≡ []
+no_run : (q : ℕ) (old new : List ℕ) (k : ℕ) → begins_at old new k ≡ false → runs_between q old new k 1 ≡ []
 unfolding runs_between
 no_run q old new k e = ap (λ b. map (run_between q old new) (if b then k ∷ [] else [])) e
 
@@ -50,14 +50,6 @@ length_more old new at n most lt e =
     ap (λ m. differing_length old new m (at + n)) next
     ∙ ap (λ b. if b then 1 + differing_length old new (most - (n + 1)) (at + n + 1) else 0) e ∙ ap (λ i. 1 + differing_length old new (most - (n + 1)) i) there in
     omega (arith, opened)
-
-pub length_ends : (old new : List ℕ) (at n most : ℕ) → n < most → is_differing old new (at + n) ≡ false → differing_length old new (most - n) (at + n) ≡ 0
-length_ends old new at n most lt e =
-    let next : most - n ≡ suc (most - (n + 1)) = omega (arith, lt) in
-    ap (λ m. differing_length old new m (at + n)) next ∙ ap (λ b. if b then 1 + differing_length old new (most - (n + 1)) (at + n + 1) else 0) e
-
-pub length_full : (old new : List ℕ) (at n most : ℕ) → most ≤ n → differing_length old new (most - n) (at + n) ≡ 0
-length_full old new at n most le = let none : most - n ≡ 0 = omega (arith, le) in ap (λ m. differing_length old new m (at + n)) none
 
 pub run_added : (q k n : ℕ) (old new : List ℕ) (all olds : List Planned) (b : Bool) (change : Planned) → b ≡ begins_at old new k → b ≡ true →
     n ≡ differing_length old new (8 - k % 8) (maps_start + k) → change ≡ bytes_change q old new (maps_start + k) (maps_start + k + n) → all ≡ olds ++ change ∷ [] →

@@ -1,9 +1,9 @@
 // The report of a file's maps and pages, and which pages a scan reads.
-ghost use Rattle.std.specs.Prelude.{None, false, []};
+ghost use Rattle.std.specs.Prelude.{◌≡◌, None, false, []};
 
 use crate::made::{HEAP, MARKED, MIXED, MadeMap, MadeRow, TAKEN, WRONG, expect_errors, map_of};
-use ck_facts::{CheckError, CheckReport, PageUse, TableLine};
-use ck_scan::scan_one;
+use ck_facts::{AllocMap, CheckError, CheckReport, PageUse, TableLine};
+use ck_scan::{Scan, scan_one};
 use pg_base::{Header, ObjId, Page, PageNo, ReadStop, SnapReader, put_u16, write_header};
 use std::alloc::Global;
 use std::process::Abort;
@@ -268,5 +268,67 @@ fn system_errors_stand_alone(rt: HostRuntime) -> Result<(), Fail> {
     expect_errors(&rt, report.errors.as_slice(), &SYSTEM, "system");
     expect_tables(&rt, &report, &[], "system");
     expect_reads(&rt, reads, 0, "system");
+    Ok(())
+}
+
+// How many pages have been read behind each extent of these maps, and the report.
+fn stepped(alloc: Global, map: &AllocMap) -> Result<(Vec<u32>, CheckReport), Fail>
+    requires { map.now.pages ≡ 24 }
+{
+    let mut reader = HeapPages {
+        pages: 24,
+        reads: 0,
+    };
+    let mut reads = Vec::new(alloc);
+    let mut scan = Scan::begin(alloc, map)?;
+    'extents: while scan.has_more(map) {
+        scan.read_next(alloc, &mut reader, map)
+            .ok()
+            .ok_or("an extent")?;
+        reads.push(reader.reads)?;
+    }
+    Ok((reads, scan.finish(alloc, map)?))
+}
+
+// Page 17 says that it is page 18. Pages 10 and 16 have a row, of which their PFS bytes tell nothing.
+static STEPPED: [CheckError; 3] = [
+    CheckError {
+        number: 8909,
+        page: 17,
+        value: 18,
+        ..WRONG
+    },
+    CheckError {
+        number: 8914,
+        page: 10,
+        value: 0x60,
+        ..WRONG
+    },
+    CheckError {
+        number: 8914,
+        page: 16,
+        value: 0x40,
+        ..WRONG
+    },
+];
+
+// No object owns a page of extent 0, object 1 owns page 10 of extent 1, and pages 16 and 17 of extent 2.
+#[test]
+fn a_scan_reads_one_extent_at_a_time(rt: HostRuntime) -> Result<(), Fail> {
+    let (_, map, _, _) = &CASES[1];
+    let map = map_of(rt.alloc(), 24, map, &[])?;
+    let (reads, report) = stepped(rt.alloc(), &map)?;
+    assert_eq!(rt; reads.as_slice(), &[0, 1, 3][..]);
+    expect_errors(&rt, report.errors.as_slice(), &STEPPED, "stepped");
+    expect_tables(&rt, &report, &[line(1, 2), line(2, 0)], "stepped");
+    Ok(())
+}
+
+#[test]
+fn system_errors_leave_no_extent(rt: HostRuntime) -> Result<(), Fail> {
+    let map = map_of(rt.alloc(), 24, &ONE_USE, &SYSTEM)?;
+    let (reads, report) = stepped(rt.alloc(), &map)?;
+    assert!(rt; reads.is_empty());
+    expect_errors(&rt, report.errors.as_slice(), &SYSTEM, "stepped");
     Ok(())
 }

@@ -135,6 +135,75 @@ fn each_turn_does_one_thing(rt: HostRuntime) -> Result<(), Fail> {
     Ok(())
 }
 
+fn check_alone(alloc: Global) -> Result<Vec<Statement>, Fail>
+    ensures { IfOk result (λ script. script.items ≡ words.Check 1 ∷ []) }
+{
+    let mut script = Vec::new(alloc);
+    script.push(Statement::Check { workers: 1 })?;
+    Ok(script)
+}
+
+// A session that checks the file.
+fn one_check(alloc: Global, heaps: bool) -> Result<Core, Fail>
+    ensures { IfOk result (λ core. length core.run.scripts ≡ 1) }
+{
+    let frames = file(alloc, heaps)?;
+    let mut scripts = Vec::new(alloc);
+    scripts.push(check_alone(alloc)?)?;
+    Ok(Core::begin(alloc, frames, scripts)?)
+}
+
+// A check of a sound file: its Snap, nothing is left to take back, the maps, each of two extents, the end.
+const SOUND: [TurnOut; 7] = [
+    TurnOut::Checking,
+    TurnOut::Moved,
+    TurnOut::Moved,
+    TurnOut::Moved,
+    TurnOut::Moved,
+    TurnOut::Answered(1),
+    TurnOut::Finished,
+];
+
+#[test]
+fn a_check_reads_the_maps_and_each_extent_in_a_turn(rt: HostRuntime) -> Result<(), Fail> {
+    let mut core = one_check(rt.alloc(), true)?;
+    let turns = [
+        core.turn(1),
+        core.turn(1),
+        core.turn(1),
+        core.turn(1),
+        core.turn(1),
+        core.turn(1),
+        core.turn(1),
+    ];
+    assert!(rt; turns == SOUND);
+    assert!(rt; core.items().len() == 2);
+    Ok(())
+}
+
+// Of zeros no extent is read, since system pages are wrong.
+const WRONG: [TurnOut; 5] = [
+    TurnOut::Checking,
+    TurnOut::Moved,
+    TurnOut::Moved,
+    TurnOut::Answered(1),
+    TurnOut::Finished,
+];
+
+#[test]
+fn a_check_of_wrong_system_pages_reads_no_extent(rt: HostRuntime) -> Result<(), Fail> {
+    let mut core = one_check(rt.alloc(), false)?;
+    let turns = [
+        core.turn(1),
+        core.turn(1),
+        core.turn(1),
+        core.turn(1),
+        core.turn(1),
+    ];
+    assert!(rt; turns == WRONG);
+    Ok(())
+}
+
 #[test]
 fn a_replay_ends_all_scripts(rt: HostRuntime) -> Result<(), Fail> {
     let mut core = two_sessions(rt.alloc())?;

@@ -1,5 +1,10 @@
-pub mod Lists
-pub mod Seen
-pub mod ChainSteps
-pub mod Inserting
-pub mod ReadsLaws
+pub mod HeapSteps
+pub mod CountSteps
+pub mod ByteSteps
+pub mod RoomSteps
+pub mod RoomLooks
+pub mod RoomSearch
+pub mod RowSteps
+pub mod RoomFound
+pub mod ByteReads
+pub mod InsertSteps

@@ -1,21 +1,23 @@
--- Where an insert puts its row.
-use Rattle.std.specs.Prelude.{ℕ, Bool, false, ◌==◌, ◌&&◌, IsTrue, if◌then◌else◌}
-use Rattle.spec_file.specs.Image.{Image, page}
+-- What an insert knows of the pages of its table.
+use Rattle.std.specs.Prelude.{◌≡◌, ℕ, ◌<◌, true, IsTrue, List, Contains, None}
+use Rattle.spec_file.specs.declared.data.Resource.TheVariants as resource
+use Rattle.spec_file.specs.Image.{page}
+use Rattle.spec_file.specs.Places.{pfs_page}
 use Rattle.spec_file.specs.CatalogRows.{CatalogRow}
 use Rattle.spec_file.specs.Roles.{is_ordinary}
-use Rattle.spec_plan.specs.Sight.{Sight, Outcome}
-use Rattle.spec_plan.specs.Rows.{has_room_for}
-use Rattle.spec_plan.specs.Statements.{fullness_at}
-use Rattle.db_heap.specs.Heaps.{IsSeenHeap, IsByteFree, heap_page_read}
+use Rattle.spec_plan.specs.Rows.{passes_page, has_room_for}
+use Rattle.spec_words.specs.Views.{View}
+use Rattle.db_locks.specs.States.{PlanState}
 
--- whether page p, unless its PFS byte says that it is full, has room for a row of so many bytes
-abbrev pub room_read : Sight → CatalogRow → ℕ → ℕ → (Bool → Outcome) → Outcome
-room_read sight row p size next =
-    if is_ordinary sight.geometry p && (fullness_at sight p == 4) then next false
-    else heap_page_read sight row p (next (has_room_for (page sight.view p) size))
+-- the PFS byte of page p was read: its page is one of those that were looked at, and no other transaction holds the byte
+pub record WasByteRead (looked : List ℕ) (view : View) (p : ℕ) : Type 0 where
+  pub reached : Contains looked (pfs_page view.shape.geometry p)
+  pub free : view.other (resource.Byte (record { 0 = p })) ≡ None
 
--- a page of the heap that is read takes a row of so many bytes
-pub record TakesRow (sight : Sight) (file : Image) (row : CatalogRow) (p size : ℕ) : Type 0 where
-  pub heap : IsSeenHeap sight file row p
-  pub byte : IsByteFree sight file p
-  pub room : IsTrue (has_room_for (page file p) size)
+-- a page of a heap has room for a row of so many bytes; its own bytes are as the transaction sees them
+pub record HasRoomOn (state : PlanState) (row : CatalogRow) (size p : ℕ) (bytes : List ℕ) : Type 0 where
+  pub inside : p < state.view.shape.pages
+  pub ordinary : is_ordinary state.view.shape.geometry p ≡ true
+  pub heap : passes_page p row.id bytes ≡ true
+  pub room : IsTrue (has_room_for bytes size)
+  pub seen : IsTrue state.told → bytes ≡ page state.view.now p

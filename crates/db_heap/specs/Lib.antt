@@ -1,4 +1,3 @@
-pub mod Reads
-pub mod Heaps
-pub mod Plans
+pub mod Counts
 pub mod Inserts
+pub mod InsertPlans

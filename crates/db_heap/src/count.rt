@@ -1,54 +1,85 @@
 // COUNT.
-ghost use Rattle.std.specs.Prelude.{◌≡◌, ◌≤◌, IfOk, length, All};
-ghost use Rattle.spec_plan.specs.Sight.{Counts};
-ghost use Rattle.spec_plan.specs.Statements as spec;
+ghost use Rattle.std.specs.Prelude.{◌≡◌, ◌<◌, ◌≤◌, [], IfErr, length, All};
+ghost use Rattle.db_alloc.specs.declared.find.FindStop.TheVariants as find;
+ghost use Rattle.db_locks.specs.declared.plan_pages.PageStop.TheVariants as stop;
+ghost use Rattle.spec_script.specs.declared.reply.Reply.TheVariants as reply;
+ghost use Rattle.spec_words.specs.Heaps as spec;
 ghost use Rattle.db_cat.specs.Rows.{row_of};
-ghost use Rattle.db_heap.specs.Reads.{Answers};
-ghost use Rattle.db_heap.specs.Plans.{outcome_of};
-ghost use Rattle.db_heap.specs.Heaps.{numbers, IsByteFree};
+ghost use Rattle.db_locks.specs.Does.{Does, DoesAs};
+ghost use Rattle.db_alloc.specs.Results.{value_as, find_stop};
+ghost use Rattle.db_alloc.specs.Tables.{numbers};
+ghost use Rattle.db_heap.specs.Counts.{rows_counted, table_counted};
 
-use crate::heap::read_heap;
-use crate::heap_pages::{read_heap_page, row_count};
-use crate::{Plan, PlanView, Stop};
-use db_cat::CatRow;
-use pg_base::{NoMemory, PageNo};
+use crate::heap::{read_heap_page, row_count};
+use db_alloc::{FindStop, Table, find_table, pages_of};
+use db_locks::{PageStop, PlanPages};
+use pg_base::{Geometry, Page, PageNo};
 use spec_script::Name;
 use std::alloc::Global;
 
-// How many rows these pages have, one after another.
-fn count_rows<V: PlanView>(
-    alloc: Global,
-    view: &V,
-    row: &CatRow,
+// How many rows these pages of a table have.
+fn count_rows<P: PlanPages>(
+    v: &mut P,
+    table: &Table,
     pages: &[PageNo],
-) -> Result<u64, Stop>
-    requires free { All (IsByteFree (V.sight view.now) (V.file view.now)) (numbers pages.now) }
-    requires few { length pages.now ≤ 524288 }
-    ensures { Answers (spec.counted (V.sight view.now) (row_of row.now) 0 (numbers pages.now)) Counts result }
+    buffer: &mut Page,
+) -> Result<u64, PageStop>
+    requires geometry { table.now.geometry ≡ (P.state v.old).view.shape.geometry }
+    requires pages { table.now.pages ≡ (P.state v.old).view.shape.pages }
+    requires inside { All (λ p. p < table.now.pages) (numbers pages.now) }
+    requires few { length pages.now ≤ 4294967295 }
+    ensures { Does (P.state v.old) (P.state v.new) (rows_counted (P.state v.old).view.shape (row_of table.now.row) (numbers pages.now)) (value_as (λ rows. reply.Rows rows []) result) }
 {
     let mut sum: u64 = 0;
     for p in pages {
-        read_heap_page(alloc, view, row, *p)?;
-        sum += row_count(view.page(*p)) as u64;
+        read_heap_page(v, table, *p, buffer)?;
+        sum += row_count(buffer) as u64;
     }
     Ok(sum)
 }
 
-// How many rows the heap of this name has.
-fn count<V: PlanView>(alloc: Global, view: &V, table: &Name) -> Result<u64, Stop>
-    ensures { Answers (spec.count_outcome (V.sight view.now) table.now) Counts result }
+// The rows of a table, with room for a page.
+fn count_table<P: PlanPages>(
+    alloc: Global,
+    v: &mut P,
+    table: &Table,
+    buffer: &mut Page,
+) -> Result<u64, PageStop>
+    requires geometry { table.now.geometry ≡ (P.state v.old).view.shape.geometry }
+    requires pages { table.now.pages ≡ (P.state v.old).view.shape.pages }
+    ensures { Does (P.state v.old) (P.state v.new) (table_counted (P.state v.old).view.shape (row_of table.now.row)) (value_as (λ rows. reply.Rows rows []) result) }
 {
-    let heap = read_heap(alloc, view, table)?;
-    count_rows(alloc, view, &heap.row, &heap.pages)
+    let pages = pages_of(alloc, v, table)?;
+    count_rows(v, table, &pages, buffer)
 }
 
-/// COUNT, planned: how many rows the heap of this name has, or the first refusal.
-pub fn plan_count<V: PlanView>(alloc: Global, view: &V, table: &Name) -> Result<Plan, NoMemory>
-    ensures { IfOk result (λ plan. outcome_of plan ≡ spec.count_outcome (V.sight view.now) table.now) }
+pub(crate) fn page_room(alloc: Global) -> Result<Box<Page>, FindStop>
+    ensures { IfErr result (λ e. e ≡ find.Page stop.NoMemory) }
 {
-    match count(alloc, view, table) {
-        Ok(rows) => Ok(Plan::Counted(rows)),
-        Err(Stop::Refused(refusal)) => Ok(Plan::Refused(refusal)),
-        Err(Stop::NoMemory) => Err(NoMemory),
+    match Page::zeroed(alloc) {
+        Ok(page) => Ok(page),
+        Err(_) => Err(FindStop::Page(PageStop::NoMemory)),
     }
+}
+
+/// COUNT: how many rows the table of this name has. `geometry` and `pages` are those of the view's file.
+pub fn heap_count<P: PlanPages>(
+    alloc: Global,
+    v: &mut P,
+    geometry: Geometry,
+    pages: u32,
+    name: &Name,
+) -> Result<u64, FindStop>
+    requires geometry { geometry ≡ (P.state v.old).view.shape.geometry }
+    requires pages { pages ≡ (P.state v.old).view.shape.pages }
+    ensures { DoesAs (find_stop name.now) [] (P.state v.old) (P.state v.new) (spec.count_plan (P.state v.old).view.shape name.now) (value_as (λ rows. reply.Rows rows []) result) }
+{
+    let mut buffer = page_room(alloc)?;
+    let row = find_table(alloc, v, name)?;
+    let table = Table {
+        row,
+        geometry,
+        pages,
+    };
+    Ok(count_table(alloc, v, &table, &mut buffer)?)
 }

@@ -1,49 +1,47 @@
-// What every statement on a heap reads before the object's pages.
-ghost use Rattle.std.specs.Prelude.{◌≤◌, List, ℕ, IfOk, vec_len, All};
-ghost use Rattle.spec_file.specs.CatalogRows.{CatalogRow};
-ghost use Rattle.spec_plan.specs.Sight.{Outcome};
-ghost use Rattle.spec_plan.specs.Reading as spec;
+// The pages of a heap.
+ghost use Rattle.std.specs.Prelude.{◌≡◌, ◌<◌, true, OnOk};
+ghost use Rattle.spec_file.specs.Roles as roles;
+ghost use Rattle.spec_rows.specs.Slots.{slot_count};
+ghost use Rattle.spec_plan.specs.Rows.{passes_page};
+ghost use Rattle.spec_words.specs.Heaps as spec;
 ghost use Rattle.db_cat.specs.Rows.{row_of};
-ghost use Rattle.db_heap.specs.Reads.{Reads, Answers};
-ghost use Rattle.db_heap.specs.Heaps.{numbers, chain_bytes_read, IsByteFree};
+ghost use Rattle.db_locks.specs.Does.{Does, filled};
 
-use crate::bytes::read_bytes;
-use crate::chain::read_chain;
-use crate::marks::{byte_pages, object_pages};
-use crate::table::read_table;
-use crate::{PlanView, Stop};
-use db_cat::CatRow;
-use pg_base::PageNo;
-use spec_script::Name;
-use std::alloc::Global;
+use db_alloc::Table;
+use db_locks::{PageStop, PlanPages, look_page};
+use heap_page::is_heap_page;
+use pg_base::{Page, PageNo, Resource, read_header};
+use pg_geom::is_ordinary;
 
-/// A heap that was read: its row of the catalog, and its pages, rising.
-#[derive(Drop)]
-pub(crate) struct Heap {
-    pub row: CatRow,
-    pub pages: Vec<PageNo>,
+/// Reads page p as one of the table's: 1222, then 824.
+pub(crate) fn read_heap_page<P: PlanPages>(
+    v: &mut P,
+    table: &Table,
+    p: PageNo,
+    into: &mut Page,
+) -> Result<(), PageStop>
+    requires geometry { table.now.geometry ≡ (P.state v.old).view.shape.geometry }
+    requires pages { table.now.pages ≡ (P.state v.old).view.shape.pages }
+    requires inside { p.0 < table.now.pages }
+    ensures does { Does (P.state v.old) (P.state v.new) (spec.heap_page (P.state v.old).view.shape (row_of table.now.row) p.0) (filled into.new.bytes result) }
+    ensures ordinary { OnOk result (roles.is_ordinary (P.state v.old).view.shape.geometry p.0 ≡ true) }
+    ensures heap { OnOk result (passes_page p.0 (row_of table.now.row).id into.new.bytes ≡ true) }
+    ensures view { (P.state v.new).view ≡ (P.state v.old).view }
+{
+    if !is_ordinary(table.geometry, p) {
+        v.look(p, Resource::Page(p), into)?;
+        return Err(PageStop::Bad(p));
+    }
+    look_page(v, p, into)?;
+    if !is_heap_page(into, p, table.row.id) {
+        return Err(PageStop::Bad(p));
+    }
+    Ok(())
 }
 
-// The chain and the PFS bytes of an object, which give its pages.
-fn read_pages<V: PlanView>(alloc: Global, view: &V, row: &CatRow) -> Result<Vec<PageNo>, Stop>
-    ensures reads { Reads (chain_bytes_read (V.sight view.now) (row_of row.now)) (λ pages. numbers pages.items) result }
-    ensures free { IfOk result (λ pages. All (IsByteFree (V.sight view.now) (V.file view.now)) (numbers pages.items)) }
-    ensures few { IfOk result (λ pages. vec_len pages ≤ 524288) }
+/// How many rows a page has.
+pub(crate) fn row_count(page: &Page) -> u16
+    ensures { result ≡ slot_count page.now.bytes }
 {
-    let chain = read_chain(alloc, view, row)?;
-    let pages = byte_pages(alloc, view, &chain)?;
-    read_bytes(alloc, view, &pages)?;
-    Ok(object_pages(alloc, view, &chain, &pages)?)
-}
-
-/// Reads page 9, the chain and the PFS bytes of the heap of this name.
-pub(crate) fn read_heap<V: PlanView>(alloc: Global, view: &V, name: &Name) -> Result<Heap, Stop>
-    ensures reads { (next : CatalogRow → List ℕ → Outcome)
-        → Answers (spec.heap_read (V.sight view.now) name.now next) (λ heap. next (row_of heap.row) (numbers heap.pages.items)) result }
-    ensures free { IfOk result (λ heap. All (IsByteFree (V.sight view.now) (V.file view.now)) (numbers heap.pages.items)) }
-    ensures few { IfOk result (λ heap. vec_len heap.pages ≤ 524288) }
-{
-    let row = read_table(alloc, view, name)?;
-    let pages = read_pages(alloc, view, &row)?;
-    Ok(Heap { row, pages })
+    read_header(page).slots
 }

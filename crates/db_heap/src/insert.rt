@@ -1,106 +1,129 @@
 // INSERT.
-ghost use Rattle.std.specs.Prelude.{◌≡◌, ◌&&◌, ◌==◌, ◌≤◌, IsTrue, IfOk, length, All};
-ghost use Rattle.spec_file.specs.Roles as roles;
+ghost use Rattle.std.specs.Prelude.{◌≡◌, ◌<◌, ◌≤◌, ℕ, List, [], IsTrue, All, length};
 ghost use Rattle.spec_rows.specs.Rows.{is_data_row};
-ghost use Rattle.spec_plan.specs.Reading.{heap_read};
-ghost use Rattle.spec_plan.specs.Statements as spec;
+ghost use Rattle.spec_script.specs.declared.reply.Reply.TheVariants as reply;
+ghost use Rattle.spec_words.specs.Heaps as spec;
 ghost use Rattle.db_cat.specs.Rows.{row_of};
-ghost use Rattle.db_heap.specs.Reads.{Reads, Answers};
-ghost use Rattle.db_heap.specs.Plans.{outcome_of};
-ghost use Rattle.db_heap.specs.Heaps.{numbers, IsByteFree};
-ghost use Rattle.db_heap.specs.Inserts.{room_read, TakesRow};
+ghost use Rattle.db_locks.specs.Does.{DoesAs};
+ghost use Rattle.db_alloc.specs.Results.{value_as};
+ghost use Rattle.db_alloc.specs.Tables.{numbers};
+ghost use Rattle.db_heap.specs.Inserts.{WasByteRead};
+ghost use Rattle.db_heap.specs.InsertPlans.{insert_stop, row_placed, row_inserted};
 
-use crate::bytes::pfs_byte;
-use crate::heap::read_heap;
-use crate::heap_pages::read_heap_page;
-use crate::stop::no_room;
+use crate::count::page_room;
+use crate::room::find_room;
 use crate::write::write_row;
-use crate::{Plan, PlanView, Stop};
-use db_cat::CatRow;
-use heap_page::{has_room, heap_row};
-use pg_base::{NoMemory, PageNo};
-use pg_geom::is_ordinary;
+use db_alloc::{FindStop, Table, find_table, pages_of};
+use db_locks::{PageStop, PlanPages};
+use heap_page::heap_row;
+use pg_base::{Geometry, Page, PageNo, Resource};
 use spec_file::{PAYLOAD_LIMIT, ROW_LIMIT};
 use spec_script::Name;
 use std::alloc::Global;
 
-// The PFS byte of page p says that it is full, so that it is passed over.
-fn is_full<V: PlanView>(view: &V, p: PageNo) -> bool
-    requires { IsByteFree (V.sight view.now) (V.file view.now) p.0 }
-    ensures { result ≡ (roles.is_ordinary (V.sight view.now).geometry p.0 && (spec.fullness_at (V.sight view.now) p.0 == 4)) }
-{
-    is_ordinary(view.geometry(), p) && pfs_byte(view, p) % 8 == 4
+/// Why no row is inserted.
+#[derive(Clone, Copy, Debug, PartialEq, Eq)]
+pub enum InsertStop {
+    Find(FindStop),
+    /// No page of the table has room.
+    NoRoom,
 }
 
-// Whether page p, unless it is passed over, has room for a row.
-fn test_room<V: PlanView>(
-    alloc: Global,
-    view: &V,
-    row: &CatRow,
-    bytes: &[u8],
-    p: PageNo,
-) -> Result<bool, Stop>
-    requires free { IsByteFree (V.sight view.now) (V.file view.now) p.0 }
-    requires small { length bytes.now ≤ ROW_LIMIT }
-    ensures reads { Reads (room_read (V.sight view.now) (row_of row.now) p.0 (length bytes.now)) (λ yes. yes) result }
-    ensures takes { IfOk result (λ yes. IsTrue yes → TakesRow (V.sight view.now) (V.file view.now) (row_of row.now) p.0 (length bytes.now)) }
-{
-    if is_full(view, p) {
-        return Ok(false);
+impl From<FindStop> for InsertStop {
+    ghost use Rattle.db_heap.specs.declared.insert.InsertStop.TheVariants.{Find};
+
+    ghost from_gives = { λ e stop. stop ≡ Find e };
+
+    fn from(e: FindStop) -> Self {
+        InsertStop::Find(e)
     }
-    read_heap_page(alloc, view, row, p)?;
-    Ok(has_room(view.page(p), bytes.len() as u16))
 }
 
-// The first of these pages that has room.
-fn find_room<V: PlanView>(
-    alloc: Global,
-    view: &V,
-    row: &CatRow,
-    bytes: &[u8],
+impl From<PageStop> for InsertStop {
+    ghost use Rattle.db_alloc.specs.declared.find.FindStop.TheVariants.{Page};
+    ghost use Rattle.db_heap.specs.declared.insert.InsertStop.TheVariants.{Find};
+
+    ghost from_gives = { λ e stop. stop ≡ Find (Page e) };
+
+    fn from(e: PageStop) -> Self {
+        InsertStop::Find(FindStop::Page(e))
+    }
+}
+
+// A row goes on the first of these pages with room.
+fn place_row<P: PlanPages>(
+    v: &mut P,
+    table: &Table,
     pages: &[PageNo],
-) -> Result<PageNo, Stop>
-    requires free { All (IsByteFree (V.sight view.now) (V.file view.now)) (numbers pages.now) }
-    requires small { length bytes.now ≤ ROW_LIMIT }
-    ensures reads { Answers (spec.inserted (V.sight view.now) (row_of row.now) bytes.now (numbers pages.now))
-        (λ p. spec.row_put (V.sight view.now) (row_of row.now) p.0 bytes.now) result }
-    ensures takes { IfOk result (λ p. TakesRow (V.sight view.now) (V.file view.now) (row_of row.now) p.0 (length bytes.now)) }
+    row: &[u8],
+    page: &mut Page,
+    buffer: &mut Page,
+) -> Result<(), InsertStop>
+    requires geometry { table.now.geometry ≡ (P.state v.old).view.shape.geometry }
+    requires pages { table.now.pages ≡ (P.state v.old).view.shape.pages }
+    requires inside { All (λ p. p < table.now.pages) (numbers pages.now) }
+    requires small { length row.now ≤ ROW_LIMIT }
+    requires row { IsTrue (is_data_row row.now) }
+    ensures { (name looked : List ℕ) → (IsTrue (P.state v.old).told → All (WasByteRead looked (P.state v.old).view) (numbers pages.now)) → DoesAs (insert_stop name) looked (P.state v.old) (P.state v.new) (row_placed (P.state v.old).view.shape (row_of table.now.row) row.now (numbers pages.now)) (value_as (λ done. reply.Rows 1 []) result) }
 {
-    for p in pages {
-        if test_room(alloc, view, row, bytes, *p)? {
-            return Ok(*p);
-        }
+    match find_room(v, table, row.len() as u16, pages, page)? {
+        Some(p) => Ok(write_row(v, table, p, row, page, buffer)?),
+        None => Err(InsertStop::NoRoom),
     }
-    Err(Stop::Refused(no_room(alloc)))
 }
 
-// A row into the heap of this name.
-fn insert<V: PlanView>(alloc: Global, view: &V, table: &Name, bytes: &[u8]) -> Result<Plan, Stop>
-    requires { IsTrue (is_data_row bytes.now) }
-    ensures { Answers (heap_read (V.sight view.now) table.now (λ row pages. spec.inserted (V.sight view.now) row bytes.now pages)) outcome_of result }
-{
-    let heap = read_heap(alloc, view, table)?;
-    let p = find_room(alloc, view, &heap.row, bytes, &heap.pages)?;
-    Ok(write_row(alloc, view, &heap.row, p, bytes)?)
-}
-
-/// INSERT, planned: what it takes and changes so that a row of this key and payload stands behind the
-/// last of the first page with room, or the first refusal.
-pub fn plan_insert<V: PlanView>(
+// A row goes into a table.
+fn insert_row<P: PlanPages>(
     alloc: Global,
-    view: &V,
-    table: &Name,
+    v: &mut P,
+    table: &Table,
+    row: &[u8],
+    page: &mut Page,
+    buffer: &mut Page,
+) -> Result<(), InsertStop>
+    requires geometry { table.now.geometry ≡ (P.state v.old).view.shape.geometry }
+    requires pages { table.now.pages ≡ (P.state v.old).view.shape.pages }
+    requires small { length row.now ≤ ROW_LIMIT }
+    requires row { IsTrue (is_data_row row.now) }
+    ensures { (name : List ℕ) → DoesAs (insert_stop name) [] (P.state v.old) (P.state v.new) (row_inserted (P.state v.old).view.shape (row_of table.now.row) row.now) (value_as (λ done. reply.Rows 1 []) result) }
+{
+    let pages = pages_of(alloc, v, table)?;
+    v.take(Resource::Table(table.row.id))?;
+    place_row(v, table, &pages, row, page, buffer)
+}
+
+/// INSERT: a row of this key and payload goes into the table of this name. `geometry` and `pages` are those
+/// of the view's file.
+pub fn heap_insert<P: PlanPages>(
+    alloc: Global,
+    v: &mut P,
+    geometry: Geometry,
+    pages: u32,
+    name: &Name,
     key: u64,
     payload: &[u8],
-) -> Result<Plan, NoMemory>
-    requires { length payload.now ≤ PAYLOAD_LIMIT }
-    ensures { IfOk result (λ plan. outcome_of plan ≡ spec.insert_outcome (V.sight view.now) table.now key payload.now) }
+) -> Result<(), InsertStop>
+    requires geometry { geometry ≡ (P.state v.old).view.shape.geometry }
+    requires pages { pages ≡ (P.state v.old).view.shape.pages }
+    requires payload { length payload.now ≤ PAYLOAD_LIMIT }
+    ensures { DoesAs (insert_stop name.now) [] (P.state v.old) (P.state v.new) (spec.insert_plan (P.state v.old).view.shape name.now key payload.now) (value_as (λ done. reply.Rows 1 []) result) }
 {
-    let mut buffer = [0; ROW_LIMIT];
-    let size = heap_row(key, payload, &mut buffer);
-    match insert(alloc, view, table, &buffer[..size as usize]) {
-        Ok(plan) => Ok(plan),
-        Err(Stop::Refused(refusal)) => Ok(Plan::Refused(refusal)),
-        Err(Stop::NoMemory) => Err(NoMemory),
-    }
+    let mut page = page_room(alloc)?;
+    let mut buffer = page_room(alloc)?;
+    let mut bytes = [0; ROW_LIMIT];
+    let size = heap_row(key, payload, &mut bytes);
+    let row = find_table(alloc, v, name)?;
+    let table = Table {
+        row,
+        geometry,
+        pages,
+    };
+    insert_row(
+        alloc,
+        v,
+        &table,
+        &bytes[..size as usize],
+        &mut page,
+        &mut buffer,
+    )
 }

@@ -12,9 +12,9 @@ use Rattle.db_locks.specs.declared.plan_pages.PageStop.TheVariants.{Held, Fault,
 use Rattle.db_alloc.specs.Results.{find_stop}
 use Rattle.db_alloc.specs.declared.find.FindStop.{FindStop}
 use Rattle.db_alloc.specs.declared.find.FindStop.TheVariants.{Page, NoTable}
-use Rattle.heap_plans.specs.InsertPlans.{insert_stop}
-use Rattle.heap_plans.specs.declared.insert.InsertStop.{InsertStop}
-use Rattle.heap_plans.specs.declared.insert.InsertStop.TheVariants.{Find, NoRoom}
+use Rattle.db_heap.specs.InsertPlans.{insert_stop}
+use Rattle.db_heap.specs.declared.insert.InsertStop.{InsertStop}
+use Rattle.db_heap.specs.declared.insert.InsertStop.TheVariants.{Find, NoRoom}
 use Rattle.db_plan.specs.declared.planned.PlanAt.{PlanAt}
 use Rattle.db_plan.specs.Refusals.{refusal_of, Tells}
 use Rattle.db_plan.specs.Plans.{MayRefuse, Stopped, Failed, Short, HasCauses, IsPlannedAs}

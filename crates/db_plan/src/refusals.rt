@@ -3,12 +3,12 @@ ghost use Rattle.std.specs.Prelude.{◌≡◌, ◌⊎◌};
 ghost use Rattle.spec_plan.specs.Refusals as spec;
 ghost use Rattle.db_locks.specs.Does.{stop_of};
 ghost use Rattle.db_alloc.specs.Results.{find_stop};
-ghost use Rattle.heap_plans.specs.InsertPlans.{insert_stop};
+ghost use Rattle.db_heap.specs.InsertPlans.{insert_stop};
 ghost use Rattle.db_plan.specs.Refusals.{Tells};
 
 use db_alloc::FindStop;
 use db_locks::PageStop;
-use heap_plans::InsertStop;
+use db_heap::InsertStop;
 use spec_script::{BAD_PAGE, HELD, NO_MEMORY, NO_ROOM, NO_TABLE, Name, READ_FAULT, Refusal};
 use std::alloc::Global;
 

@@ -14,7 +14,7 @@ use crate::limits::{exceeds, planned_bytes};
 use crate::refusals::{of_find, of_insert, out_of_memory};
 use crate::{Plan, PlanAt};
 use db_locks::PlanPages;
-use heap_plans::{heap_count, heap_insert};
+use db_heap::{heap_count, heap_insert};
 use net_changes::{net_changes, net_takes};
 use spec_file::{NoMemory, Resource};
 use spec_log::Values;

@@ -2,7 +2,7 @@
 use crate::made::{HEAP, locks_on, pages_of};
 use db_alloc::FindStop;
 use db_locks::{LockTable, MemView, PageStop};
-use heap_plans::heap_count;
+use db_heap::heap_count;
 use pg_base::{ExtentNo, Geometry, ObjId, Page, PageNo, Resource, Tran};
 use rows_files::pieces::Piece;
 use rows_files::pieces::Piece::Bytes;

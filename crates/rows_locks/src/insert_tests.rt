@@ -2,7 +2,7 @@
 use crate::made::{HEAP, locks_on, pages_of};
 use db_alloc::FindStop;
 use db_locks::{LockTable, MemView, PageStop, PlanPages};
-use heap_plans::{InsertStop, heap_insert};
+use db_heap::{InsertStop, heap_insert};
 use pg_base::{Geometry, ObjId, Page, PageNo, Resource, Tran};
 use rows_files::pieces::Piece;
 use rows_files::pieces::Piece::{Bytes, Pfs, Rows};

@@ -2,9 +2,9 @@
 ghost use Rattle.std.specs.Prelude.{◌≡◌, [], ◌∷◌, Some, true, false};
 ghost use Rattle.spec_log.specs.Limits.{passes_limit};
 ghost use Rattle.spec_log.specs.declared.item.Record.TheVariants.{Start};
-ghost use Rattle.spec_plan.specs.Sight.{Counts};
-ghost use Rattle.spec_run.specs.Begun.{begun_by};
-ghost use Rattle.spec_run.specs.Sights.{by_outcome};
+ghost use Rattle.spec_script.specs.declared.reply.Reply.TheVariants.{Rows};
+ghost use Rattle.spec_words.specs.Views.{View, Gives};
+ghost use Rattle.spec_run.specs.Begun.{begun_by, by_end};
 
 /// A limit is passed by one more: 8,192 changes of a transaction, 1,048,576 changes and Undos in all, 268,435,456 bytes.
 /// Each log has one Start, which announces so many changes of so many bytes, and a statement of transaction 1 makes one
@@ -22,5 +22,5 @@ pub fn limit_vectors()
 /// Where memory runs out at a COUNT of session 1 that has no transaction open, a refusal 701 stands for all of it: it
 /// belongs to no transaction, and changes and takes nothing.
 pub fn want_vectors()
-    ensures { (begun_by 1 1 0 (by_outcome [] 0 (Counts 7))).want ≡ Some (Start 1 1 (record { 0 = 0 }) 701 0 0 []) }
+    ensures { (view : View) → view.taken ≡ [] → (begun_by 1 1 0 (by_end [] 0 (Gives (Rows 7 []) view))).want ≡ Some (Start 1 1 (record { 0 = 0 }) 701 0 0 []) }
 {}

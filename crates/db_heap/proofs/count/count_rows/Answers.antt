@@ -1,31 +1,36 @@
-use Rattle.std.proofs.Common.{ℕ, ◌+◌, drop, ap, sym, ◌∙◌, arith}
-use Rattle.spec_rows.specs.Slots.{slot_count}
-use Rattle.spec_plan.specs.Statements.{counted}
+use Rattle.std.proofs.Common.{◌<◌, sym, ap, ◌∙◌, arith}
+use Rattle.spec_words.specs.NetChanges.{FileShape}
 use Rattle.db_cat.specs.Rows.{row_of}
-use Rattle.db_heap.specs.Heaps.{numbers, IsByteFree}
-use Rattle.db_heap.proofs.ReadsLaws.{answers_then, answers_exit}
-use Rattle.db_heap.proofs.Lists.{all_at, drop_at}
+use Rattle.db_alloc.specs.Tables.{numbers}
+use Rattle.db_alloc.proofs.Lists.{drop_at, drop_none, all_at}
+use Rattle.db_heap.proofs.CountSteps.{counted_begin, counted_step, counted_exit, counted_end}
 use Rattle.db_heap.proofs.count.count_rows.Goals as goal
 
-pub read_heap_page-requires : goal.read_heap_page-requires
-read_heap_page-requires g c = (all_at (IsByteFree (g.V.PlanView.sight c.args.view.now) (g.V.PlanView.file c.args.view.now)) c.args.pages.now c.loop-p.p-index _ c.loop-p-test.true c.requires.free).inside
+pub read_heap_page-requires-clause-geometry : goal.read_heap_page-requires-clause-geometry
+read_heap_page-requires-clause-geometry g c = c.requires.geometry ∙ ap (λ (shape : FileShape). shape.geometry) (sym c.loop-p.invariant.counted.leads.stays.shape)
 
-pub returns-in_err-read_heap_page : goal.returns-in_err-read_heap_page
-returns-in_err-read_heap_page g c =
-    let sight = g.V.PlanView.sight c.args.view.now in
-    let row = row_of c.args.row.now in
-    answers_then _ _ (c.loop-p.invariant.counted ∙ ap (counted sight row c.loop-p.sum) (drop_at c.args.pages.now c.loop-p.p-index _ c.loop-p-test.true))
-    (answers_exit _ _ _ _ (c.in_err-read_heap_page.ensures.passes _) c.from_residual.ensures.1)
+pub read_heap_page-requires-clause-pages : goal.read_heap_page-requires-clause-pages
+read_heap_page-requires-clause-pages g c = c.requires.pages ∙ ap (λ (shape : FileShape). shape.pages) (sym c.loop-p.invariant.counted.leads.stays.shape)
+
+pub read_heap_page-requires-clause-inside : goal.read_heap_page-requires-clause-inside
+read_heap_page-requires-clause-inside g c = all_at (λ p. p < c.args.table.now.pages) c.args.pages.now c.loop-p.p-index (record { 0 = 0 }) c.loop-p-test.true c.requires.inside
+
+pub loop-p-init : goal.loop-p-init
+loop-p-init g c = record { counted = counted_begin (g.P.PlanPages.state c.args.v.now) (row_of c.args.table.now.row) (numbers c.args.pages.now); low = omega arith }
 
 pub loop-p-preserved : goal.loop-p-preserved
 loop-p-preserved g c =
-    let sight = g.V.PlanView.sight c.args.view.now in
-    let row = row_of c.args.row.now in
-    let slots = ap slot_count (sym (c.page.ensures ∙ c.in_ok-read_heap_page.ensures.seen.same)) ∙ sym c.row_count.ensures in
-    let few = c.loop-p.invariant.small in
+    let low = c.loop-p.invariant.low in
     record {
-      counted = c.loop-p.invariant.counted ∙ ap (counted sight row c.loop-p.sum) (drop_at c.args.pages.now c.loop-p.p-index _ c.loop-p-test.true)
-          ∙ c.in_ok-read_heap_page.ensures.passes _
-          ∙ ap (λ (n : ℕ). counted sight row (c.loop-p.sum + n) (numbers (drop (c.loop-p.p-index + 1) c.args.pages.now))) slots;
-      small = omega arith;
+      counted = counted_step (row_of c.args.table.now.row) (numbers c.args.pages.now) _ _ _ c.loop-p.sum _ _ (drop_at c.args.pages.now c.loop-p.p-index (record { 0 = 0 }) c.loop-p-test.true) c.loop-p.invariant.counted
+          c.in_ok-read_heap_page.ensures.does c.row_count.ensures;
+      low = omega (arith, low);
     }
+
+pub returns-in_err-read_heap_page : goal.returns-in_err-read_heap_page
+returns-in_err-read_heap_page g c =
+    counted_exit (row_of c.args.table.now.row) (numbers c.args.pages.now) _ _ _ c.loop-p.sum _ _ (drop_at c.args.pages.now c.loop-p.p-index (record { 0 = 0 }) c.loop-p-test.true) c.loop-p.invariant.counted
+    c.in_err-read_heap_page.ensures.does c.from_residual.ensures.1
+
+pub returns : goal.returns
+returns g c = counted_end (row_of c.args.table.now.row) (numbers c.args.pages.now) _ c.loop-p.sum (drop_none c.args.pages.now c.loop-p.p-index c.loop-p-test.false) c.loop-p.invariant.counted

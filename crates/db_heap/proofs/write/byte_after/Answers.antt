@@ -1,16 +1,16 @@
-use Rattle.std.proofs.Common.{ap, ◌∙◌, arith}
-use Rattle.spec_plan.specs.Rows.{free_count}
-use Rattle.db_heap.proofs.Inserting.{has_room_from}
+use Rattle.std.proofs.Common.{arith}
+use Rattle.db_heap.proofs.RowSteps.{free_few, room_holds}
 use Rattle.db_heap.proofs.write.byte_after.Goals as goal
 
 pub overflow_add-size : goal.overflow_add-size
-overflow_add-size g c =
-    let room = has_room_from _ _ _ _ c.requires.heap.passes c.requires.room in
-    let free = c.free_bytes-free.ensures ∙ ap free_count c.page.ensures in
-    omega arith
+overflow_add-size c =
+    let room = room_holds _ _ c.requires.room in
+    let few = free_few _ _ _ c.requires.heap.2 in
+    omega (arith, room, few)
 
 pub byte_with-requires : goal.byte_with-requires
-byte_with-requires g c =
-    let room = has_room_from _ _ _ _ c.requires.heap.passes c.requires.room in
-    let free = c.free_bytes-free.ensures ∙ ap free_count c.page.ensures in
+byte_with-requires c =
+    let room = room_holds _ _ c.requires.room in
+    let few = free_few _ _ _ c.requires.heap.2 in
+    let free = c.free_bytes.ensures in
     omega arith

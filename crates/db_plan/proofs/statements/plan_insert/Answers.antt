@@ -4,7 +4,7 @@ use Rattle.spec_script.specs.declared.reply.Reply.TheVariants.{Rows}
 use Rattle.spec_words.specs.NetChanges.{FileShape}
 use Rattle.spec_words.specs.Heaps as spec
 use Rattle.law_net.proofs.InsertTakes.{insert_takes}
-use Rattle.heap_plans.specs.InsertPlans.{insert_stop}
+use Rattle.db_heap.specs.InsertPlans.{insert_stop}
 use Rattle.db_plan.specs.Plans.{WritesBy}
 use Rattle.db_plan.proofs.Ends.{wrote}
 use Rattle.db_plan.proofs.Refused.{refused_by, insert_other}

@@ -11,6 +11,7 @@ use Rattle.spec_script.specs.Replies.{text_of}
 use Rattle.spec_run.specs.Begun.{Setting}
 use Rattle.spec_run.specs.Entries.{Entry, items_of}
 use Rattle.spec_run.specs.Answers.{is_terminated}
+use Rattle.spec_run.specs.ChangedPages.{is_changed}
 use Rattle.db_core.proofs.Reports.{none_terminated}
 use Rattle.spec_log.specs.declared.limits.TheConstants.{LONGEST_LOG}
 use Rattle.run_file.specs.Opening.{IsRunFile}
@@ -62,7 +63,7 @@ closed_as : (lefts : List (Option (List ℕ))) (file log : Option (List ℕ)) (r
     (s : Status) → IsRunOf lefts file log run entries → Closes run entries file file_now log log_now out out_now s
     → IsWholeEnd s ⊎ ((d : Device) × (s ≡ status.Device d))
 closed_as lefts file log run entries file_now log_now out out_now s is closes = by_writes closes.writes where
-  by_writes : Writes (log_bytes (items_of entries)) closes.changed (last_of run entries) (text_of closes.replies) (ended_as (items_of entries) closes.replies)
+  by_writes : Writes (log_bytes (items_of entries)) (is_changed (items_of entries)) (last_of run entries) (text_of closes.replies) (ended_as (items_of entries) closes.replies)
       file file_now log log_now out out_now s → IsWholeEnd s ⊎ ((d : Device) × (s ≡ status.Device d))
   by_writes (AllWritten said a b c) = inl (closed_whole lefts file log run entries file_now log_now out out_now s is closes said)
   by_writes (AtSink said a b c) = inr (device.Sink, said)

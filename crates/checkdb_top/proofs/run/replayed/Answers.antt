@@ -30,7 +30,7 @@ returns c =
       counts = made.0;
       rest = size;
       left = left_in c.in_ok-core.core;
-      after = left_in c.replay.new.core;
+      after = left_in c.replay.new.self;
       taken = rw same (rw (begun.1, c.deref.ensures.value) at made.2);
       whole = c.replay.ensures.whole;
     }

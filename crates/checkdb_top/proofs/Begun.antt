@@ -11,8 +11,8 @@ use Rattle.spec_file.specs.Places.{HasShape}
 use Rattle.law_run.specs.Laws.{IsStart}
 use Rattle.spec_run.specs.Schedules.{setting_of}
 use Rattle.db_core.specs.States.{Db}
-use Rattle.run_file.specs.Opening.{AreAllPages}
-use Rattle.run_file.specs.Sources.{AreTexts, AreTurnsOf}
+use Rattle.spec_start.specs.Files.{AreAllPages}
+use Rattle.spec_start.specs.Sources.{AreTexts, AreTurnsOf}
 use Rattle.checkdb_top.specs.declared.start.Start.{Start}
 use Rattle.checkdb_top.specs.Start.{Begins}
 use Rattle.checkdb_top.specs.Runs.{IsRunOf}

@@ -15,7 +15,7 @@ use Rattle.spec_run.specs.Turns.{IsLegalRun}
 use Rattle.spec_run.specs.Entries.{Entry, items_of}
 use Rattle.spec_run.specs.ChangedPages.{changes_page, is_changed}
 use Rattle.vol_pool.specs.Writing.{Leaves, SameUnmarked, StopsWriting, is_marked, written_bytes}
-use Rattle.run_file.specs.Opening.{AreAllPages}
+use Rattle.spec_start.specs.Files.{AreAllPages}
 use Rattle.run_close.specs.declared.close.Close.{Close}
 use Rattle.run_close.specs.Close.{IsCloseOf, MayClose}
 use Rattle.run_close.proofs.Closing.{length_final, may_close}

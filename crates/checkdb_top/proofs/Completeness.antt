@@ -2,9 +2,9 @@
 use Rattle.std.proofs.Common.{◌≡◌, ℕ, IsTrue, false, List, Option, Some, None, IfSome, length, refl, sym, ap, ◌∙◌, subst, inl, inr}
 use Rattle.spec_file.specs.Image.{pages_of}
 use Rattle.spec_file.specs.FileForm.{size_passes}
-use Rattle.run_file.specs.declared.why.FileWhy.{FileWhy}
-use Rattle.run_file.specs.declared.why.FileWhy.TheVariants as why
-use Rattle.run_file.specs.Opening.{file_fault}
+use Rattle.spec_start.specs.declared.why.FileWhy.{FileWhy}
+use Rattle.spec_start.specs.declared.why.FileWhy.TheVariants as why
+use Rattle.spec_start.specs.Files.{file_fault}
 use Rattle.checkdb_top.specs.declared.status.Device.TheVariants as device
 use Rattle.checkdb_top.specs.declared.status.Status.{Status}
 use Rattle.checkdb_top.specs.declared.status.Status.TheVariants as status

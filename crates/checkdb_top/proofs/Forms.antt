@@ -3,9 +3,9 @@ use Rattle.std.proofs.Common.{◌≡◌, ℕ, Bool, true, false, IsTrue, not, if
 use Rattle.std.specs.Option.{ForSome}
 use Rattle.spec_file.specs.Image.{pages_of, page}
 use Rattle.spec_file.specs.FileForm.{size_passes}
-use Rattle.run_file.specs.declared.why.FileWhy.{FileWhy}
-use Rattle.run_file.specs.declared.why.FileWhy.TheVariants as why
-use Rattle.run_file.specs.Opening.{opening_fault, file_fault}
+use Rattle.spec_start.specs.declared.why.FileWhy.{FileWhy}
+use Rattle.spec_start.specs.declared.why.FileWhy.TheVariants as why
+use Rattle.spec_start.specs.Files.{opening_fault, file_fault}
 use Rattle.run_file.proofs.OpeningLaws.{after_size}
 use Rattle.checkdb_top.specs.Form.{IsRefusedFor, Passes}
 

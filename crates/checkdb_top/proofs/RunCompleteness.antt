@@ -14,9 +14,9 @@ use Rattle.spec_run.specs.Answers.{is_terminated}
 use Rattle.spec_run.specs.ChangedPages.{is_changed}
 use Rattle.db_core.proofs.Reports.{none_terminated}
 use Rattle.spec_log.specs.declared.limits.TheConstants.{LONGEST_LOG}
-use Rattle.run_file.specs.Opening.{IsRunFile}
+use Rattle.spec_start.specs.Files.{IsRunFile}
 use Rattle.run_file.proofs.OpeningLaws.{not_refused, one_refusal, run_file}
-use Rattle.run_file.specs.Sources.{AreKnown, IsFirstOf}
+use Rattle.spec_start.specs.Sources.{AreKnown, IsFirstOf}
 use Rattle.run_file.proofs.SourcesLaws.{none_wrong, one_first}
 use Rattle.checkdb_top.specs.declared.status.Device.{Device}
 use Rattle.checkdb_top.specs.declared.status.Device.TheVariants as device

@@ -3,7 +3,8 @@ use Rattle.std.proofs.Common.{◌≢◌, ℕ, List, Option, Err, refl, sym}
 use Rattle.std.specs.Prelude.{IsErrOf}
 use Rattle.run_file.specs.Log.{LogFault}
 use Rattle.run_file.specs.Opening.{FileFault}
-use Rattle.run_file.specs.Sources.{HasFailedSource, SourcesFault}
+use Rattle.spec_start.specs.Sources.{HasFailedSource}
+use Rattle.run_file.specs.Sources.{SourcesFault}
 use Rattle.run_file.specs.declared.stop.SourcesStop.{SourcesStop}
 use Rattle.run_file.specs.declared.stop.SourcesStop.TheVariants as sources
 use Rattle.run_file.specs.declared.why.FileStop.{FileStop}
@@ -13,7 +14,8 @@ use Rattle.run_file.specs.declared.log.LogWhy.TheVariants as log
 use Rattle.checkdb_top.specs.declared.status.Device.{Device}
 use Rattle.checkdb_top.specs.declared.status.Device.TheVariants as device
 use Rattle.checkdb_top.specs.Answers.{IsDevice}
-use Rattle.checkdb_top.specs.Start.{HasForm, HaveTexts, StopsStart, sources_start, file_start, log_start}
+use Rattle.checkdb_top.specs.Start.{HasForm, HaveTexts, StopsStart}
+use Rattle.checkdb_top.specs.StartStops.{sources_start, file_start, log_start}
 
 pub sources_apart : (d : Device) (stop : SourcesStop) → d ≢ device.Source → IsDevice d (sources_start stop) → ⊥
 sources_apart d (sources.Fault k line why) other is = is

@@ -4,7 +4,7 @@ use Rattle.std.specs.Io.KnownBytes.{append_known}
 use Rattle.spec_file.specs.Image.{Image, pages_of}
 use Rattle.spec_file.specs.FileForm.{size_passes}
 use Rattle.vol_dev.specs.Devices.{WroteFront}
-use Rattle.run_file.specs.declared.why.FileWhy.{FileWhy}
+use Rattle.spec_start.specs.declared.why.FileWhy.{FileWhy}
 use Rattle.pg_base.specs.declared.reader.ReadStop.{ReadStop}
 use Rattle.pg_base.specs.declared.reader.ReadStop.TheVariants.{Fault, Ended, NoMemory}
 use Rattle.checkdb_top.specs.declared.status.Device.{Device}

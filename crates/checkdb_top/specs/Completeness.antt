@@ -2,11 +2,11 @@
 use Rattle.std.specs.Prelude.{◌≡◌, ◌≢◌, ◌⊎◌, ℕ, ◌<◌, ◌≤◌, false, List, [], length, Option, Some}
 use Rattle.spec_file.specs.Image.{Image, pages_of}
 use Rattle.spec_file.specs.FileForm.{size_passes}
-use Rattle.run_file.specs.declared.why.FileWhy.{FileWhy}
-use Rattle.run_file.specs.declared.why.FileWhy.TheVariants.{Size}
+use Rattle.spec_start.specs.declared.why.FileWhy.{FileWhy}
+use Rattle.spec_start.specs.declared.why.FileWhy.TheVariants.{Size}
 use Rattle.spec_log.specs.declared.limits.TheConstants.{LONGEST_LOG}
-use Rattle.run_file.specs.Opening.{IsRefusedForRun, IsRunFile}
-use Rattle.run_file.specs.Sources.{IsFirstOf}
+use Rattle.spec_start.specs.Files.{IsRefusedForRun, IsRunFile}
+use Rattle.spec_start.specs.Sources.{IsFirstOf}
 use Rattle.spec_script.specs.declared.stop.ScriptWhy.{ScriptWhy}
 use Rattle.checkdb_top.specs.declared.status.Status.{Status}
 use Rattle.checkdb_top.specs.declared.status.Status.TheVariants as status

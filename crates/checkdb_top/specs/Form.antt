@@ -3,8 +3,8 @@ use Rattle.std.specs.Prelude.{◌≡◌, ℕ, List, Some, None}
 use Rattle.spec_file.specs.declared.geometry.Geometry.{Geometry}
 use Rattle.spec_file.specs.Image.{pages_of, page}
 use Rattle.spec_file.specs.FileForm.{geometry_of}
-use Rattle.run_file.specs.declared.why.FileWhy.{FileWhy}
-use Rattle.run_file.specs.Opening.{file_fault}
+use Rattle.spec_start.specs.declared.why.FileWhy.{FileWhy}
+use Rattle.spec_start.specs.Files.{file_fault}
 
 -- the file is refused for the first of its tests that fails
 abbrev pub IsRefusedFor : FileWhy → List ℕ → Type 0

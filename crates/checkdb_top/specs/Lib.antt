@@ -8,3 +8,4 @@ pub mod Start
 pub mod Writes
 pub mod Runs
 pub mod Readiness
+pub mod StartStops

@@ -12,7 +12,7 @@ use Rattle.spec_run.specs.Bounds.{TurnsLeft, RunWithin}
 use Rattle.spec_file.specs.Places.{HasShape}
 use Rattle.spec_run.specs.Schedules.{rest_from, setting_of, turns_of}
 use Rattle.db_core.specs.States.{Db}
-use Rattle.run_file.specs.Sources.{AreShort, AreTurnsOf}
+use Rattle.spec_start.specs.Sources.{AreShort, AreTurnsOf}
 use Rattle.checkdb_top.specs.declared.start.Start.{Start}
 use Rattle.checkdb_top.specs.Runs.{AreStatements}
 

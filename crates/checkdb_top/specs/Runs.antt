@@ -25,8 +25,8 @@ use Rattle.spec_run.specs.ChangedPages.{is_changed}
 use Rattle.law_shape.specs.Answered.{AreAnswered}
 use Rattle.spec_run.specs.Answers.{is_terminated}
 use Rattle.spec_run.specs.Schedules.{rest_from, setting_of, turns_of}
-use Rattle.run_file.specs.Sources.{AreTexts}
-use Rattle.run_file.specs.Opening.{AreAllPages}
+use Rattle.spec_start.specs.Sources.{AreTexts}
+use Rattle.spec_start.specs.Files.{AreAllPages}
 use Rattle.checkdb_top.specs.Answers.{ended}
 use Rattle.checkdb_top.specs.Printings.{is_some_error}
 use Rattle.checkdb_top.specs.Start.{IsEmptyLog, StopsStart}

@@ -5,34 +5,12 @@ use Rattle.spec_file.specs.Image.{Image}
 use Rattle.spec_file.specs.Places.{HasShape}
 use Rattle.spec_plan.specs.ReplayForm.{IsReplayForm}
 use Rattle.spec_script.specs.declared.statement.Statement.{Statement}
-use Rattle.run_file.specs.declared.stop.SourcesStop.{SourcesStop}
-use Rattle.run_file.specs.declared.stop.SourcesStop.TheVariants as sources
-use Rattle.run_file.specs.declared.why.FileStop.{FileStop}
-use Rattle.run_file.specs.declared.why.FileStop.TheVariants as file
-use Rattle.run_file.specs.declared.log.LogWhy.{LogWhy}
-use Rattle.run_file.specs.declared.log.LogWhy.TheVariants as log
 use Rattle.checkdb_top.specs.declared.status.Device.TheVariants as device
 use Rattle.checkdb_top.specs.declared.status.Status.{Status}
 use Rattle.checkdb_top.specs.declared.status.Status.TheVariants as status
-use Rattle.run_file.specs.Sources.{AreProper, AreShort, AreTexts, AreTurnsOf, IsFirstOf}
-use Rattle.run_file.specs.Opening.{AreAllPages, IsRefusedForRun, IsRunFile}
+use Rattle.spec_start.specs.Sources.{AreProper, AreShort, AreTexts, AreTurnsOf, IsFirstOf}
+use Rattle.spec_start.specs.Files.{AreAllPages, IsRefusedForRun, IsRunFile}
 use Rattle.spec_log.specs.declared.limits.TheConstants.{LONGEST_LOG}
-
-abbrev pub sources_start : SourcesStop → Status
-sources_start (sources.Fault k line why) = status.Script k line why
-sources_start sources.Failed = status.Device device.Source
-sources_start sources.NoMemory = status.Memory
-
-abbrev pub file_start : FileStop → Status
-file_start (file.Refused why) = status.File why
-file_start file.Failed = status.Device device.Volume
-file_start file.NoMemory = status.Memory
-
-abbrev pub log_start : LogWhy → Status
-log_start log.Size = status.LogSize
-log_start log.Later = status.LogLater
-log_start log.Failed = status.Device device.Log
-log_start log.NoMemory = status.Memory
 
 abbrev pub IsEmptyLog : List ℕ → Type 0
 IsEmptyLog bytes = bytes ≡ []

@@ -11,7 +11,8 @@ ghost use Rattle.checkdb_top.specs.declared.status.Device.TheVariants.{Volume, S
 use crate::reader::VolumeReader;
 use crate::{Device, Status};
 use pg_base::{Geometry, PAGE_SIZE, PageNo, ReadStop, read_page};
-use run_file::{FileWhy, passes_size, tested_geometry};
+use run_file::{passes_size, tested_geometry};
+use spec_start::FileWhy;
 use std::alloc::Global;
 
 /// A file that has passed its tests.

@@ -12,7 +12,7 @@ mod status;
 mod top;
 
 pub use gate::{Gate, NoGate, Point};
-pub use run_file::FileWhy;
 pub use spec_script::ScriptWhy;
+pub use spec_start::FileWhy;
 pub use status::{Device, Status};
 pub use top::{Outcome, plain_top};

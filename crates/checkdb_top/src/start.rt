@@ -3,9 +3,10 @@ ghost use Rattle.std.specs.Prelude.{◌≡◌, ◌-◌, ◌<◌, ◌≤◌, All,
 ghost use Rattle.std.specs.Io.KnownBytes.{IsAtEnd};
 ghost use Rattle.pg_base.specs.Faults.{Counts};
 ghost use Rattle.vol_dev.specs.Files.{ReadsFile};
-ghost use Rattle.run_file.specs.Sources.{HasFailedSource, NoneFell};
+ghost use Rattle.spec_start.specs.Sources.{HasFailedSource, NoneFell};
 ghost use Rattle.checkdb_top.specs.Answers.{IsDevice};
-ghost use Rattle.checkdb_top.specs.Start.{Begins, StopsStart, sources_start, file_start, log_start};
+ghost use Rattle.checkdb_top.specs.Start.{Begins, StopsStart};
+ghost use Rattle.checkdb_top.specs.StartStops.{sources_start, file_start, log_start};
 ghost use Rattle.checkdb_top.specs.declared.status.Device.TheVariants.{Volume, Log, Source, Sink};
 
 use crate::{Device, Status};

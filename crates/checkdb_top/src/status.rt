@@ -2,8 +2,8 @@
 ghost use Rattle.std.specs.Prelude.{◌≡◌};
 ghost use Rattle.checkdb_top.specs.Status.{code_of};
 
-use run_file::FileWhy;
 use spec_script::ScriptWhy;
+use spec_start::FileWhy;
 
 /// The device that failed.
 #[derive(Clone, Copy, Debug, PartialEq, Eq)]

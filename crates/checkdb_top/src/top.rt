@@ -3,7 +3,7 @@ ghost use Rattle.pg_base.specs.Faults.{Rose, Counts};
 ghost use Rattle.app_words.specs.Words.{first_wrong, Asks, AsksStill};
 ghost use Rattle.app_words.specs.declared.command.Command.TheVariants.{Check, ShowPage, Replay};
 ghost use Rattle.spec_file.specs.declared.data.PageNo.{PageNo};
-ghost use Rattle.run_file.specs.Sources.{AreKnown, HasFailedSource, NoneFell, OneRose};
+ghost use Rattle.spec_start.specs.Sources.{AreKnown, HasFailedSource, NoneFell, OneRose};
 ghost use Rattle.checkdb_top.specs.Runs.{Ends};
 ghost use Rattle.checkdb_top.specs.Answers.{Answers, IsDevice, IsWordsAt};
 ghost use Rattle.checkdb_top.specs.Completeness.{Completes, CompletesRun};

@@ -1,6 +1,6 @@
 // Sessions that take turns over one file, and what each holds.
 ghost use Rattle.std.specs.Prelude.{◌≡◌, [], ◌∷◌, IfOk, length, map};
-ghost use Rattle.run_file.specs.Sources.{AreProper, AreShort, AreTurnsOf};
+ghost use Rattle.spec_start.specs.Sources.{AreProper, AreShort, AreTurnsOf};
 ghost use Rattle.spec_file.specs.Places.{HasShape};
 ghost use Rattle.spec_file.specs.declared.geometry.Geometry.TheVariants.{Small};
 ghost use Rattle.spec_log.specs.Cells.{HasWholePages};

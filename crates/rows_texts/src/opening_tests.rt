@@ -1,7 +1,8 @@
 // The file and the log of a run are opened.
 use crate::expect::expect_same;
 use pg_base::PageNo;
-use run_file::{FileStop, FileWhy, LogWhy, open_file, open_log};
+use run_file::{FileStop, LogWhy, open_file, open_log};
+use spec_start::FileWhy;
 use std::alloc::Global;
 use std::process::Abort;
 use vol_dev::{FailAt, MemLog, MemVolume};

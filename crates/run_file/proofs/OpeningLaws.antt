@@ -5,9 +5,9 @@ use Rattle.spec_file.specs.Image.{Image, page_size, pages_of, page}
 use Rattle.spec_file.proofs.ImageLaws.{length-pages_of}
 use Rattle.spec_file.specs.FileForm.{size_passes, header_passes, version_passes, geometry_of, count_passes}
 use Rattle.spec_plan.specs.ReplayForm.{IsReplayForm}
-use Rattle.run_file.specs.declared.why.FileWhy.{FileWhy}
-use Rattle.run_file.specs.declared.why.FileWhy.TheVariants as why
-use Rattle.run_file.specs.Opening.{count_fault, opening_fault, file_fault, AreAllPages, IsRefusedForRun, IsRunFile}
+use Rattle.spec_start.specs.declared.why.FileWhy.{FileWhy}
+use Rattle.spec_start.specs.declared.why.FileWhy.TheVariants as why
+use Rattle.spec_start.specs.Files.{count_fault, opening_fault, file_fault, AreAllPages, IsRefusedForRun, IsRunFile}
 
 first_of : (size : Bool) (fault : Option FileWhy) → size ≡ true → (if not size then Some why.Size else fault) ≡ fault
 first_of size fault passes = rw passes refl

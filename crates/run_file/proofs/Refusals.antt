@@ -11,10 +11,11 @@ use Rattle.spec_log.specs.Cells.{HasWholePages}
 use Rattle.spec_plan.specs.ReplayForm.{IsReplayForm}
 use Rattle.run_file.specs.declared.why.FileStop.{FileStop}
 use Rattle.run_file.specs.declared.why.FileStop.TheVariants.{Refused, Failed, NoMemory}
-use Rattle.run_file.specs.declared.why.FileWhy.{FileWhy}
-use Rattle.run_file.specs.declared.why.FileWhy.TheVariants as why
+use Rattle.spec_start.specs.declared.why.FileWhy.{FileWhy}
+use Rattle.spec_start.specs.declared.why.FileWhy.TheVariants as why
 use Rattle.run_file.specs.Form.{IsSmallFirst, IsSmallFile}
-use Rattle.run_file.specs.Opening.{count_fault, opening_fault, file_fault, IsRefusedForRun, IsLater, IsLeftOutBy, FileFault, AreAllPages, HasPages}
+use Rattle.spec_start.specs.Files.{count_fault, opening_fault, file_fault, IsRefusedForRun, AreAllPages}
+use Rattle.run_file.specs.Opening.{IsLater, IsLeftOutBy, FileFault, HasPages}
 use Rattle.run_file.proofs.OpeningLaws.{after_size, passes_first}
 
 -- page 0 of a told file decides

@@ -17,7 +17,8 @@ use Rattle.run_file.specs.declared.stop.SourcesStop.TheVariants as stop
 use Rattle.run_file.specs.declared.stop.TextStop.{TextStop}
 use Rattle.run_file.specs.declared.stop.TextStop.TheVariants as text
 use Rattle.run_file.specs.Stops.{sources_stop}
-use Rattle.run_file.specs.Sources.{AreProper, AreScripts, AreShort, NoneFell, TextFault, FaultAt, ScriptsFault, SourcesFault, IsFirstWrong}
+use Rattle.spec_start.specs.Sources.{AreProper, AreScripts, AreShort, NoneFell, IsFirstWrong}
+use Rattle.run_file.specs.Sources.{TextFault, FaultAt, ScriptsFault, SourcesFault}
 
 -- the first k of the sources are read to their ends, and the others are as they were
 pub record AreReadTo {S : Type 0} (left : S → Option (List ℕ)) (faults : S → ℕ) (old now : List S) (scripts : List (List Statement)) (k : ℕ) : Type 0 where

@@ -7,7 +7,7 @@ use Rattle.spec_script.specs.declared.stop.ScriptWhy.{ScriptWhy}
 use Rattle.spec_script.specs.Lines.{IsStatementLine, IsTurnsLine}
 use Rattle.spec_script.specs.Texts.{IsScript, IsText, IsWrongAt}
 use Rattle.sql_script.proofs.OneReading.{never_both, one_fault}
-use Rattle.run_file.specs.Sources.{AreKnown, AreScripts, AreTexts, HasFailedSource, IsFirstOf, IsFirstWrong, OneRose, left_at}
+use Rattle.spec_start.specs.Sources.{AreKnown, AreScripts, AreTexts, HasFailedSource, IsFirstOf, IsFirstWrong, OneRose, left_at}
 
 -- the same line is named, for the same reason
 abbrev pub IsSameFault : ℕ → ℕ → ScriptWhy → ScriptWhy → Type 0

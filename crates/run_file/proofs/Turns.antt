@@ -4,7 +4,7 @@ use Rattle.std.proofs.lemmas.Bool.{and_parts, leb-true}
 use Rattle.std.proofs.lemmas.List.Elements.{All-cons}
 use Rattle.spec_script.specs.Lines.{IsTurnsLine}
 use Rattle.spec_script.specs.Texts.{AreLines}
-use Rattle.run_file.specs.Sources.{IsTurnOf, AreTurnsOf}
+use Rattle.spec_start.specs.Sources.{IsTurnOf, AreTurnsOf}
 
 turn_inside : (sessions : ℕ) (line : List ℕ) (turns : ℕ × ℕ) → IsTurnsLine sessions line turns → IsTurnOf sessions turns
 turn_inside sessions line turns is =

@@ -2,12 +2,12 @@
 ghost use Rattle.std.specs.Prelude.{◌≡◌, ◌==◌, ◌≤◌, Some, None, bytes_eq, codes, slice_range, IfOk, MatchResult};
 ghost use Rattle.spec_file.specs.Places.{page_limit as limit_of};
 ghost use Rattle.spec_file.specs.FileForm as form;
-ghost use Rattle.run_file.specs.Opening as spec;
+ghost use Rattle.spec_start.specs.Files as spec;
 
-use crate::FileWhy;
 use pg_base::{FILE_HEADER_TYPE, Geometry, Page, PageNo, is_page_of, u16_at, u32_at};
 use pg_geom::page_limit;
 use spec_file::{EXTENT_SIZE, LARGEST_FILE, SMALLEST_FILE};
+use spec_start::FileWhy;
 
 const MAGIC: [u8; 8] = *b"PGCHKDB1";
 

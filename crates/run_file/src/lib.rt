@@ -19,4 +19,4 @@ pub use log::{LogWhy, open_log};
 pub use opening::open_file;
 pub use sources::{Texts, read_sources};
 pub use stop::SourcesStop;
-pub use why::{FileStop, FileWhy};
+pub use why::FileStop;

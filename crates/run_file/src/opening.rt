@@ -7,12 +7,14 @@ ghost use Rattle.spec_file.specs.FileForm.{size_passes};
 ghost use Rattle.spec_plan.specs.ReplayForm.{IsReplayForm};
 ghost use Rattle.vol_dev.specs.Files.{ReadsFile};
 ghost use Rattle.run_file.specs.Form.{IsSmallFirst, IsSmallFile};
-ghost use Rattle.run_file.specs.Opening.{FileFault, IsLater, IsLeftOutBy, AreAllPages, HasPages};
+ghost use Rattle.spec_start.specs.Files.{AreAllPages};
+ghost use Rattle.run_file.specs.Opening.{FileFault, IsLater, IsLeftOutBy, HasPages};
 
 use crate::first_page::{passes_size, tested_geometry};
 use crate::form::has_replay_form;
-use crate::why::{FileStop, FileWhy};
+use crate::why::FileStop;
 use pg_base::{Geometry, NoMemory, PAGE_SIZE, Page, PageNo, ReadStop};
+use spec_start::FileWhy;
 use std::alloc::Global;
 use vol_dev::Volume;
 use vol_pool::Frames;

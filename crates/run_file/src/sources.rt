@@ -6,7 +6,8 @@ ghost use Rattle.pg_base.specs.Faults.{Counts};
 ghost use Rattle.spec_script.specs.Lines.{is_statement, IsStatementLine};
 ghost use Rattle.spec_script.specs.Texts.{IsScript};
 ghost use Rattle.spec_script.specs.declared.limits.TheConstants.{MOST_LINES};
-ghost use Rattle.run_file.specs.Sources.{AreProper, AreScripts, AreShort, AreTexts, AreTurnsOf, FaultAt, NoneFell, ScriptsFault, SourcesFault};
+ghost use Rattle.spec_start.specs.Sources.{AreProper, AreScripts, AreShort, AreTexts, AreTurnsOf, NoneFell};
+ghost use Rattle.run_file.specs.Sources.{FaultAt, ScriptsFault, SourcesFault};
 
 use crate::stop::{SourcesStop, of_source};
 use crate::text::{schedule_of, script_of};

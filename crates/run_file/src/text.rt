@@ -6,7 +6,8 @@ ghost use Rattle.pg_base.specs.Faults.{Counts};
 ghost use Rattle.spec_script.specs.Lines.{is_statement, IsStatementLine, IsTurnsLine};
 ghost use Rattle.spec_script.specs.Texts.{IsScript, IsSchedule};
 ghost use Rattle.spec_script.specs.declared.limits.TheConstants.{MOST_LINES};
-ghost use Rattle.run_file.specs.Sources.{AreTurnsOf, TextFault};
+ghost use Rattle.spec_start.specs.Sources.{AreTurnsOf};
+ghost use Rattle.run_file.specs.Sources.{TextFault};
 
 use crate::source::read_source;
 use crate::stop::TextStop;

@@ -1,5 +1,5 @@
 use Rattle.std.proofs.Common.{refl}
-use Rattle.run_file.specs.declared.why.FileWhy.TheVariants.{Size}
+use Rattle.spec_start.specs.declared.why.FileWhy.TheVariants.{Size}
 use Rattle.checkdb_top.specs.Answers.{Refused}
 use Rattle.checkdb_top.proofs.Forms.{told_fails}
 use Rattle.checkdb_top.proofs.file.whole_file.Goals as goal

@@ -3,7 +3,7 @@ use Rattle.std.specs.List.{list_all}
 use Rattle.std.proofs.lemmas.List.{length-map}
 use Rattle.spec_script.specs.Lines.{is_statement}
 use Rattle.spec_run.specs.Begun.{Setting}
-use Rattle.run_file.specs.Sources.{IsTurnOf}
+use Rattle.spec_start.specs.Sources.{IsTurnOf}
 use Rattle.db_core.specs.States.{left_in}
 use Rattle.checkdb_top.proofs.Running.{at_place, passes_at}
 use Rattle.checkdb_top.proofs.run.replayed.Goals as goal

@@ -3,7 +3,7 @@ use Rattle.std.specs.List.{list_all}
 use Rattle.std.proofs.lemmas.List.{length-map}
 use Rattle.spec_script.specs.Lines.{is_statement}
 use Rattle.spec_run.specs.Begun.{Setting}
-use Rattle.run_file.specs.Sources.{IsTurnOf}
+use Rattle.spec_start.specs.Sources.{IsTurnOf}
 use Rattle.rows_plans.proofs.Lists.{at_place, passes_at}
 use Rattle.rows_plans.proofs.core_tests.replayed.Goals as goal
 

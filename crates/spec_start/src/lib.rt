@@ -1,0 +1,7 @@
+//! What a run of sessions starts with: the texts of its sources, and its file in the form that it needs; and why it
+//! doesn't start (the order of the tests is this project's own).
+#![tactic(auto)]
+
+mod why;
+
+pub use why::FileWhy;

@@ -7,8 +7,8 @@ ghost use Rattle.db_heap.specs.InsertPlans.{insert_stop};
 ghost use Rattle.db_plan.specs.Refusals.{Tells};
 
 use db_alloc::FindStop;
-use db_locks::PageStop;
 use db_heap::InsertStop;
+use db_locks::PageStop;
 use spec_script::{BAD_PAGE, HELD, NO_MEMORY, NO_ROOM, NO_TABLE, Name, READ_FAULT, Refusal};
 use std::alloc::Global;
 

@@ -13,8 +13,8 @@ ghost use Rattle.db_plan.specs.Plans.{IsPlannedAs, IsLimited, WritesBy, is_plann
 use crate::limits::{exceeds, planned_bytes};
 use crate::refusals::{of_find, of_insert, out_of_memory};
 use crate::{Plan, PlanAt};
-use db_locks::PlanPages;
 use db_heap::{heap_count, heap_insert};
+use db_locks::PlanPages;
 use net_changes::{net_changes, net_takes};
 use spec_file::{NoMemory, Resource};
 use spec_log::Values;

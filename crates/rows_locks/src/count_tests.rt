@@ -1,8 +1,8 @@
 // COUNT over a view in memory: how many rows, or the first refusal in the order of reading.
 use crate::made::{HEAP, locks_on, pages_of};
 use db_alloc::FindStop;
-use db_locks::{LockTable, MemView, PageStop};
 use db_heap::heap_count;
+use db_locks::{LockTable, MemView, PageStop};
 use pg_base::{ExtentNo, Geometry, ObjId, Page, PageNo, Resource, Tran};
 use rows_files::pieces::Piece;
 use rows_files::pieces::Piece::Bytes;

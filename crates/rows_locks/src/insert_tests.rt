@@ -1,8 +1,8 @@
 // INSERT over a view in memory: the first page with room, or the first refusal in the order of reading.
 use crate::made::{HEAP, locks_on, pages_of};
 use db_alloc::FindStop;
-use db_locks::{LockTable, MemView, PageStop, PlanPages};
 use db_heap::{InsertStop, heap_insert};
+use db_locks::{LockTable, MemView, PageStop, PlanPages};
 use pg_base::{Geometry, ObjId, Page, PageNo, Resource, Tran};
 use rows_files::pieces::Piece;
 use rows_files::pieces::Piece::{Bytes, Pfs, Rows};

@@ -1,7 +1,9 @@
 //! The tests of what a statement is planned over: the lock table, and on a view in memory a heap whose rows are
-//! counted, and that gets one more, and what a statement changes and takes.
+//! counted, and that gets one more, what a statement changes and takes, and how it is planned.
 #![tactic(auto)]
 
+#[cfg(test)]
+mod changes;
 #[cfg(test)]
 mod count_tests;
 #[cfg(test)]
@@ -12,3 +14,5 @@ mod lock_tests;
 mod made;
 #[cfg(test)]
 mod net_tests;
+#[cfg(test)]
+mod plan_tests;

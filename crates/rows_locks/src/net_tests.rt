@@ -2,6 +2,7 @@
 ghost use Rattle.std.specs.Prelude.{◌≡◌};
 ghost use Rattle.spec_file.specs.declared.geometry.Geometry.TheVariants.{Small};
 
+use crate::changes::{Change, are_changes};
 use crate::made::{locks_on, pages_of};
 use db_locks::{
     MemView, PageStop, PlanPages, look_page, put_page, set_gam_bit, set_pfs_byte, set_sgam_bit,
@@ -11,8 +12,6 @@ use pg_base::{ExtentNo, Geometry, Page, PageNo, Resource};
 use pg_geom::is_ordinary;
 use rows_files::pieces::Piece;
 use rows_files::pieces::Piece::{Bytes, Pfs};
-use spec_log::Cell;
-use spec_plan::Planned;
 use std::alloc::Global;
 use std::test::Fail;
 
@@ -26,13 +25,6 @@ enum Step {
     Byte(u32, u8),
     // Bytes of a page, each with its offset.
     Page(u32, &'static [(u16, u8)]),
-}
-
-// What changes: a page, a place on it, what was there and what is.
-#[derive(Drop)]
-enum Change {
-    Bit(u32, u32, u8, u8),
-    Cell(u32, u32, &'static [u8], &'static [u8]),
 }
 
 #[derive(Drop)]
@@ -273,35 +265,6 @@ fn take_steps<P: PlanPages>(v: &mut P, steps: &[Step], buffer: &mut Page) -> Res
         take_step(v, step, buffer)?;
     }
     Ok(())
-}
-
-fn has_cell(found: &Planned, cell: Cell, before: &[u8], after: &[u8]) -> bool {
-    found.cell == cell && found.before.as_slice() == before && found.after.as_slice() == after
-}
-
-fn is_change(found: &Planned, change: &Change) -> bool {
-    match change {
-        Change::Bit(p, n, before, after) => {
-            let page = PageNo(*p);
-            has_cell(found, Cell::Bit { page, n: *n }, &[*before], &[*after])
-        }
-        Change::Cell(p, off, before, after) => {
-            let page = PageNo(*p);
-            has_cell(found, Cell::Bytes { page, off: *off }, before, after)
-        }
-    }
-}
-
-fn are_changes(found: &[Planned], changes: &[Change]) -> bool {
-    if found.len() != changes.len() {
-        return false;
-    }
-    for (one, change) in found.iter().zip(changes) {
-        if !is_change(one, change) {
-            return false;
-        }
-    }
-    true
 }
 
 fn expect_net(alloc: Global, net: &Net, pages: Vec<Page>) -> Result<(), Fail> {

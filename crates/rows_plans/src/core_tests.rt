@@ -291,6 +291,27 @@ fn a_count_is_one_item_of_its_transaction(rt: HostRuntime) -> Result<(), Fail> {
     Ok(())
 }
 
+// Two rows of 12 bytes go on page 10 in one transaction. A change has 20 bytes and twice its own: the PFS byte, the row,
+// a byte of its slot, 5 of the header. By the second row the PFS byte stays, and all that it changes is held.
+#[test]
+fn what_a_transaction_holds_is_not_taken_again(rt: HostRuntime) -> Result<(), Fail> {
+    let scripts = ["BEGIN\nINSERT t 1 'a'\nINSERT t 2 'a'\n", "", ""];
+    let core = three_sessions(rt.alloc(), "1 100\n", scripts)?;
+    let items = core.items();
+    assert!(rt; items.len() == 10);
+    assert!(rt;
+        items
+            .get(1)
+            .is_some_and(|item| says(item, (1, 0, 4, 118, 3)))
+    );
+    assert!(rt;
+        items
+            .get(6)
+            .is_some_and(|item| says(item, (1, 0, 3, 96, 0)))
+    );
+    Ok(())
+}
+
 // The turns of each session, in which transaction 5 of the first takes table 1, and 3 of the third table 2: the second
 // has ended transactions 1, 2 and 4 before. A first row has four changes, for its PFS byte too, and a later one three.
 const TURNS: &str = "2 12\n3 5\n2 5\n1 5\n2 2\n1 5\n3 4\n";

@@ -1,0 +1,4 @@
+pub mod Computed
+pub mod Searches
+pub mod Singles
+pub mod Freed

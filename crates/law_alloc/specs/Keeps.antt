@@ -1,0 +1,24 @@
+-- Taking a single page, and giving pages back, leave a good view good.
+use Rattle.std.specs.Prelude.{◌≡◌, ℕ, ◌<◌, Option, Some, None}
+use Rattle.spec_words.specs.Views.{View}
+use Rattle.spec_alloc.specs.SinglePages.{single_page}
+use Rattle.spec_alloc.specs.Freeing.{shared_freed, marked_freed}
+use Rattle.law_net.specs.GoodViews.{IsGoodView, Leads, KeepsGood}
+
+-- this holds of what is found, if anything is
+abbrev pub IfFound : (ℕ → Type 0) → Option ℕ → Type 0
+IfFound Holds None = Unit {0}
+IfFound Holds (Some p) = Holds p
+
+-- where a single page is found, it is a page of the file
+abbrev pub SingleKeepsGood : Type 0
+SingleKeepsGood = (view : View) (byte : ℕ) → byte < 256 → IsGoodView view →
+    Leads (single_page view.shape byte) view (λ found after. IsGoodView after × (after.shape ≡ view.shape) × IfFound (λ p. p < view.shape.pages) found)
+
+-- a page of the file is given back
+abbrev pub SharedKeepsGood : Type 0
+SharedKeepsGood = (view : View) (p : ℕ) → p < view.shape.pages → KeepsGood (shared_freed view.shape p) view
+
+abbrev pub MarkedKeepsGood : Type 0
+MarkedKeepsGood = (view : View) (p : ℕ) → p < view.shape.pages → IsGoodView view →
+    Leads (marked_freed view.shape p) view (λ in_use after. IsGoodView after × (after.shape ≡ view.shape))

@@ -1,0 +1,29 @@
+//! The laws of the words of allocation: what they find, take and give back.
+#![tactic(auto)]
+
+ghost use Rattle.law_alloc.specs.Examples.{LowestIsTaken, HeldExtentIsPassedOver, HeldByteIsPassedOver, LastPageLowersSgam, NothingIsLeft, LowestHeldIsTold, BootKeepsItsExtent, LastPageFreesItsExtent, MarkedExtentStaysInUse, MarkedExtentIsFreed, BadMapIsTold};
+ghost use Rattle.law_alloc.specs.Keeps.{SingleKeepsGood, SharedKeepsGood, MarkedKeepsGood};
+
+/// Where a single page is taken, or a page of a mixed or of a marked extent is given back, a good view stays good: it
+/// differs from how it began only under what was taken. The single page is one of the file.
+pub fn keep_laws()
+    ensures single { SingleKeepsGood }
+    ensures shared { SharedKeepsGood }
+    ensures marked { MarkedKeepsGood }
+{}
+
+/// A small file, worked by hand: which single page is found, and what is passed over; that a bit of SGAM falls with the
+/// last free page, and a bit of GAM rises with the last page that is given back; what is told where no page is left.
+pub fn examples()
+    ensures lowest { LowestIsTaken }
+    ensures extent { HeldExtentIsPassedOver }
+    ensures byte { HeldByteIsPassedOver }
+    ensures last { LastPageLowersSgam }
+    ensures nothing { NothingIsLeft }
+    ensures told { LowestHeldIsTold }
+    ensures boot { BootKeepsItsExtent }
+    ensures freed { LastPageFreesItsExtent }
+    ensures in_use { MarkedExtentStaysInUse }
+    ensures marked { MarkedExtentIsFreed }
+    ensures bad { BadMapIsTold }
+{}

@@ -1,10 +1,10 @@
 -- A single page leaves a good view good.
-use Rattle.std.proofs.Common.{◌≡◌, ℕ, zero, suc, ◌+◌, ◌*◌, ◌/◌, ◌%◌, ◌<◌, ◌≤◌, Bool, ◌∷◌, Option, Some, None, refl, sym, subst, arith}
+use Rattle.std.proofs.Common.{◌≡◌, ℕ, zero, suc, ◌+◌, ◌*◌, ◌/◌, ◌%◌, ◌<◌, ◌≤◌, Bool, true, ◌∷◌, Option, Some, None, refl, sym, subst, arith}
 use Rattle.std.specs.Prelude.{if◌then◌else◌, filter}
 use Rattle.std.specs.List.{list_any, range_with_len}
-use Rattle.std.proofs.lemmas.Bool.{cond_both}
+use Rattle.std.proofs.lemmas.Bool.{and_parts, cond_both}
 use Rattle.spec_file.specs.declared.data.Resource.TheVariants as resource
-use Rattle.spec_file.specs.Roles.{is_system_extent}
+use Rattle.spec_file.specs.Roles.{is_ordinary, is_system_extent}
 use Rattle.spec_words.specs.NetChanges.{FileShape}
 use Rattle.spec_words.specs.Views.{View, Plan}
 use Rattle.spec_words.specs.Words.{◌then◌, give, sees, take, put_gam, put_sgam, put_pfs, or_later}
@@ -15,7 +15,8 @@ use Rattle.law_net.proofs.WordLaws.{leads_then, leads_give, leads_weaker}
 use Rattle.law_net.proofs.ReadingLeaves.{Reads}
 use Rattle.law_net.proofs.InsertKeeps.{IsGoodOf, take_keeps}
 use Rattle.law_net.proofs.WordsKeep.{gam_keeps_good, sgam_keeps_good, pfs_keeps_good}
-use Rattle.law_alloc.specs.Keeps.{IfFound, SingleKeepsGood}
+use Rattle.law_alloc.specs.Keeps.{IfFound, IsOwn, SingleKeepsGood}
+use Rattle.law_alloc.proofs.Ordinary.{first_ordinary}
 use Rattle.law_alloc.proofs.Searches.{Any, sees_reads, leads_from, search_reads}
 
 -- a word keeps what is good of this shape
@@ -49,23 +50,20 @@ extent_in shape p v lt g =
     let file = old.file in
     extent_low p shape.pages lt (subst (λ (s : FileShape). s.pages % 8 ≡ 0) g.same file.whole)
 
-abbrev IsPage : FileShape → ℕ → Type 0
-IsPage shape p = p < shape.pages
+-- plans that keep what is good, and find, or give, a page of the file that objects may own
+abbrev pub Found : FileShape → Option ℕ → View → Type 0
+Found shape found w = IsGoodOf shape w × IfFound (IsOwn shape) found
 
--- plans that keep what is good, and find, or give, a page of the file
-abbrev Found : FileShape → Option ℕ → View → Type 0
-Found shape found w = IsGoodOf shape w × IfFound (IsPage shape) found
+abbrev pub Given : FileShape → ℕ → View → Type 0
+Given shape p w = IsGoodOf shape w × IsOwn shape p
 
-abbrev Given : FileShape → ℕ → View → Type 0
-Given shape p w = IsGoodOf shape w × (p < shape.pages)
-
-abbrev FindsPage : FileShape → Plan (Option ℕ) → Type 0
+abbrev pub FindsPage : FileShape → Plan (Option ℕ) → Type 0
 FindsPage shape plan = (v : View) → IsGoodOf shape v → Leads plan v (Found shape)
 
-abbrev GivesPage : FileShape → Plan ℕ → Type 0
+abbrev pub GivesPage : FileShape → Plan ℕ → Type 0
 GivesPage shape plan = (v : View) → IsGoodOf shape v → Leads plan v (Given shape)
 
-either_finds : (shape : FileShape) (first second : Plan (Option ℕ)) → FindsPage shape first → FindsPage shape second → FindsPage shape (either first second)
+pub either_finds : (shape : FileShape) (first second : Plan (Option ℕ)) → FindsPage shape first → FindsPage shape second → FindsPage shape (either first second)
 either_finds shape first second a b v g =
     leads_then first (λ found. or_later found second) v (Found shape)
     (leads_weaker first v (Found shape) (λ found w. Leads (or_later found second) w (Found shape)) by_found (a v g))
@@ -74,11 +72,11 @@ either_finds shape first second a b v g =
     by_found None w h = b w h.0
     by_found (Some p) w h = leads_give (Some p) w (Found shape) h
 
-found_finds : (shape : FileShape) (plan : Plan (Option ℕ)) (next : ℕ → Plan ℕ) → ((v : View) → Reads plan v (IfFound (IsPage shape))) → ((p : ℕ) → p < shape.pages → GivesPage shape (next p)) →
+pub found_finds : (shape : FileShape) (plan : Plan (Option ℕ)) (next : ℕ → Plan ℕ) → ((v : View) → Reads plan v (IfFound (IsOwn shape))) → ((p : ℕ) → IsOwn shape p → GivesPage shape (next p)) →
     FindsPage shape (plan then (λ found. where_found found next))
-found_finds shape plan next reads gives v g = leads_from plan (λ found. where_found found next) v (IfFound (IsPage shape)) (Found shape) (reads v) by_found
+found_finds shape plan next reads gives v g = leads_from plan (λ found. where_found found next) v (IfFound (IsOwn shape)) (Found shape) (reads v) by_found
   where
-    by_found : (found : Option ℕ) → IfFound (IsPage shape) found → Leads (where_found found next) v (Found shape)
+    by_found : (found : Option ℕ) → IfFound (IsOwn shape) found → Leads (where_found found next) v (Found shape)
     by_found None f = leads_give None v (Found shape) (g, tt)
     by_found (Some p) f =
         leads_then (next p) (λ q. give (Some q)) v (Found shape)
@@ -91,39 +89,41 @@ lower_keeps shape e v lt g =
     (λ b u. cond_both b (give tt) (put_sgam shape e 0) (λ plan. Leads plan v (λ x w. IsGoodOf shape w)) (λ h. leads_give tt v (λ x w. IsGoodOf shape w) g)
     (λ h. sgam_keeps shape e 0 v lt (omega arith) g))
 
-mixed_gives : (shape : FileShape) (byte p : ℕ) → byte < 256 → p < shape.pages → GivesPage shape (of_mixed shape byte p)
-mixed_gives shape byte p low lt v g =
+mixed_gives : (shape : FileShape) (byte p : ℕ) → byte < 256 → IsOwn shape p → GivesPage shape (of_mixed shape byte p)
+mixed_gives shape byte p low own v g =
     good_then shape (take (resource.Extent (record { 0 = p / 8 }))) _ v (Given shape) (take_keeps shape (resource.Extent (record { 0 = p / 8 })) v g) (λ u w h.
-    good_then shape (put_pfs shape p byte) _ w (Given shape) (pfs_keeps shape p byte w lt low h) (λ s x k.
-    good_then shape (lower_sgam shape (p / 8)) _ x (Given shape) (lower_keeps shape (p / 8) x (extent_in shape p x lt k) k) (λ t y l.
-    leads_give p y (Given shape) (l, lt))))
+    good_then shape (put_pfs shape p byte) _ w (Given shape) (pfs_keeps shape p byte w own.0 low h) (λ s x k.
+    good_then shape (lower_sgam shape (p / 8)) _ x (Given shape) (lower_keeps shape (p / 8) x (extent_in shape p x own.0 k) k) (λ t y l.
+    leads_give p y (Given shape) (l, own))))
 
-free_gives : (shape : FileShape) (byte p : ℕ) → byte < 256 → p < shape.pages → GivesPage shape (of_free shape byte p)
-free_gives shape byte p low lt v g =
-    good_then shape (put_gam shape (p / 8) 0) _ v (Given shape) (gam_keeps shape (p / 8) 0 v (extent_in shape p v lt g) (omega arith) g) (λ u w h.
-    good_then shape (put_sgam shape (p / 8) 1) _ w (Given shape) (sgam_keeps shape (p / 8) 1 w (extent_in shape p w lt h) (omega arith) h) (λ s x k.
-    mixed_gives shape byte p low lt x k))
+free_gives : (shape : FileShape) (byte p : ℕ) → byte < 256 → IsOwn shape p → GivesPage shape (of_free shape byte p)
+free_gives shape byte p low own v g =
+    good_then shape (put_gam shape (p / 8) 0) _ v (Given shape) (gam_keeps shape (p / 8) 0 v (extent_in shape p v own.0 g) (omega arith) g) (λ u w h.
+    good_then shape (put_sgam shape (p / 8) 1) _ w (Given shape) (sgam_keeps shape (p / 8) 1 w (extent_in shape p w own.0 h) (omega arith) h) (λ s x k.
+    mixed_gives shape byte p low own x k))
 
-first_inside : (pages : ℕ) (test : ℕ → Bool) (n lo : ℕ) → lo + n ≤ pages → IfFound (λ p. p < pages) (first_in (filter test (range_with_len lo n)))
-first_inside pages test zero lo le = tt
-first_inside pages test (suc n) lo le =
+pub first_own : (shape : FileShape) (test : ℕ → Bool) (n lo : ℕ) → lo + n ≤ shape.pages → ((p : ℕ) → test p ≡ true → is_ordinary shape.geometry p ≡ true) →
+    IfFound (IsOwn shape) (first_in (filter test (range_with_len lo n)))
+first_own shape test zero lo le own = tt
+first_own shape test (suc n) lo le own =
     let rest = filter test (range_with_len (lo + 1) n) in
-    cond_both (test lo) (lo ∷ rest) rest (λ xs. IfFound (λ p. p < pages) (first_in xs)) (λ e. omega (arith, le)) (λ e. first_inside pages test n (lo + 1) (omega (arith, le)))
+    cond_both (test lo) (lo ∷ rest) rest (λ xs. IfFound (IsOwn shape) (first_in xs)) (λ e. (omega (arith, le), own lo e)) (λ e. first_own shape test n (lo + 1) (omega (arith, le)) own)
 
-spare_inside : (shape : FileShape) (v : View) (e : ℕ) → e < shape.pages / 8 → IfFound (IsPage shape) (spare_page shape v e)
-spare_inside shape v e lt = first_inside shape.pages (is_spare shape v) 8 (8 * e) (omega (arith, lt))
+spare_own : (shape : FileShape) (v : View) (e : ℕ) → e < shape.pages / 8 → IfFound (IsOwn shape) (spare_page shape v e)
+spare_own shape v e lt = first_own shape (is_spare shape v) 8 (8 * e) (omega (arith, lt)) (λ p spare. (and_parts (is_ordinary shape.geometry p) _ spare).0)
 
-free_inside : (shape : FileShape) (v : View) (e : ℕ) → e < shape.pages / 8 → IfFound (IsPage shape) (first_page_of shape v e)
-free_inside shape v e lt =
-    cond_both (is_system_extent shape.geometry e) None (Some (8 * e)) (IfFound (IsPage shape)) (λ h. tt) (λ h. omega (arith, lt))
+pub free_own : (shape : FileShape) (v : View) (e : ℕ) → e < shape.pages / 8 → IfFound (IsOwn shape) (first_page_of shape v e)
+free_own shape v e lt =
+    cond_both (is_system_extent shape.geometry e) None (Some (8 * e)) (IfFound (IsOwn shape)) (λ h. tt)
+    (λ h. (omega (arith, lt), first_ordinary shape.geometry e h))
 
-single_finds : (shape : FileShape) (byte : ℕ) → byte < 256 → FindsPage shape (single_page shape byte)
+pub single_finds : (shape : FileShape) (byte : ℕ) → byte < 256 → FindsPage shape (single_page shape byte)
 single_finds shape byte low =
     either_finds shape _ _
     (found_finds shape (search shape (is_shared shape) (spare_page shape)) (of_mixed shape byte)
-    (λ v. search_reads shape (is_shared shape) (spare_page shape) (IsPage shape) v (spare_inside shape v)) (λ p lt. mixed_gives shape byte p low lt))
+    (λ v. search_reads shape (is_shared shape) (spare_page shape) (IsOwn shape) v (spare_own shape v)) (λ p own. mixed_gives shape byte p low own))
     (found_finds shape (search shape (is_unused shape) (first_page_of shape)) (of_free shape byte)
-    (λ v. search_reads shape (is_unused shape) (first_page_of shape) (IsPage shape) v (free_inside shape v)) (λ p lt. free_gives shape byte p low lt))
+    (λ v. search_reads shape (is_unused shape) (first_page_of shape) (IsOwn shape) v (free_own shape v)) (λ p own. free_gives shape byte p low own))
 
 pub single_keeps_good : SingleKeepsGood
 single_keeps_good v byte low good =

@@ -1,5 +1,7 @@
 -- Taking a single page, and giving pages back, leave a good view good.
-use Rattle.std.specs.Prelude.{◌≡◌, ℕ, ◌<◌, Option, Some, None}
+use Rattle.std.specs.Prelude.{◌≡◌, ℕ, ◌<◌, true, Option, Some, None}
+use Rattle.spec_file.specs.Roles.{is_ordinary}
+use Rattle.spec_words.specs.NetChanges.{FileShape}
 use Rattle.spec_words.specs.Views.{View}
 use Rattle.spec_alloc.specs.SinglePages.{single_page}
 use Rattle.spec_alloc.specs.Freeing.{shared_freed, marked_freed}
@@ -10,10 +12,14 @@ abbrev pub IfFound : (ℕ → Type 0) → Option ℕ → Type 0
 IfFound Holds None = Unit {0}
 IfFound Holds (Some p) = Holds p
 
--- where a single page is found, it is a page of the file
+-- a page of the file that objects may own
+abbrev pub IsOwn : FileShape → ℕ → Type 0
+IsOwn shape p = (p < shape.pages) × (is_ordinary shape.geometry p ≡ true)
+
+-- where a single page is found, it is such a page
 abbrev pub SingleKeepsGood : Type 0
 SingleKeepsGood = (view : View) (byte : ℕ) → byte < 256 → IsGoodView view →
-    Leads (single_page view.shape byte) view (λ found after. IsGoodView after × (after.shape ≡ view.shape) × IfFound (λ p. p < view.shape.pages) found)
+    Leads (single_page view.shape byte) view (λ found after. IsGoodView after × (after.shape ≡ view.shape) × IfFound (IsOwn view.shape) found)
 
 -- a page of the file is given back
 abbrev pub SharedKeepsGood : Type 0

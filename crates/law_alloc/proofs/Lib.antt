@@ -3,3 +3,5 @@ pub mod Searches
 pub mod Ordinary
 pub mod Singles
 pub mod Freed
+pub mod Chains
+pub mod Objects

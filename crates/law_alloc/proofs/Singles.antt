@@ -1,20 +1,21 @@
 -- A single page leaves a good view good.
-use Rattle.std.proofs.Common.{◌≡◌, ℕ, zero, suc, ◌+◌, ◌*◌, ◌/◌, ◌%◌, ◌<◌, ◌≤◌, Bool, true, ◌∷◌, Option, Some, None, refl, sym, subst, arith}
+use Rattle.std.proofs.Common.{◌≡◌, ℕ, zero, suc, ◌+◌, ◌*◌, ◌/◌, ◌%◌, ◌<◌, ◌≤◌, Bool, true, List, ◌∷◌, Option, Some, None, refl, sym, subst, arith}
 use Rattle.std.specs.Prelude.{if◌then◌else◌, filter}
 use Rattle.std.specs.List.{list_any, range_with_len}
 use Rattle.std.proofs.lemmas.Bool.{and_parts, cond_both}
 use Rattle.spec_file.specs.declared.data.Resource.TheVariants as resource
+use Rattle.spec_file.specs.Image.{AreBytes}
 use Rattle.spec_file.specs.Roles.{is_ordinary, is_system_extent}
 use Rattle.spec_words.specs.NetChanges.{FileShape}
 use Rattle.spec_words.specs.Views.{View, Plan}
-use Rattle.spec_words.specs.Words.{◌then◌, give, sees, take, put_gam, put_sgam, put_pfs, or_later}
+use Rattle.spec_words.specs.Words.{◌then◌, give, sees, take, put_gam, put_sgam, put_pfs, put_page, or_later}
 use Rattle.spec_alloc.specs.Search.{where_found, either, first_in, is_spare, pages_in, search}
 use Rattle.spec_alloc.specs.SinglePages.{is_shared, is_unused, spare_page, first_page_of, lower_sgam, of_mixed, of_free, single_page}
 use Rattle.law_net.specs.GoodViews.{IsGoodView, Leads, KeepsGood}
 use Rattle.law_net.proofs.WordLaws.{leads_then, leads_give, leads_weaker}
 use Rattle.law_net.proofs.ReadingLeaves.{Reads}
 use Rattle.law_net.proofs.InsertKeeps.{IsGoodOf, take_keeps}
-use Rattle.law_net.proofs.WordsKeep.{gam_keeps_good, sgam_keeps_good, pfs_keeps_good}
+use Rattle.law_net.proofs.WordsKeep.{gam_keeps_good, sgam_keeps_good, pfs_keeps_good, page_keeps_good}
 use Rattle.law_alloc.specs.Keeps.{IfFound, IsOwn, SingleKeepsGood}
 use Rattle.law_alloc.proofs.Ordinary.{first_ordinary}
 use Rattle.law_alloc.proofs.Searches.{Any, sees_reads, leads_from, search_reads}
@@ -33,6 +34,11 @@ sgam_keeps shape e value v lt low g = of_shape shape (λ s. put_sgam s e value) 
 
 pub pfs_keeps : (shape : FileShape) (p byte : ℕ) (v : View) → p < shape.pages → byte < 256 → IsGoodOf shape v → Leads (put_pfs shape p byte) v (λ u w. IsGoodOf shape w)
 pfs_keeps shape p byte v lt low g = of_shape shape (λ s. put_pfs s p byte) v g (pfs_keeps_good v p byte (subst (λ (s : FileShape). p < s.pages) (sym g.same) lt) low)
+
+pub page_keeps : (shape : FileShape) (p : ℕ) (bytes : List ℕ) (v : View) → IsOwn shape p → AreBytes bytes → IsGoodOf shape v → Leads (put_page p bytes) v (λ u w. IsGoodOf shape w)
+page_keeps shape p bytes v own low g =
+    of_shape shape (λ s. put_page p bytes) v g
+    (page_keeps_good v p bytes (subst (λ (s : FileShape). p < s.pages) (sym g.same) own.0) (subst (λ (s : FileShape). is_ordinary s.geometry p ≡ true) (sym g.same) own.1) low)
 
 -- what keeps, and then what leads somewhere from a good view
 pub good_then : {A B : Type 0} (shape : FileShape) (plan : Plan A) (next : A → Plan B) (v : View) (K : B → View → Type 0) → Leads plan v (λ x w. IsGoodOf shape w) →

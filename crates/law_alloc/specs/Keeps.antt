@@ -1,9 +1,11 @@
 -- Taking a single page, and giving pages back, leave a good view good.
-use Rattle.std.specs.Prelude.{◌≡◌, ℕ, ◌<◌, true, Option, Some, None}
+use Rattle.std.specs.Prelude.{◌≡◌, ℕ, ◌<◌, true, List, Option, Some, None}
+use Rattle.spec_file.specs.CatalogRows.{CatalogRow}
 use Rattle.spec_file.specs.Roles.{is_ordinary}
 use Rattle.spec_words.specs.NetChanges.{FileShape}
 use Rattle.spec_words.specs.Views.{View}
 use Rattle.spec_alloc.specs.SinglePages.{single_page}
+use Rattle.spec_alloc.specs.ObjectPages.{object_page}
 use Rattle.spec_alloc.specs.Freeing.{shared_freed, marked_freed}
 use Rattle.law_net.specs.GoodViews.{IsGoodView, Leads, KeepsGood}
 
@@ -20,6 +22,11 @@ IsOwn shape p = (p < shape.pages) × (is_ordinary shape.geometry p ≡ true)
 abbrev pub SingleKeepsGood : Type 0
 SingleKeepsGood = (view : View) (byte : ℕ) → byte < 256 → IsGoodView view →
     Leads (single_page view.shape byte) view (λ found after. IsGoodView after × (after.shape ≡ view.shape) × IfFound (IsOwn view.shape) found)
+
+-- a page for an object is such a page
+abbrev pub ObjectPageKeepsGood : Type 0
+ObjectPageKeepsGood = (view : View) (row : CatalogRow) (path : List ℕ) → IsGoodView view →
+    Leads (object_page view.shape row path) view (λ p after. IsGoodView after × (after.shape ≡ view.shape) × IsOwn view.shape p)
 
 -- a page of the file is given back
 abbrev pub SharedKeepsGood : Type 0

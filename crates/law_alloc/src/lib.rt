@@ -2,12 +2,14 @@
 #![tactic(auto)]
 
 ghost use Rattle.law_alloc.specs.Examples.{LowestIsTaken, HeldExtentIsPassedOver, HeldByteIsPassedOver, LastPageLowersSgam, NothingIsLeft, LowestHeldIsTold, BootKeepsItsExtent, LastPageFreesItsExtent, MarkedExtentStaysInUse, MarkedExtentIsFreed, BadMapIsTold};
-ghost use Rattle.law_alloc.specs.Keeps.{SingleKeepsGood, SharedKeepsGood, MarkedKeepsGood};
+ghost use Rattle.law_alloc.specs.Keeps.{SingleKeepsGood, ObjectPageKeepsGood, SharedKeepsGood, MarkedKeepsGood};
 
-/// Where a single page is taken, or a page of a mixed or of a marked extent is given back, a good view stays good: it
-/// differs from how it began only under what was taken. The single page is one of the file.
+/// Where a single page or a page for an object is taken, or a page of a mixed or of a marked extent is given back, a
+/// good view stays good: it differs from how it began only under what was taken. A page that is taken is one of the file
+/// that objects may own.
 pub fn keep_laws()
     ensures single { SingleKeepsGood }
+    ensures object { ObjectPageKeepsGood }
     ensures shared { SharedKeepsGood }
     ensures marked { MarkedKeepsGood }
 {}

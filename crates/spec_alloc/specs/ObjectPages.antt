@@ -1,12 +1,13 @@
 -- How an object gets one more page (this project's own).
-use Rattle.std.specs.Prelude.{ℕ, ◌+◌, ◌/◌, ◌==◌, ◌&&◌, if◌then◌else◌, List, ◌++◌, length, filter, Option}
+use Rattle.std.specs.Prelude.{ℕ, ◌/◌, ◌==◌, ◌&&◌, if◌then◌else◌, List, ◌++◌, length, filter, Option}
 use Rattle.spec_file.specs.declared.pfs.PfsKind.TheVariants as kinds
 use Rattle.spec_file.specs.Image.{page}
-use Rattle.spec_file.specs.Pfs.{is_allocated_byte, allocated_flag, expected}
+use Rattle.spec_file.specs.Pfs.{expected}
 use Rattle.spec_file.specs.Places.{interval_of_page}
 use Rattle.spec_file.specs.CatalogRows.{CatalogRow}
 use Rattle.spec_file.specs.Iam.{iam_interval}
 use Rattle.spec_chain.specs.Uses.{pfs_byte}
+use Rattle.spec_log.specs.Cells.{with_bit}
 use Rattle.spec_plan.specs.Changes.{last_of}
 use Rattle.spec_plan.specs.Reading.{is_marked}
 use Rattle.spec_words.specs.NetChanges.{FileShape, pages_of}
@@ -33,7 +34,7 @@ slot_page shape chain path =
 
 -- bit 6 is set, the others stay
 abbrev pub as_allocated : ℕ → ℕ
-as_allocated byte = if is_allocated_byte byte then byte else byte + allocated_flag
+as_allocated byte = with_bit byte 6 1
 
 -- page p of a marked extent becomes allocated, and is taken
 abbrev pub marked_page_taken : FileShape → List ℕ → ℕ → Plan ℕ

@@ -32,9 +32,12 @@ use Rattle.law_alloc.specs.Keeps.{IsOwn}
 use Rattle.law_alloc.proofs.Searches.{Any, reads_then, leads_from, sees_reads, give_reads}
 use Rattle.law_alloc.proofs.Singles.{Given}
 
+abbrev pub AllIn : (ℕ → Type 0) → List ℕ → Type 0
+AllIn Holds [] = Unit {0}
+AllIn Holds (x ∷ xs) = Holds x × AllIn Holds xs
+
 abbrev pub AllOwn : FileShape → List ℕ → Type 0
-AllOwn shape [] = Unit {0}
-AllOwn shape (p ∷ ps) = IsOwn shape p × AllOwn shape ps
+AllOwn shape = AllIn (IsOwn shape)
 
 -- a chain has a first page, and all its pages are such
 abbrev pub IsChainOf : FileShape → List ℕ → Type 0

@@ -15,7 +15,7 @@ use Rattle.law_alloc.specs.Keeps.{SharedKeepsGood, MarkedKeepsGood}
 use Rattle.law_alloc.proofs.Searches.{Any, sees_reads, leads_from, map_reads}
 use Rattle.law_alloc.proofs.Singles.{gam_keeps, sgam_keeps, pfs_keeps, good_then, extent_in}
 
-abbrev Good : {A : Type 0} → FileShape → A → View → Type 0
+abbrev pub Good : {A : Type 0} → FileShape → A → View → Type 0
 Good shape x w = IsGoodOf shape w
 
 bits_keep : (shape : FileShape) (e : ℕ) (in_use : Bool) (v : View) → e < shape.pages / 8 → IsGoodOf shape v → Leads (put_bits shape e in_use) v (Good shape)
@@ -24,7 +24,7 @@ bits_keep shape e in_use v lt g =
     (λ h. sgam_keeps shape e 1 v lt (omega arith) g)
     (λ h. good_then shape (put_sgam shape e 0) (λ _. put_gam shape e 1) v (Good shape) (sgam_keeps shape e 0 v lt (omega arith) g) (λ u w k. gam_keeps shape e 1 w lt (omega arith) k))
 
-shared_keeps : (shape : FileShape) (p : ℕ) (v : View) → p < shape.pages → IsGoodOf shape v → Leads (shared_freed shape p) v (Good shape)
+pub shared_keeps : (shape : FileShape) (p : ℕ) (v : View) → p < shape.pages → IsGoodOf shape v → Leads (shared_freed shape p) v (Good shape)
 shared_keeps shape p v lt g =
     leads_from (pfs_read shape p) _ v Any (Good shape) (map_reads _ _ v) (λ a b.
     good_then shape (take (resource.Extent (record { 0 = p / 8 }))) _ v (Good shape) (take_keeps shape (resource.Extent (record { 0 = p / 8 })) v g) (λ u w h.
@@ -49,7 +49,7 @@ extent_keeps shape e in_use v lt g =
     same_view : (w : View) → w ≡ v → IsGoodOf shape w
     same_view w e = subst (IsGoodOf shape) (sym e) g
 
-marked_keeps : (shape : FileShape) (p : ℕ) (v : View) → p < shape.pages → IsGoodOf shape v → Leads (marked_freed shape p) v (Good shape)
+pub marked_keeps : (shape : FileShape) (p : ℕ) (v : View) → p < shape.pages → IsGoodOf shape v → Leads (marked_freed shape p) v (Good shape)
 marked_keeps shape p v lt g =
     leads_from (pfs_read shape p) _ v Any (Good shape) (map_reads _ _ v) (λ a b.
     good_then shape (put_pfs shape p 0) _ v (Good shape) (pfs_keeps shape p 0 v lt (omega arith) g) (λ s x k.

@@ -5,3 +5,4 @@ pub mod Singles
 pub mod Freed
 pub mod Chains
 pub mod Objects
+pub mod GivenBack

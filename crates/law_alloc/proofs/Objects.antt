@@ -82,7 +82,7 @@ none_leads shape v K =
     (leads_weaker (for_each ask (extents_of shape)) v (λ u w. Unit {0}) (λ u w. Leads (refuse no_room) w K) (λ u w t. leads_refuse no_room w K)
     (leads_each ask (extents_of shape) (λ w. Unit {0}) v (λ e w t. leads_held (resource.Extent (record { 0 = e })) w (λ u x. Unit {0}) (λ free. tt)) tt))
 
-or_none : (shape : FileShape) (found : Option ℕ) (w : View) → Found shape found w → Leads (found_or found (no_page shape)) w (Given shape)
+pub or_none : (shape : FileShape) (found : Option ℕ) (w : View) → Found shape found w → Leads (found_or found (no_page shape)) w (Given shape)
 or_none shape None w h = none_leads shape w (Given shape)
 or_none shape (Some p) w h = leads_give p w (Given shape) h
 

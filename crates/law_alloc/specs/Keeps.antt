@@ -6,7 +6,8 @@ use Rattle.spec_words.specs.NetChanges.{FileShape}
 use Rattle.spec_words.specs.Views.{View}
 use Rattle.spec_alloc.specs.SinglePages.{single_page}
 use Rattle.spec_alloc.specs.ObjectPages.{object_page}
-use Rattle.spec_alloc.specs.Freeing.{shared_freed, marked_freed}
+use Rattle.spec_alloc.specs.Freeing.{shared_freed, marked_freed, object_page_freed}
+use Rattle.spec_alloc.specs.Objects.{new_chain, pages_dropped}
 use Rattle.law_net.specs.GoodViews.{IsGoodView, Leads, KeepsGood}
 
 -- this holds of what is found, if anything is
@@ -35,3 +36,16 @@ SharedKeepsGood = (view : View) (p : ℕ) → p < view.shape.pages → KeepsGood
 abbrev pub MarkedKeepsGood : Type 0
 MarkedKeepsGood = (view : View) (p : ℕ) → p < view.shape.pages → IsGoodView view →
     Leads (marked_freed view.shape p) view (λ in_use after. IsGoodView after × (after.shape ≡ view.shape))
+
+-- a page of an object is given back, with its slots and marks
+abbrev pub ObjectPageFreedKeepsGood : Type 0
+ObjectPageFreedKeepsGood = (view : View) (row : CatalogRow) (p : ℕ) → KeepsGood (object_page_freed view.shape row p) view
+
+-- the first IAM page of an object of this id is a page of the file that objects may own
+abbrev pub NewChainKeepsGood : Type 0
+NewChainKeepsGood = (view : View) (id : ℕ) → IsGoodView view →
+    Leads (new_chain view.shape id) view (λ q after. IsGoodView after × (after.shape ≡ view.shape) × IsOwn view.shape q)
+
+-- all pages of an object are given back
+abbrev pub DropKeepsGood : Type 0
+DropKeepsGood = (view : View) (row : CatalogRow) → KeepsGood (pages_dropped view.shape row) view

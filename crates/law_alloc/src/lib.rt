@@ -2,7 +2,7 @@
 #![tactic(auto)]
 
 ghost use Rattle.law_alloc.specs.Examples.{LowestIsTaken, HeldExtentIsPassedOver, HeldByteIsPassedOver, LastPageLowersSgam, NothingIsLeft, LowestHeldIsTold, BootKeepsItsExtent, LastPageFreesItsExtent, MarkedExtentStaysInUse, MarkedExtentIsFreed, BadMapIsTold};
-ghost use Rattle.law_alloc.specs.Keeps.{SingleKeepsGood, ObjectPageKeepsGood, SharedKeepsGood, MarkedKeepsGood};
+ghost use Rattle.law_alloc.specs.Keeps.{SingleKeepsGood, ObjectPageKeepsGood, SharedKeepsGood, MarkedKeepsGood, ObjectPageFreedKeepsGood, NewChainKeepsGood, DropKeepsGood};
 
 /// Where a single page or a page for an object is taken, or a page of a mixed or of a marked extent is given back, a
 /// good view stays good: it differs from how it began only under what was taken. A page that is taken is one of the file
@@ -12,6 +12,9 @@ pub fn keep_laws()
     ensures object { ObjectPageKeepsGood }
     ensures shared { SharedKeepsGood }
     ensures marked { MarkedKeepsGood }
+    ensures page { ObjectPageFreedKeepsGood }
+    ensures chain { NewChainKeepsGood }
+    ensures drop { DropKeepsGood }
 {}
 
 /// A small file, worked by hand: which single page is found, and what is passed over; that a bit of SGAM falls with the

@@ -91,7 +91,7 @@ static COUNTS: [(&[&[Piece]], u64); 2] = [(&[EMPTY], 0), (&[HEAP], 3)];
 
 fn is_count(found: &Result<Plan, Refusal>, rows: u64) -> bool {
     match found {
-        Ok(Plan::Read(Reply::Rows { count, .. })) => *count == rows,
+        Ok(Plan::Read(Reply::Rows { count, payloads })) => *count == rows && payloads.count() == 0,
         _ => false,
     }
 }
@@ -129,11 +129,15 @@ fn is_first_row(found: &Result<Plan, Refusal>) -> bool {
     match found {
         Ok(
             Plan::Written {
-                reply: Reply::Rows { count: 1, .. },
+                reply: Reply::Rows { count: 1, payloads },
                 takes,
                 changes,
             },
-        ) => takes.as_slice() == FIRST_TAKES.as_slice() && are_changes(changes, &FIRST_ROW),
+        ) => {
+            payloads.count() == 0
+                && takes.as_slice() == FIRST_TAKES.as_slice()
+                && are_changes(changes, &FIRST_ROW)
+        }
         _ => false,
     }
 }
@@ -169,10 +173,20 @@ fn is_due(found: &Result<Plan, Refusal>, due: &Due) -> bool {
     }
 }
 
-// No table; its page is another object's; its only page is full by its PFS byte.
-static REFUSED: [(&[&[Piece]], Due); 3] = [
+// No table; none of this name; its page is another object's; its only page is full by its PFS byte.
+static REFUSED: [(&[&[Piece]], Due); 4] = [
     (
         &[],
+        Due {
+            number: 208,
+            name: "t",
+            page: 0,
+            resource: None,
+            by: 0,
+        },
+    ),
+    (
+        &[EMPTY, &[Heap(1, b'u', 8)]],
         Due {
             number: 208,
             name: "t",
@@ -212,11 +226,14 @@ fn each_refusal_has_its_cause(rt: HostRuntime) -> Result<(), Fail> {
     Ok(())
 }
 
+// The only page is another object's, which is told only where nobody holds what is met on the way.
+static BAD_HEAP: [&[Piece]; 2] = [EMPTY, &[Bytes(10, 8, &[2])]];
+
 // What an INSERT meets, in its order.
 static MET: [Resource; 5] = [
     Resource::Catalog,
-    Resource::Page(PageNo(8)),
     Resource::Table(ObjId(1)),
+    Resource::Page(PageNo(8)),
     Resource::Byte(PageNo(10)),
     Resource::Page(PageNo(10)),
 ];
@@ -232,9 +249,11 @@ fn held_by_another(resource: Resource) -> Due {
 }
 
 #[test]
-fn what_another_holds_is_told(rt: HostRuntime) -> Result<(), Fail> {
+fn what_another_holds_is_told_and_not_read(rt: HostRuntime) -> Result<(), Fail> {
     for resource in MET.iter() {
         let found = inserted(rt.alloc(), &EMPTY_HEAP, &[*resource], NOTHING)?;
+        assert!(rt; is_due(&found, &held_by_another(*resource)));
+        let found = inserted(rt.alloc(), &BAD_HEAP, &[*resource], NOTHING)?;
         assert!(rt; is_due(&found, &held_by_another(*resource)));
     }
     Ok(())
@@ -246,12 +265,13 @@ static WITHIN: [Used; 3] = [(8_188, 0, 0), (0, 524_284, 0), (0, 0, 268_435_266)]
 
 static PASSING: [Used; 3] = [(8_189, 0, 0), (0, 524_285, 0), (0, 0, 268_435_267)];
 
-fn is_log_full(found: &Result<Plan, Refusal>) -> bool {
-    match found {
-        Ok(_) => false,
-        Err(refusal) => refusal.number == 9002,
-    }
-}
+static LOG_FULL: Due = Due {
+    number: 9002,
+    name: "",
+    page: 0,
+    resource: None,
+    by: 0,
+};
 
 #[test]
 fn a_limit_of_the_log_is_passed_by_one_more(rt: HostRuntime) -> Result<(), Fail> {
@@ -260,7 +280,7 @@ fn a_limit_of_the_log_is_passed_by_one_more(rt: HostRuntime) -> Result<(), Fail>
         let found = inserted(alloc, &EMPTY_HEAP, &[], *within)?;
         assert!(rt; is_first_row(&found));
         let found = inserted(alloc, &EMPTY_HEAP, &[], *passing)?;
-        assert!(rt; is_log_full(&found));
+        assert!(rt; is_due(&found, &LOG_FULL));
     }
     Ok(())
 }

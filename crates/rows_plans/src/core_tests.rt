@@ -11,7 +11,7 @@ use db_core::{Core, TurnOut};
 use pg_base::Page;
 use run_file::{Texts, read_sources};
 use spec_check::TableLine;
-use spec_file::{ObjId, Resource, Tran};
+use spec_file::{ObjId, PageNo, Resource, Tran};
 use spec_log::Record;
 use spec_script::{Reply, Statement};
 use std::alloc::Global;
@@ -260,17 +260,19 @@ fn three_sessions(alloc: Global, schedule: &str, scripts: [&str; 3]) -> Result<C
     replayed(alloc, texts)
 }
 
-// What of a Start the statement's plan decides: the transaction, number, changes, size and takes.
-fn says(item: &Record, due: (u64, u16, u32, u64, usize)) -> bool {
+// What of a Start the statement's plan decides: the transaction, number, changes and size, and the takes.
+fn says(item: Option<&Record>, due: (u64, u16, u32, u64), taken: &[Resource]) -> bool {
     match item {
-        Record::Start {
-            tran,
-            number,
-            changes,
-            size,
-            takes,
-            ..
-        } => (tran.0, *number, *changes, *size, takes.count()) == due,
+        Some(
+            Record::Start {
+                tran,
+                number,
+                changes,
+                size,
+                takes,
+                ..
+            },
+        ) => (tran.0, *number, *changes, *size) == due && takes.as_slice() == taken,
         _ => false,
     }
 }
@@ -282,14 +284,17 @@ fn a_count_is_one_item_of_its_transaction(rt: HostRuntime) -> Result<(), Fail> {
         "BEGIN\nINSERT t 1 'a'\nINSERT t 2 'a'\nINSERT t 3 'a'\nCOMMIT\nBEGIN\nINSERT t 4 'a'\nINSERT t 5 'a'\nINSERT t 6 'a'\nINSERT t 7 'a'\nCOMMIT\n";
     let scripts = ["BEGIN\nCOUNT t\n", inserts, ""];
     let core = three_sessions(rt.alloc(), "2 100\n", scripts)?;
-    assert!(rt;
-        core.items()
-            .last()
-            .is_some_and(|item| says(item, (3, 0, 0, 0, 0)))
-    );
+    assert!(rt; says(core.items().last(), (3, 0, 0, 0), &[]));
     assert!(rt; matches!(core.replies(1), [Reply::Done, Reply::Rows { count: 7, .. }]));
     Ok(())
 }
+
+// What an INSERT into heap `t` takes.
+const TABLE: Resource = Resource::Table(ObjId(1));
+
+const BYTE: Resource = Resource::Byte(PageNo(10));
+
+const PAGE: Resource = Resource::Page(PageNo(10));
 
 // Two rows of 12 bytes go on page 10 in one transaction. A change has 20 bytes and twice its own: the PFS byte, the row,
 // a byte of its slot, 5 of the header. By the second row the PFS byte stays, and all that it changes is held.
@@ -299,16 +304,44 @@ fn what_a_transaction_holds_is_not_taken_again(rt: HostRuntime) -> Result<(), Fa
     let core = three_sessions(rt.alloc(), "1 100\n", scripts)?;
     let items = core.items();
     assert!(rt; items.len() == 10);
-    assert!(rt;
-        items
-            .get(1)
-            .is_some_and(|item| says(item, (1, 0, 4, 118, 3)))
-    );
-    assert!(rt;
-        items
-            .get(6)
-            .is_some_and(|item| says(item, (1, 0, 3, 96, 0)))
-    );
+    assert!(rt; says(items.get(1), (1, 0, 4, 118), &[TABLE, BYTE, PAGE]));
+    assert!(rt; says(items.get(6), (1, 0, 3, 96), &[]));
+    Ok(())
+}
+
+// Four rows of 1,024 bytes, the longest that there are, for the keys 3 to 6.
+fn long_rows(alloc: Global) -> Result<String, Fail> {
+    let mut text = String::new(alloc);
+    for key in ["3", "4", "5", "6"] {
+        text.push_str("INSERT t ")?;
+        text.push_str(key)?;
+        text.push_str(" '")?;
+        push_payload(&mut text)?;
+        text.push_str("'\n")?;
+    }
+    Ok(text)
+}
+
+fn push_payload(text: &mut String) -> Result<(), Fail> {
+    for _ in 0..1013 {
+        text.push('a')?;
+    }
+    Ok(())
+}
+
+// Transaction 1 leaves a row of 12 bytes, so that the PFS byte stays until page 10 is more than half full. Each row
+// has a slot of two bytes: before the last row 3,106 of 8,096 bytes are in use, behind it 4,132. It changes the PFS byte,
+// 1,024 bytes of the row, both of its slot (3,192) and 6 of the header, and of these transaction 2 holds all but the byte.
+#[test]
+fn what_a_transaction_does_not_hold_yet_is_taken(rt: HostRuntime) -> Result<(), Fail> {
+    let alloc = rt.alloc();
+    let mut inserts = String::from_str(alloc, "INSERT t 1 'a'\nBEGIN\nINSERT t 2 'a'\n")?;
+    inserts.push_str(&long_rows(alloc)?)?;
+    let core = three_sessions(alloc, "1 100\n", [&inserts, "", ""])?;
+    let items = core.items();
+    assert!(rt; items.len() == 28);
+    assert!(rt; says(items.get(7), (2, 0, 3, 96), &[TABLE, PAGE]));
+    assert!(rt; says(items.get(23), (2, 0, 4, 2_146), &[BYTE]));
     Ok(())
 }
 

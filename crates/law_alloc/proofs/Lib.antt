@@ -1,6 +1,5 @@
 pub mod Computed
 pub mod Searches
-pub mod Ordinary
 pub mod Singles
 pub mod Freed
 pub mod Chains

@@ -11,13 +11,13 @@ use Rattle.spec_words.specs.Views.{View, Plan}
 use Rattle.spec_words.specs.Words.{◌then◌, give, sees, take, put_gam, put_sgam, put_pfs, put_page, or_later}
 use Rattle.spec_alloc.specs.Search.{where_found, either, first_in, is_spare, pages_in, search}
 use Rattle.spec_alloc.specs.SinglePages.{is_shared, is_unused, spare_page, first_page_of, lower_sgam, of_mixed, of_free, single_page}
+use Rattle.law_extents.proofs.GoodKinds.{first_ordinary}
 use Rattle.law_net.specs.GoodViews.{IsGoodView, Leads, KeepsGood}
 use Rattle.law_net.proofs.WordLaws.{leads_then, leads_give, leads_weaker}
 use Rattle.law_net.proofs.ReadingLeaves.{Reads}
 use Rattle.law_net.proofs.InsertKeeps.{IsGoodOf, take_keeps}
 use Rattle.law_net.proofs.WordsKeep.{gam_keeps_good, sgam_keeps_good, pfs_keeps_good, page_keeps_good}
 use Rattle.law_alloc.specs.Keeps.{IfFound, IsOwn, SingleKeepsGood}
-use Rattle.law_alloc.proofs.Ordinary.{first_ordinary}
 use Rattle.law_alloc.proofs.Searches.{Any, sees_reads, leads_from, search_reads}
 
 -- a word keeps what is good of this shape

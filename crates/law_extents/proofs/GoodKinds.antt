@@ -90,6 +90,15 @@ all_ordinary g e p at system boot =
     (ne_eqb p 9 (λ nine. boot (omega (arith, nine, at))))
     (subst (λ f. is_system_extent g f ≡ false) (sym at) system)
 
+-- and the first page of any extent that isn't a system extent
+pub first_ordinary : (g : Geometry) (e : ℕ) → is_system_extent g e ≡ false → is_ordinary g (8 * e) ≡ true
+first_ordinary g e system =
+    let at : 8 * e / 8 ≡ e = omega arith in
+    only_ordinary (8 * e == 0) (is_pfs_page g (8 * e)) (is_gam_page g (8 * e)) (is_sgam_page g (8 * e)) (8 * e == 9) (is_system_extent g (8 * e / 8))
+    (place_tells g e (8 * e) at system)
+    (ne_eqb (8 * e) 9 (λ nine. absurd (omega (arith, nine))))
+    (subst (λ f. is_system_extent g f ≡ false) (sym at) system)
+
 -- the kind of a good extent
 pub free_kind : (g : Geometry) (e : ℕ) (x : Extent) → IsGoodExtent g e x → x.free ≡ true → IsFree g e x
 free_kind g e x good free = record {

@@ -1,8 +1,8 @@
 -- The examples, computed.
 use Rattle.std.proofs.Common.{refl}
 use Rattle.spec_file.specs.Image.{number_at}
-use Rattle.spec_words.specs.Words.{◌then◌, give, refuse, sees, unless_held, where_good, reach, take, write, first_of, for_each}
-use Rattle.law_alloc.specs.Examples.{LowestIsTaken, HeldExtentIsPassedOver, HeldByteIsPassedOver, LastPageLowersSgam, NothingIsLeft, LowestHeldIsTold, BootKeepsItsExtent, LastPageFreesItsExtent, MarkedExtentStaysInUse, MarkedExtentIsFreed, BadMapIsTold}
+use Rattle.spec_words.specs.Words.{◌then◌, give, refuse, sees, unless_held, where_good, look, reach, take, write, first_of, for_each}
+use Rattle.law_alloc.specs.Examples.{LowestIsTaken, HeldExtentIsPassedOver, HeldByteIsPassedOver, LastPageLowersSgam, NothingIsLeft, LowestHeldIsTold, BootKeepsItsExtent, LastPageFreesItsExtent, MarkedExtentStaysInUse, MarkedExtentIsFreed, BadMapIsTold, SlotComesFirst, MarkedPageComesNext, FreeExtentIsMarked, MarkIsTakenBack, NewIamPageSays}
 
 pub lowest_is_taken : LowestIsTaken
 unfolding number_at ◌then◌ give sees where_good reach take write first_of
@@ -47,3 +47,23 @@ marked_extent_is_freed = (refl, refl, refl)
 pub bad_map_is_told : BadMapIsTold
 unfolding number_at ◌then◌ give sees where_good reach take write first_of
 bad_map_is_told = refl
+
+pub slot_comes_first : SlotComesFirst
+unfolding number_at ◌then◌ give sees where_good look reach take write first_of for_each
+slot_comes_first = (refl, refl, refl)
+
+pub marked_page_comes_next : MarkedPageComesNext
+unfolding number_at ◌then◌ give sees where_good look reach take write first_of for_each
+marked_page_comes_next = (refl, refl, refl)
+
+pub free_extent_is_marked : FreeExtentIsMarked
+unfolding number_at ◌then◌ give sees where_good look reach take write first_of for_each
+free_extent_is_marked = (refl, refl, refl)
+
+pub mark_is_taken_back : MarkIsTakenBack
+unfolding number_at ◌then◌ give sees where_good look reach take write first_of for_each
+mark_is_taken_back = (refl, refl, refl)
+
+pub new_iam_page_says : NewIamPageSays
+unfolding number_at
+new_iam_page_says = (refl, refl, refl, refl)

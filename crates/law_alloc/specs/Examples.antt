@@ -1,15 +1,21 @@
 -- Pages found and given back in a small file of 24 pages, worked by hand. Its pages hold only the bytes that count.
-use Rattle.std.specs.Prelude.{◌≡◌, ℕ, true, false, List, [], ◌∷◌, ◌++◌, replicate, if◌then◌else◌, Option, Some, None}
+use Rattle.std.specs.Prelude.{◌≡◌, ℕ, true, false, List, [], ◌∷◌, ◌++◌, length, flat_map, replicate, if◌then◌else◌, Option, Some, None}
 use Rattle.spec_file.specs.declared.data.Resource.{Resource}
-use Rattle.spec_file.specs.declared.data.Resource.TheVariants.{Extent, Byte}
+use Rattle.spec_file.specs.declared.data.Resource.TheVariants.{Extent, Byte, Page}
 use Rattle.spec_file.specs.declared.geometry.Geometry.TheVariants.{Small}
-use Rattle.spec_file.specs.Image.{Image}
+use Rattle.spec_file.specs.declared.data.Kind.TheVariants.{Heap}
+use Rattle.spec_file.specs.Image.{Image, page_size}
+use Rattle.spec_file.specs.Header.{header_of}
+use Rattle.spec_file.specs.CatalogRows.{CatalogRow}
+use Rattle.spec_file.specs.Iam.{iam_interval, iam_sequence}
 use Rattle.spec_log.specs.Items.{is_same}
 use Rattle.spec_plan.specs.Refusals.{held_by, no_room, bad_page}
 use Rattle.spec_words.specs.NetChanges.{FileShape}
 use Rattle.spec_words.specs.Views.{View, End, Gives, Stops, Plan, beginning}
 use Rattle.spec_alloc.specs.SinglePages.{single_page, no_page}
-use Rattle.spec_alloc.specs.Freeing.{shared_freed, marked_freed}
+use Rattle.spec_alloc.specs.Chains.{new_iam_page}
+use Rattle.spec_alloc.specs.ObjectPages.{object_page}
+use Rattle.spec_alloc.specs.Freeing.{shared_freed, marked_freed, object_page_freed}
 
 abbrev pub small_file : FileShape
 small_file = record { geometry = Small; version = 1; pages = 24 }
@@ -107,3 +113,73 @@ MarkedExtentIsFreed =
 -- a map page of another type is 824 where it is read
 abbrev pub BadMapIsTold : Type 0
 BadMapIsTold = (single_page small_file 96 (view_of [] ([] ∷ [] ∷ map_page 8 2 (4 ∷ []) ∷ map_page 8 3 (2 ∷ []) ∷ []))).ending ≡ Stops (bad_page 3)
+
+-- the IAM page 8 of object 1, for the first interval, with these bytes of slots, and the first byte of its marks
+abbrev pub iam_bytes : List ℕ → ℕ → List ℕ
+iam_bytes slots marks =
+    1 ∷ 10 ∷ 0 ∷ 0 ∷ 8 ∷ 0 ∷ 0 ∷ 0 ∷ 1 ∷ replicate 87 0 ++ (replicate 8 0 ++ (slots ++ (marks ∷ [])))
+
+-- a file of 24 pages with this IAM page behind the maps
+abbrev pub file_with : Image → List ℕ → Image
+file_with before iam = before ++ (replicate 4 [] ++ (iam ∷ replicate 15 []))
+
+abbrev pub object_one : CatalogRow
+object_one = record { id = 1; kind = Heap; name = []; first_iam = 8; root = 0 }
+
+-- slots that hold nothing, the first of which holds page 10, and that are all in use
+abbrev pub no_slots : List ℕ
+no_slots = replicate 32 0
+
+abbrev pub one_slot : List ℕ
+one_slot = 10 ∷ replicate 31 0
+
+abbrev pub all_slots : List ℕ
+all_slots = flat_map (λ p. p ∷ 0 ∷ 0 ∷ 0 ∷ []) (10 ∷ 11 ∷ 12 ∷ 13 ∷ 14 ∷ 15 ∷ 10 ∷ 11 ∷ [])
+
+-- the bytes of extent 1 where all its pages are in use, and of extent 2
+abbrev pub full_bytes : List ℕ → List ℕ
+full_bytes second = 112 ∷ 100 ∷ replicate 6 96 ++ second
+
+-- an object without pages gets a single page, and its lowest slot holds it
+abbrev pub SlotComesFirst : Type 0
+SlotComesFirst =
+    Finds (object_page small_file object_one []) (view_of [] (file_with (maps (112 ∷ 100 ∷ replicate 14 0) 4 2) (iam_bytes no_slots 4))) 10
+    (file_with (maps (112 ∷ 100 ∷ 96 ∷ replicate 13 0) 4 2) (iam_bytes one_slot 4)) (Page (record { 0 = 8 }) ∷ Byte (record { 0 = 10 }) ∷ Extent (record { 0 = 1 }) ∷ [])
+
+-- where all slots are in use, the lowest page of the marked extent is taken; only its byte is
+abbrev pub MarkedPageComesNext : Type 0
+MarkedPageComesNext =
+    Finds (object_page small_file object_one []) (view_of [] (file_with (maps (full_bytes (64 ∷ replicate 7 0)) 0 0) (iam_bytes all_slots 4))) 17
+    (file_with (maps (full_bytes (64 ∷ 64 ∷ replicate 6 0)) 0 0) (iam_bytes all_slots 4)) (Byte (record { 0 = 17 }) ∷ [])
+
+-- where it marks none, the free extent is marked
+abbrev pub FreeExtentIsMarked : Type 0
+FreeExtentIsMarked =
+    Finds (object_page small_file object_one []) (view_of [] (file_with (maps (full_bytes (replicate 8 0)) 4 0) (iam_bytes all_slots 0))) 16
+    (file_with (maps (full_bytes (64 ∷ replicate 7 0)) 0 0) (iam_bytes all_slots 4))
+    (Page (record { 0 = 8 }) ∷ Byte (record { 0 = 16 }) ∷ Extent (record { 0 = 2 }) ∷ [])
+
+-- and that page, given back, leaves all as it was
+abbrev pub MarkIsTakenBack : Type 0
+MarkIsTakenBack =
+    Finds (object_page_freed small_file object_one 16) (view_of [] (file_with (maps (full_bytes (64 ∷ replicate 7 0)) 0 0) (iam_bytes all_slots 4))) tt
+    (file_with (maps (full_bytes (replicate 8 0)) 4 0) (iam_bytes all_slots 0))
+    (Page (record { 0 = 8 }) ∷ Extent (record { 0 = 2 }) ∷ Byte (record { 0 = 16 }) ∷ [])
+
+-- a new IAM page has a whole page's bytes, and says what it is, its interval and its sequence
+abbrev pub NewIamPageSays : Type 0
+NewIamPageSays =
+    (length (new_iam_page 3 18 8 1 2) ≡ page_size)
+    × (header_of (new_iam_page 3 18 8 1 2) ≡ record {
+      page_type = 10;
+      level = 0;
+      page_id = record { 0 = 18 };
+      object = record { 0 = 3 };
+      prev = record { 0 = 8 };
+      next = record { 0 = 0 };
+      slots = 0;
+      free_count = 0;
+      free_from = 0;
+      ghosts = 0;
+    })
+    × (iam_interval (new_iam_page 3 18 8 1 2) ≡ 1) × (iam_sequence (new_iam_page 3 18 8 1 2) ≡ 2)

@@ -1,4 +1,4 @@
--- Taking a single page, and giving pages back, leave a good view good.
+-- Taking pages, and giving them back, leave a good view good.
 use Rattle.std.specs.Prelude.{◌≡◌, ℕ, ◌<◌, true, List, Option, Some, None}
 use Rattle.spec_file.specs.CatalogRows.{CatalogRow}
 use Rattle.spec_file.specs.Roles.{is_ordinary}

@@ -1,12 +1,12 @@
 //! The laws of the words of allocation: what they find, take and give back.
 #![tactic(auto)]
 
-ghost use Rattle.law_alloc.specs.Examples.{LowestIsTaken, HeldExtentIsPassedOver, HeldByteIsPassedOver, LastPageLowersSgam, NothingIsLeft, LowestHeldIsTold, BootKeepsItsExtent, LastPageFreesItsExtent, MarkedExtentStaysInUse, MarkedExtentIsFreed, BadMapIsTold};
+ghost use Rattle.law_alloc.specs.Examples.{LowestIsTaken, HeldExtentIsPassedOver, HeldByteIsPassedOver, LastPageLowersSgam, NothingIsLeft, LowestHeldIsTold, BootKeepsItsExtent, LastPageFreesItsExtent, MarkedExtentStaysInUse, MarkedExtentIsFreed, BadMapIsTold, SlotComesFirst, MarkedPageComesNext, FreeExtentIsMarked, MarkIsTakenBack, NewIamPageSays};
 ghost use Rattle.law_alloc.specs.Keeps.{SingleKeepsGood, ObjectPageKeepsGood, SharedKeepsGood, MarkedKeepsGood, ObjectPageFreedKeepsGood, NewChainKeepsGood, DropKeepsGood};
 
-/// Where a single page or a page for an object is taken, or a page of a mixed or of a marked extent is given back, a
-/// good view stays good: it differs from how it began only under what was taken. A page that is taken is one of the file
-/// that objects may own.
+/// Where a single page, a page for an object or a new chain's page is taken, a page of a mixed or of a marked extent is
+/// given back, one of an object is, with its slots and marks, or all pages of an object are, a good view stays good: it
+/// differs from how it began only under what was taken. A page that is taken is one of the file that objects may own.
 pub fn keep_laws()
     ensures single { SingleKeepsGood }
     ensures object { ObjectPageKeepsGood }
@@ -18,7 +18,8 @@ pub fn keep_laws()
 {}
 
 /// A small file, worked by hand: which single page is found, and what is passed over; that a bit of SGAM falls with the
-/// last free page, and a bit of GAM rises with the last page that is given back; what is told where no page is left.
+/// last free page, and a bit of GAM rises with the last page that is given back; what is told where no page is left; in
+/// which order an object looks for a page, what it writes, and what a new IAM page says.
 pub fn examples()
     ensures lowest { LowestIsTaken }
     ensures extent { HeldExtentIsPassedOver }
@@ -31,4 +32,9 @@ pub fn examples()
     ensures in_use { MarkedExtentStaysInUse }
     ensures marked { MarkedExtentIsFreed }
     ensures bad { BadMapIsTold }
+    ensures slot { SlotComesFirst }
+    ensures page { MarkedPageComesNext }
+    ensures mark { FreeExtentIsMarked }
+    ensures back { MarkIsTakenBack }
+    ensures iam { NewIamPageSays }
 {}

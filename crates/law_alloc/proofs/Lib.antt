@@ -5,3 +5,4 @@ pub mod Freed
 pub mod Chains
 pub mod Objects
 pub mod GivenBack
+pub mod Unheld

@@ -2,6 +2,7 @@
 #![tactic(auto)]
 
 ghost use Rattle.law_alloc.specs.Examples.{LowestIsTaken, HeldExtentIsPassedOver, HeldByteIsPassedOver, LastPageLowersSgam, NothingIsLeft, LowestHeldIsTold, BootKeepsItsExtent, LastPageFreesItsExtent, MarkedExtentStaysInUse, MarkedExtentIsFreed, BadMapIsTold, SlotComesFirst, MarkedPageComesNext, FreeExtentIsMarked, MarkIsTakenBack, NewIamPageSays};
+ghost use Rattle.law_alloc.specs.Unheld.{SingleIsUnheld};
 ghost use Rattle.law_alloc.specs.Keeps.{SingleKeepsGood, ObjectPageKeepsGood, SharedKeepsGood, MarkedKeepsGood, ObjectPageFreedKeepsGood, NewChainKeepsGood, DropKeepsGood};
 
 /// Where a single page, a page for an object or a new chain's page is taken, a page of a mixed or of a marked extent is
@@ -15,6 +16,11 @@ pub fn keep_laws()
     ensures page { ObjectPageFreedKeepsGood }
     ensures chain { NewChainKeepsGood }
     ensures drop { DropKeepsGood }
+{}
+
+/// A single page is never of an extent that another transaction holds, nor one whose PFS byte it holds.
+pub fn held_law()
+    ensures { SingleIsUnheld }
 {}
 
 /// A small file, worked by hand: which single page is found, and what is passed over; that a bit of SGAM falls with the

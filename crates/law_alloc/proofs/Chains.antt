@@ -132,7 +132,7 @@ low_append : (xs ys : List ℕ) → Low xs → Low ys → Low (xs ++ ys)
 low_append [] ys a b = b
 low_append (x ∷ xs) ys a b = (a.0, low_append xs ys a.1 b)
 
-low_zeros : (n : ℕ) → Low (replicate n 0)
+pub low_zeros : (n : ℕ) → Low (replicate n 0)
 low_zeros zero = tt
 low_zeros (suc n) = (omega arith, low_zeros n)
 

@@ -1,8 +1,10 @@
 -- The examples, computed.
 use Rattle.std.proofs.Common.{refl}
 use Rattle.spec_file.specs.Image.{number_at}
+use Rattle.spec_file.specs.Catalog.{entry_at}
+use Rattle.spec_file.specs.CatalogRows.{rows_of}
 use Rattle.spec_words.specs.Words.{◌then◌, give, refuse, sees, unless_held, where_good, look, reach, take, write, first_of, for_each}
-use Rattle.law_alloc.specs.Examples.{LowestIsTaken, HeldExtentIsPassedOver, HeldByteIsPassedOver, LastPageLowersSgam, NothingIsLeft, LowestHeldIsTold, BootKeepsItsExtent, LastPageFreesItsExtent, MarkedExtentStaysInUse, MarkedExtentIsFreed, BadMapIsTold, SlotComesFirst, MarkedPageComesNext, FreeExtentIsMarked, MarkIsTakenBack, NewIamPageSays}
+use Rattle.law_alloc.specs.Examples.{LowestIsTaken, HeldExtentIsPassedOver, HeldByteIsPassedOver, LastPageLowersSgam, NothingIsLeft, LowestHeldIsTold, BootKeepsItsExtent, LastPageFreesItsExtent, MarkedExtentStaysInUse, MarkedExtentIsFreed, BadMapIsTold, SlotComesFirst, MarkedPageComesNext, FreeExtentIsMarked, MarkIsTakenBack, NewIamPageSays, LowestAreCreated, EntryIsFound}
 
 pub lowest_is_taken : LowestIsTaken
 unfolding number_at ◌then◌ give sees where_good reach take write first_of
@@ -67,3 +69,11 @@ mark_is_taken_back = (refl, refl, refl)
 pub new_iam_page_says : NewIamPageSays
 unfolding number_at
 new_iam_page_says = (refl, refl, refl, refl)
+
+pub lowest_are_created : LowestAreCreated
+unfolding number_at rows_of entry_at
+lowest_are_created = (refl, refl, refl, refl, refl, refl)
+
+pub entry_is_found : EntryIsFound
+unfolding number_at entry_at
+entry_is_found = (refl, refl, refl)

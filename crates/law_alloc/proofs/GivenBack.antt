@@ -1,5 +1,5 @@
 -- What an object gives back, and what CREATE and DROP need of allocation, leave a good view good.
-use Rattle.std.proofs.Common.{◌≡◌, ℕ, zero, suc, ◌+◌, ◌/◌, ◌<◌, ◌≤◌, Bool, true, eqb, eqb-true, List, [], ◌∷◌, inl, inr, refl, subst, arith}
+use Rattle.std.proofs.Common.{◌≡◌, ℕ, zero, suc, ◌+◌, ◌*◌, ◌/◌, ◌<◌, ◌≤◌, Bool, true, eqb, eqb-true, List, [], ◌∷◌, replicate, inl, inr, refl, subst, arith}
 use Rattle.std.specs.Prelude.{filter, if◌then◌else◌}
 use Rattle.std.specs.List.{range_with_len, list_any}
 use Rattle.std.proofs.lemmas.Bool.{cond_both, or_cases}
@@ -21,12 +21,13 @@ use Rattle.spec_alloc.specs.Objects.{new_chain, page_dropped, left_extents, left
 use Rattle.law_net.specs.GoodViews.{Leads}
 use Rattle.law_net.proofs.WordLaws.{leads_then, leads_give, leads_good, leads_each, leads_weaker}
 use Rattle.law_net.proofs.RowBytes.{low_bytes}
+use Rattle.law_net.proofs.WordsKeep.{catalog_keeps_good}
 use Rattle.law_net.proofs.InsertKeeps.{IsGoodOf, take_keeps}
-use Rattle.law_alloc.specs.Keeps.{ObjectPageFreedKeepsGood, NewChainKeepsGood, DropKeepsGood}
+use Rattle.law_alloc.specs.Keeps.{ObjectPageFreedKeepsGood, NewChainKeepsGood, DropKeepsGood, EntryKeepsGood}
 use Rattle.law_alloc.proofs.Searches.{Any, sees_reads, leads_from, map_reads}
 use Rattle.law_alloc.proofs.Singles.{Found, Given, single_finds, gam_keeps, page_keeps, good_then}
 use Rattle.law_alloc.proofs.Freed.{Good, shared_keeps, marked_keeps}
-use Rattle.law_alloc.proofs.Chains.{AllIn, AllOwn, IsChainOf, chain_reads_now, taken_gives, slot_keeps, mark_keeps, low_iam}
+use Rattle.law_alloc.proofs.Chains.{AllIn, AllOwn, IsChainOf, chain_reads_now, taken_gives, slot_keeps, mark_keeps, low_zeros, low_iam}
 use Rattle.law_alloc.proofs.Objects.{or_none}
 
 -- one after another of these: what each keeps, all keep
@@ -144,3 +145,6 @@ new_chain_keeps_good v id good =
 pub drop_keeps_good : DropKeepsGood
 drop_keeps_good v row good =
     leads_weaker (pages_dropped v.shape row) v (Good v.shape) _ (λ u w g. (g.good, g.same)) (drop_keeps v.shape row v (record { same = refl; good = good }))
+
+pub entry_keeps_good : EntryKeepsGood
+entry_keeps_good v i = catalog_keeps_good v (96 + 40 * i) (replicate 40 0) (low_bytes (replicate 40 0) (low_zeros 40))

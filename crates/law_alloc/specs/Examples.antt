@@ -15,6 +15,7 @@ use Rattle.spec_words.specs.Views.{View, End, Gives, Stops, Plan, beginning}
 use Rattle.spec_alloc.specs.SinglePages.{single_page, no_page}
 use Rattle.spec_alloc.specs.Chains.{new_iam_page}
 use Rattle.spec_alloc.specs.ObjectPages.{object_page}
+use Rattle.spec_alloc.specs.Objects.{free_id, free_entry, entry_of}
 use Rattle.spec_alloc.specs.Freeing.{shared_freed, marked_freed, object_page_freed}
 
 abbrev pub small_file : FileShape
@@ -183,3 +184,20 @@ NewIamPageSays =
       ghosts = 0;
     })
     × (iam_interval (new_iam_page 3 18 8 1 2) ≡ 1) × (iam_sequence (new_iam_page 3 18 8 1 2) ≡ 2)
+
+-- page 9 whose first entry, and whose third, are of objects with these ids
+abbrev pub entry_bytes : ℕ → List ℕ
+entry_bytes id = id ∷ 0 ∷ 0 ∷ 0 ∷ 1 ∷ 1 ∷ 97 ∷ replicate 33 0
+
+abbrev pub two_entries : ℕ → ℕ → List ℕ
+two_entries first third = replicate 96 0 ++ (entry_bytes first ++ (replicate 40 0 ++ entry_bytes third))
+
+-- CREATE takes the smallest id that no object has, wherever that stands, and the lowest empty entry
+abbrev pub LowestAreCreated : Type 0
+LowestAreCreated =
+    (free_id (two_entries 1 3) ≡ Some 2) × (free_id (two_entries 2 1) ≡ Some 3) × (free_id (two_entries 3 2) ≡ Some 1)
+    × (free_id [] ≡ Some 1) × (free_entry (two_entries 2 1) ≡ Some 1) × (free_entry [] ≡ Some 0)
+
+-- DROP finds the entry by the object's id
+abbrev pub EntryIsFound : Type 0
+EntryIsFound = (entry_of (two_entries 2 1) 1 ≡ Some 2) × (entry_of (two_entries 2 1) 2 ≡ Some 0) × (entry_of (two_entries 2 1) 3 ≡ None)

@@ -7,7 +7,7 @@ use Rattle.spec_words.specs.Views.{View}
 use Rattle.spec_alloc.specs.SinglePages.{single_page}
 use Rattle.spec_alloc.specs.ObjectPages.{object_page}
 use Rattle.spec_alloc.specs.Freeing.{shared_freed, marked_freed, object_page_freed}
-use Rattle.spec_alloc.specs.Objects.{new_chain, pages_dropped}
+use Rattle.spec_alloc.specs.Objects.{entry_emptied, new_chain, pages_dropped}
 use Rattle.law_net.specs.GoodViews.{IsGoodView, Leads, KeepsGood}
 
 -- this holds of what is found, if anything is
@@ -49,3 +49,7 @@ NewChainKeepsGood = (view : View) (id : ℕ) → IsGoodView view →
 -- all pages of an object are given back
 abbrev pub DropKeepsGood : Type 0
 DropKeepsGood = (view : View) (row : CatalogRow) → KeepsGood (pages_dropped view.shape row) view
+
+-- an entry of the catalog is emptied
+abbrev pub EntryKeepsGood : Type 0
+EntryKeepsGood = (view : View) (i : ℕ) → KeepsGood (entry_emptied i) view

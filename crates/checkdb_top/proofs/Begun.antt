@@ -9,7 +9,7 @@ use Rattle.spec_plan.specs.ReplayForm.{IsReplayForm}
 use Rattle.spec_run.specs.Begun.{Setting}
 use Rattle.spec_file.specs.Places.{HasShape}
 use Rattle.law_run.specs.Laws.{IsStart}
-use Rattle.spec_run.specs.Schedules.{setting_of}
+use Rattle.spec_run.specs.Openings.{setting_of}
 use Rattle.db_core.specs.States.{Db}
 use Rattle.spec_start.specs.Files.{AreAllPages}
 use Rattle.spec_start.specs.Sources.{AreTexts, AreTurnsOf}

@@ -10,7 +10,8 @@ use Rattle.spec_run.specs.Entries.{Entry}
 use Rattle.spec_run.specs.Turns.{IsWhole, Run}
 use Rattle.spec_run.specs.Bounds.{TurnsLeft, RunWithin}
 use Rattle.spec_file.specs.Places.{HasShape}
-use Rattle.spec_run.specs.Schedules.{rest_from, setting_of, turns_of}
+use Rattle.spec_run.specs.Schedules.{rest_from, turns_of}
+use Rattle.spec_run.specs.Openings.{setting_of}
 use Rattle.db_core.specs.States.{Db}
 use Rattle.spec_start.specs.Sources.{AreShort, AreTurnsOf}
 use Rattle.checkdb_top.specs.declared.start.Start.{Start}

@@ -24,7 +24,8 @@ use Rattle.spec_run.specs.Bounds.{TurnsLeft, RunWithin}
 use Rattle.spec_run.specs.ChangedPages.{is_changed}
 use Rattle.law_shape.specs.Answered.{AreAnswered}
 use Rattle.spec_run.specs.Answers.{is_terminated}
-use Rattle.spec_run.specs.Schedules.{rest_from, setting_of, turns_of}
+use Rattle.spec_run.specs.Schedules.{rest_from, turns_of}
+use Rattle.spec_run.specs.Openings.{setting_of}
 use Rattle.spec_start.specs.Sources.{AreTexts}
 use Rattle.spec_start.specs.Files.{AreAllPages}
 use Rattle.checkdb_top.specs.Answers.{ended}

@@ -6,3 +6,16 @@ pub mod Chains
 pub mod Pfs
 pub mod Lists
 pub mod PageSteps
+pub mod MapPlaces
+pub mod MapReads
+pub mod SearchSteps
+pub mod Reached
+pub mod SingleSteps
+pub mod IamBytes
+pub mod ObjectSteps
+pub mod Parts
+pub mod FreeSteps
+pub mod Leaves
+pub mod Reaches
+pub mod OwnedSteps
+pub mod DropSteps

@@ -20,6 +20,7 @@ use Rattle.db_locks.specs.declared.plan_pages.PageStop.TheVariants.{Bad}
 use Rattle.db_locks.specs.States.{PlanState}
 use Rattle.db_locks.specs.Does.{Does, stop_of}
 use Rattle.db_locks.proofs.PlanLaws.{does_then, does_stop, does_give, does_good, does_bad, does_see}
+use Rattle.db_alloc.specs.Maps.{IsOwnable}
 use Rattle.db_alloc.specs.Tables.{chain_link}
 use Rattle.db_alloc.proofs.Steps.{does_told}
 
@@ -99,3 +100,15 @@ link_good {a} {b} row met from p bytes next inside looked good slots same is =
     (does_then _ (does_see [] b _ true (λ told. slots (sym looked.stays.told ∙ told)))
     (does_then _ (does_good [] b true p.0 (λ told. refl))
     (does_told (λ (n : ℕ). give n) (λ told. is ∙ ap next_of (same (sym looked.stays.told ∙ told))) (does_give [] b next))))))
+
+first_of_three : (x a b c : Bool) → x ≡ (a && b && c) → x ≡ true → a ≡ true
+first_of_three x true b c is h = refl
+first_of_three x false b c is h = sym is ∙ h
+
+-- a page of a chain is one of the file that objects may own
+pub ownable_link : (shape : FileShape) (g : Geometry) (pages : ℕ) (row : CatalogRow) (met : List ℕ) (p : ℕ) (bytes : List ℕ) (inside answer : Bool) → g ≡ shape.geometry → pages ≡ shape.pages
+    → inside ≡ is_inside pages p → inside ≡ true → answer ≡ asked g pages row met p bytes → answer ≡ true → IsOwnable shape p
+ownable_link shape g pages row met p bytes inside answer same_g same_n is_in within is good = record {
+  inside = let lt = ltb-true p pages (and_parts (not (p == 0)) (nat_lt p pages) (sym is_in ∙ within)).1 in omega (arith, lt, same_n);
+  ordinary = ap (λ h. is_ordinary h p) (sym same_g) ∙ first_of_three answer (is_ordinary g p) (is_none (fault_of_bytes g pages row.id p bytes)) (not (list_any (λ q. q == p) met)) is good;
+}

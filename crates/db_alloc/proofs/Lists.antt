@@ -81,7 +81,7 @@ filter_finer : (f g h : ℕ → Bool) (xs : List ℕ) → ((x : ℕ) → (f x &&
 filter_finer f g h [] e = refl
 filter_finer f g h (x ∷ xs) e = finer_step f g h x xs (filter_finer f g h xs e) (f x) (g x) refl refl (e x)
 
-filter_same : (f g : ℕ → Bool) (xs : List ℕ) → ((x : ℕ) → f x ≡ g x) → filter f xs ≡ filter g xs
+pub filter_same : (f g : ℕ → Bool) (xs : List ℕ) → ((x : ℕ) → f x ≡ g x) → filter f xs ≡ filter g xs
 filter_same f g xs e = ap (λ (h : ℕ → Bool). filter h xs) (λ i x. e x i)
 
 -- a page in a slot, or an allocated one of a marked extent
@@ -89,13 +89,13 @@ object_test : (single marked allocated : Bool) → ((single || marked) && (singl
 object_test true marked allocated = refl
 object_test false marked allocated = refl
 
-any_of_map : {X Y : Type 0} (p : Y → Bool) (f : X → Y) (xs : List X) → list_any p (map f xs) ≡ list_any (λ x. p (f x)) xs
+pub any_of_map : {X Y : Type 0} (p : Y → Bool) (f : X → Y) (xs : List X) → list_any p (map f xs) ≡ list_any (λ x. p (f x)) xs
 any_of_map p f [] = refl
 any_of_map p f (x ∷ xs) = ap (λ b. p (f x) || b) (any_of_map p f xs)
 
 -- ---- what the pages of a chain say
 
-single_as : (image : Image) (chain : List ℕ) (p : ℕ) → 1 ≤ length chain → is_in_slot (first_slots (map (page image) chain)) p ≡ is_single image chain p
+pub single_as : (image : Image) (chain : List ℕ) (p : ℕ) → 1 ≤ length chain → is_in_slot (first_slots (map (page image) chain)) p ≡ is_single image chain p
 single_as image [] p some = absurd (omega (arith, some))
 single_as image (q ∷ rest) p some = refl
 

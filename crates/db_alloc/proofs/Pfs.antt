@@ -25,7 +25,7 @@ use Rattle.db_alloc.specs.Results.{value_as}
 use Rattle.db_alloc.proofs.Steps.{does_exit_as}
 
 -- a PFS page speaks of itself
-pfs_again : (g : Geometry) (p : ℕ) → pfs_page g p ≡ pfs_page g (pfs_page g p)
+pub pfs_again : (g : Geometry) (p : ℕ) → pfs_page g p ≡ pfs_page g (pfs_page g p)
 pfs_again Standard p = elim (cases_eq (p / 8088) 0) [
   | inl none ↦
       let is : pfs_page Standard p ≡ 1 = ap (λ b. if b then 1 else 8088 * (p / 8088)) (eq-eqb (p / 8088) 0 none) in
@@ -59,7 +59,7 @@ header_told g p q e =
     let own : is_pfs_page g (pfs_page g p) ≡ true = eq-eqb (pfs_page g p) (pfs_page g (pfs_page g p)) (pfs_again g p) in
     subst (λ k. IsTrue (tells_header g (resource.Byte (record { 0 = p })) k)) (sym e) (rw own refl)
 
-says_same : (type q : ℕ) (a b : List ℕ) → take maps_start a ≡ take maps_start b → says type q a ≡ says type q b
+pub says_same : (type q : ℕ) (a b : List ℕ) → take maps_start a ≡ take maps_start b → says type q a ≡ says type q b
 says_same type q a b same =
     ap (λ t. (t == type) && (page_id a == q)) (same_byte 1 maps_start a b same (omega arith))
     ∙ ap (λ i. (page_type b == type) && (i == q)) (same_number 4 4 maps_start a b same (omega arith))

@@ -1,3 +1,7 @@
 pub mod Results
 pub mod Tables
 pub mod Marks
+pub mod Maps
+pub mod Searches
+pub mod Drops
+pub mod Objects

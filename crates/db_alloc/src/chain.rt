@@ -1,5 +1,5 @@
 // The IAM chain of a table.
-ghost use Rattle.std.specs.Prelude.{◌≡◌, ◌<◌, ◌≤◌, ◌==◌, ◌&&◌, ◌||◌, ◌++◌, ◌∷◌, [], IsTrue, IfOk, IfErr, OnOk, is_none, nat_lt, not, length, map};
+ghost use Rattle.std.specs.Prelude.{◌≡◌, ◌<◌, ◌≤◌, ◌==◌, ◌&&◌, ◌||◌, ◌++◌, ◌∷◌, [], IsTrue, IfOk, IfErr, OnOk, is_none, nat_lt, not, length, map, All};
 ghost use Rattle.std.specs.List.{list_all, list_any};
 ghost use Rattle.spec_file.specs.Iam.{iam_slots};
 ghost use Rattle.spec_file.specs.Image.{page};
@@ -10,6 +10,7 @@ ghost use Rattle.spec_words.specs.Tables as spec;
 ghost use Rattle.db_cat.specs.Rows.{row_of};
 ghost use Rattle.db_locks.specs.declared.plan_pages.PageStop.TheVariants as stop;
 ghost use Rattle.db_locks.specs.Does.{Does};
+ghost use Rattle.db_alloc.specs.Maps.{IsOwnable};
 ghost use Rattle.db_alloc.specs.Results.{value_as};
 ghost use Rattle.db_alloc.specs.Tables.{numbers, bytes_of, chain_link};
 
@@ -69,6 +70,7 @@ fn read_link<P: PlanPages>(
     requires pages { table.now.pages ≡ (P.state v.old).view.shape.pages }
     ensures does { Does (P.state v.old) (P.state v.new) (chain_link (P.state v.old).view.shape (row_of table.now.row) (numbers met.now) from.0 p.0) (value_as (λ q. q.0) result) }
     ensures told { OnOk result (IsTrue (P.state v.old).told → into.new.bytes ≡ page (P.state v.old).view.now p.0) }
+    ensures ownable { OnOk result (IsOwnable (P.state v.old).view.shape p.0) }
     ensures view { (P.state v.new).view ≡ (P.state v.old).view }
 {
     if !is_inside(table.pages, p) {
@@ -110,6 +112,7 @@ fn add_link<P: PlanPages>(
     ensures does { Does (P.state v.old) (P.state v.new) (chain_link (P.state v.old).view.shape (row_of table.now.row) (numbers chain.old.numbers.items) from.0 p.0) (value_as (λ q. q.0) result) }
     ensures numbers { OnOk result (numbers chain.new.numbers.items ≡ numbers chain.old.numbers.items ++ p.0 ∷ []) }
     ensures told { OnOk result (IsTrue (P.state v.old).told → bytes_of chain.new.pages.items ≡ bytes_of chain.old.pages.items ++ page (P.state v.old).view.now p.0 ∷ []) }
+    ensures ownable { OnOk result (IsOwnable (P.state v.old).view.shape p.0) }
     ensures view { (P.state v.new).view ≡ (P.state v.old).view }
 {
     let mut iam = page_room(alloc)?;
@@ -129,6 +132,7 @@ pub(crate) fn read_chain<P: PlanPages>(
     ensures does { Does (P.state v.old) (P.state v.new) (spec.chain_of (P.state v.old).view.shape (row_of table.now.row)) (value_as (λ chain. numbers chain.numbers.items) result) }
     ensures some { IfOk result (λ chain. 1 ≤ length chain.numbers.items) }
     ensures told { IfOk result (λ chain. IsTrue (P.state v.old).told → bytes_of chain.pages.items ≡ map (page (P.state v.old).view.now) (numbers chain.numbers.items)) }
+    ensures ownable { IfOk result (λ chain. All (IsOwnable (P.state v.old).view.shape) (numbers chain.numbers.items)) }
     ensures view { (P.state v.new).view ≡ (P.state v.old).view }
 {
     let mut chain = Chain {

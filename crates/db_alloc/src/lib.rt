@@ -3,14 +3,25 @@
 
 mod buffer;
 mod chain;
+mod drop;
 mod find;
+mod free;
 mod iam;
 mod list;
 mod look;
+mod maps;
 mod marks;
+mod object;
+mod owned;
 mod pages;
+mod part;
+mod search;
+mod single;
 mod table;
 
+pub use drop::free_chain;
 pub use find::{FindStop, find_table};
+pub use object::new_chain;
 pub use pages::pages_of;
+pub use single::AllocStop;
 pub use table::Table;

@@ -33,8 +33,8 @@ fn marks(g: Geometry, iam: &Page, p: PageNo) -> bool
         && has_mark(iam, (p.0 / 8) % interval_size(g))
 }
 
-// One of these IAM pages marks the extent of page p.
-fn is_marked(g: Geometry, iams: &[Box<Page>], p: PageNo) -> bool
+/// One of these IAM pages marks the extent of page p.
+pub(crate) fn is_marked(g: Geometry, iams: &[Box<Page>], p: PageNo) -> bool
     ensures { result ≡ list_any (spec.marks g p.0) (bytes_of iams.now) }
 {
     for iam in iams {

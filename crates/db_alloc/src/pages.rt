@@ -42,8 +42,8 @@ fn add_page<P: PlanPages>(
     push_if(found, p, yes)
 }
 
-// Reads the PFS bytes of these pages. The object's are those that are in one of these slots or allocated.
-fn read_pages<P: PlanPages>(
+/// Reads the PFS bytes of these pages. The object's are those that are in one of these slots or allocated.
+pub(crate) fn read_pages<P: PlanPages>(
     alloc: Global,
     v: &mut P,
     table: &Table,

@@ -47,7 +47,7 @@ next_is x len y stage len_is at =
 pub proper_next : (st : State) (k : ℕ) (x : Session) (s : Statement) → IsGood st → slice_get st.sessions.items k ≡ Some x → slice_get x.script.items (length x.replies.items) ≡ Some s → is_statement s ≡ true
 proper_next st k x s good here next =
     let mine = good.state.each k x here in
-    good.proper (k + 1) (length x.replies.items) s (ap (λ script. slice_get script (length x.replies.items)) mine.script_is ∙ next)
+    good.state.start.proper (k + 1) (length x.replies.items) s (ap (λ script. slice_get script (length x.replies.items)) mine.script_is ∙ next)
 
 -- a session whose script is done has no next item
 pub done_next : (run : Setting) (log : List Record) (s : ℕ) (x : Session) → IsSession run log s x → x.doing ≡ Idle → slice_get x.script.items (length x.replies.items) ≡ None → next_of run s log ≡ None

@@ -24,7 +24,7 @@ use Rattle.db_core.specs.declared.session.Session.{Session}
 use Rattle.db_core.specs.States.{whole_log, IsState}
 use Rattle.db_core.specs.Back.{first_back, MayPutLeft, MayTakeBack, MayGoBack}
 use Rattle.db_core.proofs.CheckSteps.{checking_due}
-use Rattle.db_core.proofs.Backwards.{one_back}
+use Rattle.db_core.proofs.Backwards.{up_to}
 use Rattle.db_core.proofs.Stepped.{cell_inside, cell_some, cell_fits}
 
 -- bytes as long as those of the newest Change may stand in its cell
@@ -76,12 +76,6 @@ take_back_item g pages older (Abort tran) image long rules forms = tt
 take_back_item g pages older (Snap session index) image long rules forms = tt
 take_back_item g pages older (Failed session index page) image long rules forms = tt
 take_back_item g pages older (CheckEnd session index outcome) image long rules forms = tt
-
--- the log up to an item
-up_to : (items : List Record) (n : ℕ) (x : Record) → slice_get items n ≡ Some x → reverse items ≡ reverse (drop (n + 1) items) ++ x ∷ first_back items n
-up_to items n x e =
-    ap reverse (sym (take-append-drop (n + 1) items)) ∙ reverse-append (take (n + 1) items) (drop (n + 1) items)
-    ∙ ap (λ older. reverse (drop (n + 1) items) ++ older) (one_back items n x e)
 
 -- a check's next step fits into its pages
 pub back_fits : (run : Setting) (log : List Record) (pages : Image) (sessions : List Session) (last all size : ℕ) (k : ℕ) (old : Session) (check : Check) →

@@ -1,9 +1,14 @@
 -- A check that takes items back keeps its snapshot.
-use Rattle.std.proofs.Common.{◌≡◌, ℕ, ◌+◌, ◌-◌, ◌/◌, ◌<◌, ◌≤◌, Bool, true, false, List, [], ◌∷◌, length, get_or, reverse, take, Some, ◌⊎◌, inl, inr, refl, sym, ap, ◌∙◌, subst, arith}
+use Rattle.law_run.proofs.FirstPage.{back_first}
+use Rattle.law_undo.proofs.Views.{sound_forms, sound_rules}
+use Rattle.spec_log.proofs.RulesLaws.{older_rules, older_forms}
+use Rattle.spec_log.specs.Rules.{KeepsRules, HaveForm}
+use Rattle.spec_log.specs.Sound.{IsSound}
+use Rattle.std.proofs.Common.{◌≡◌, ℕ, ◌+◌, ◌-◌, ◌/◌, ◌<◌, ◌≤◌, Bool, true, false, List, [], ◌∷◌, length, ◌++◌, drop, get_or, reverse, take, Some, ◌⊎◌, inl, inr, refl, sym, ap, ◌∙◌, subst, arith}
 use Rattle.std.specs.Prelude.{if◌then◌else◌, slice_get}
-use Rattle.std.proofs.lemmas.List.{reverse-append, length-reverse, take_more, reverse-reverse}
+use Rattle.std.proofs.lemmas.List.{reverse-append, length-reverse, take_more, reverse-reverse, take-append-drop}
 use Rattle.std.proofs.lemmas.Option.{slice_get-get_or, slice_get_within, slice_get_cases, get_or_from_slice_get}
-use Rattle.spec_file.specs.Image.{Image}
+use Rattle.spec_file.specs.Image.{Image, page}
 use Rattle.spec_log.specs.declared.item.Record.{Record}
 use Rattle.spec_log.specs.declared.item.Record.TheVariants.{CheckEnd}
 use Rattle.spec_log.specs.Items.{tran_of}
@@ -32,6 +37,12 @@ pub one_back : (items : List Record) (n : ℕ) (x : Record) → slice_get items 
 one_back items n x e =
     ap reverse (take_more items n x (slice_get_within items n x e)) ∙ reverse-append (take n items) (get_or items n x ∷ [])
     ∙ ap (λ y. y ∷ first_back items n) (get_or_from_slice_get items n x x e)
+
+-- the log up to an item
+pub up_to : (items : List Record) (n : ℕ) (x : Record) → slice_get items n ≡ Some x → reverse items ≡ reverse (drop (n + 1) items) ++ x ∷ first_back items n
+up_to items n x e =
+    ap reverse (sym (take-append-drop (n + 1) items)) ∙ reverse-append (take (n + 1) items) (drop (n + 1) items)
+    ∙ ap (λ older. reverse (drop (n + 1) items) ++ older) (one_back items n x e)
 
 back_more : (ongoing : List ℕ) (items : List Record) (n : ℕ) (x : Record) (image : Image) → slice_get items n ≡ Some x →
     without ongoing items (n + 1) image ≡ without ongoing items n (if is_among ongoing (tran_of x) then take_back (first_back items n) x image else image)
@@ -116,6 +127,22 @@ step_phase items old new (inl t) before = subst (IsPhaseOf new.pages) (sym t.pha
     by_phase (phases.Scanning map scan) e = absurd (let none = before (ap is_back e) in let below = t.below in omega (arith, none, below))
 step_phase items old new (inr f) before = subst (IsPhaseOf new.pages) (sym f.phase) tt
 
+-- no item changes page 0
+step_first : (run : Setting) (log : List Record) (old new : Check) → IsSound run.geometry (length run.image) run.opened run.image log →
+    TakesLast (reverse (whole_log run log)) old new ⊎ FindsNone (reverse (whole_log run log)) old new → page new.pages 0 ≡ page old.pages 0
+step_first run log old new sound (inl t) =
+    let g = whole_log run log in
+    let items = reverse g in
+    let pages = length run.image in
+    let newer = reverse (drop (new.place + 1) items) in
+    let older = first_back items new.place in
+    let whole : g ≡ newer ++ t.item ∷ older = sym (reverse-reverse g) ∙ up_to items new.place t.item t.stands in
+    ap (λ (image : Image). page image 0) t.pages
+    ∙ back_first run.geometry pages older t.item old.pages
+    (older_forms newer (t.item ∷ older) (subst HaveForm whole (sound_forms run.geometry pages run.opened run.image log sound)))
+    (older_rules run.geometry pages newer (t.item ∷ older) (subst (KeepsRules run.geometry pages) whole (sound_rules run.geometry pages run.opened run.image log sound)))
+step_first run log old new sound (inr f) = ap (λ (image : Image). page image 0) f.pages
+
 -- each step leaves a turn fewer, while items are taken back
 pub back_falls : (items : List Record) (old new : Check) → GoesBack items old new → is_back old.phase ≡ true → steps_left items new < steps_left items old
 back_falls items old new back fresh = by_step back.step
@@ -135,9 +162,10 @@ back_falls items old new back fresh = by_step back.step
         omega (arith, after, before, long, none)
 
 -- a step keeps the snapshot
-pub back_keeps : (run : Setting) (log : List Record) (check next : Check) (telling : Telling) → IsSnapshot run log check telling → GoesBack (reverse (whole_log run log)) check next →
+pub back_keeps : (run : Setting) (log : List Record) (check next : Check) (telling : Telling) → IsSound run.geometry (length run.image) run.opened run.image log →
+    IsSnapshot run log check telling → GoesBack (reverse (whole_log run log)) check next →
     IsSnapshot run log next telling
-back_keeps run log check next telling snap back =
+back_keeps run log check next telling sound snap back =
     let items = reverse (whole_log run log) in
     let chosen = is_unfinished (items_before run log check.point) in
     let point = back.point in
@@ -151,6 +179,7 @@ back_keeps run log check next telling snap back =
       inside = subst (λ n. n ≤ length (whole_log run log)) (sym point) snap.inside;
       placed = omega (arith, point, placed, low);
       long = step_long items check next back.step ∙ snap.long;
+      first = step_first run log check next sound back.step ∙ snap.first;
       open_is = λ t. ap (λ n. is_unfinished (items_before run log n) t) point ∙ snap.open_is t ∙ ap (λ o. is_among o t) (sym back.ongoing);
       reports = snap.reports ∙ ap (Reports check.point) same
           ∙ ap (λ n. Reports n (taken_back (is_unfinished (items_before run log n)) (first_back items next.place) next.pages)) (sym point);
@@ -178,6 +207,7 @@ read_keeps run log check next telling snap reads =
       inside = subst (λ n. n ≤ length (whole_log run log)) (sym point) snap.inside;
       placed = omega (arith, point, place, placed);
       long = ap length reads.pages ∙ snap.long;
+      first = ap (λ (image : Image). page image 0) reads.pages ∙ snap.first;
       open_is = λ t. ap (λ n. is_unfinished (items_before run log n) t) point ∙ snap.open_is t ∙ ap (λ o. is_among o t) (sym reads.ongoing);
       reports = snap.reports
           ∙ ap (λ n. Reports n (taken_back (is_unfinished (items_before run log n)) (first_back items check.place) check.pages)) (sym point)

@@ -13,13 +13,13 @@ use Rattle.spec_log.specs.Images.{final_image}
 use Rattle.spec_log.proofs.RulesLaws.{older_forms}
 use Rattle.law_undo.proofs.Views.{sound_forms}
 use Rattle.spec_script.specs.Lines.{is_statement}
-use Rattle.spec_file.specs.declared.geometry.Geometry.TheVariants.{Small}
 use Rattle.spec_file.specs.Places.{HasShape}
 use Rattle.spec_script.specs.declared.statement.Statement.{Statement}
 use Rattle.spec_run.specs.Begun.{Setting}
 use Rattle.spec_run.specs.Entries.{items_of}
 use Rattle.spec_run.specs.Turns.{AreTold, told_to, IsLegal, IsWhole}
 use Rattle.spec_run.specs.Progress.{script_of, progress_of, next_of}
+use Rattle.law_run.specs.Laws.{IsStart}
 use Rattle.law_run.proofs.Legal.{legal_is_sound}
 use Rattle.db_core.specs.declared.session.Doing.TheVariants.{Idle}
 use Rattle.db_core.specs.declared.session.Session.{Session}
@@ -29,13 +29,14 @@ use Rattle.db_core.specs.declared.state.State.{State}
 use Rattle.db_core.specs.declared.out.TurnOut.{TurnOut}
 use Rattle.spec_run.specs.Answers.{is_terminated}
 use Rattle.db_core.proofs.Reports.{none_terminated}
-use Rattle.spec_run.specs.Schedules.{setting_of, turns_of, rest_from}
+use Rattle.spec_run.specs.Schedules.{turns_of, rest_from}
+use Rattle.spec_run.specs.Openings.{geometry_said, setting_of}
 use Rattle.db_core.specs.Runs.{AreNew, IsNew}
 use Rattle.db_core.specs.Replays.{RunsSchedule, EndsSessions}
 use Rattle.db_core.specs.States.{Db, left_in, TurnIn, entries_of, run_of, IsAt, IsState}
-use Rattle.db_core.specs.Store.{run_is, log_of, db_of, AreProper, IsGood, IsTurn, SaysOut, Advanced, GoesNearer}
-use Rattle.law_pages.specs.Bytes.{HasPagesOfBytes}
-use Rattle.db_core.proofs.Good.{get_at, owed_low, sum_low, items_entries, same_bytes}
+use Rattle.db_core.specs.Store.{run_is, log_of, db_of, IsGood, IsTurn, SaysOut, Advanced, GoesNearer}
+use Rattle.spec_run.specs.OfBytes.{HasPagesOfBytes, AreProper}
+use Rattle.db_core.proofs.Good.{get_at, owed_low, sum_low, items_entries}
 use Rattle.db_core.proofs.TurnsLeft.{within_then, left_seen, takes_turn}
 
 -- one more session, for one more script
@@ -128,10 +129,10 @@ length_scripts [] = refl
 length_scripts (y ∷ sessions) = let e = length_scripts sessions in omega (arith, e)
 
 -- the state before the first turn
-pub begin_state : (scripts : List (List Statement)) (image : Image) (sessions : List Session) → HasWholePages image → HasShape Small (length image) → AreNew scripts sessions →
-    IsState (run_of image sessions) [] image sessions 0 0 0
-begin_state scripts image sessions whole shape are = record {
-  start = record { forms = tt; rules = tt; whole = whole; shape = shape };
+pub begin_state : (scripts : List (List Statement)) (image : Image) (sessions : List Session) → HasWholePages image → HasShape (geometry_said image) (length image) → HasPagesOfBytes image →
+    AreProper (run_of image sessions) → AreNew scripts sessions → IsState (run_of image sessions) [] image sessions 0 0 0
+begin_state scripts image sessions whole shape bytes proper are = record {
+  start = record { forms = tt; rules = tt; whole = whole; shape = shape; pages = bytes; items = tt; proper = proper };
   legal = tt;
   pages_are = refl;
   few = sym (length_scripts sessions);
@@ -165,7 +166,7 @@ scripts_hold P (script ∷ scripts) all (suc (suc s)) n st e =
 pub record IsFresh (image : Image) (scripts : List (List Statement)) (st : State) : Type 0 where
   pub whole : HasWholePages image
   pub bytes : HasPagesOfBytes image
-  pub shape : HasShape Small (length image)
+  pub shape : HasShape (geometry_said image) (length image)
   pub few : length scripts ≤ 16
   pub short : AreShort scripts
   pub proper : (k n : ℕ) (script : List Statement) (x : Statement) → slice_get scripts k ≡ Some script → slice_get script n ≡ Some x → is_statement x ≡ true
@@ -189,25 +190,13 @@ setting_fresh image scripts st fresh = ap (setting_of image) (scripts_new script
 log_fresh : (image : Image) (scripts : List (List Statement)) (st : State) → IsFresh image scripts st → log_of st ≡ []
 log_fresh image scripts st fresh = ap reverse fresh.items
 
--- what contracts see of it
-pub seen_fresh : (image : Image) (scripts : List (List Statement)) (st : State) → IsFresh image scripts st →
-    (run_is st ≡ setting_of image scripts) × (entries_of (log_of st) ≡ []) × ((s : ℕ) → left_in (db_of st) s ≡ 0)
-seen_fresh image scripts st fresh = (
-  run_fresh image scripts st fresh ∙ setting_fresh image scripts st fresh,
-  ap entries_of (log_fresh image scripts st fresh),
-  (λ s. left_seen st s ∙ none_left (slice_get st.sessions.items (s - 1)) (λ x here. (new_at scripts st.sessions.items (s - 1) x fresh.new here).new.doing)),
-)
-  where
-    none_left : (o : Option Session) → ((x : Session) → o ≡ Some x → x.doing ≡ Idle) → left_of_statement st.items.items o ≡ 0
-    none_left None idle = refl
-    none_left (Some x) idle = ap (turns_left st.items.items x) (idle x refl)
-
 pub good_fresh : (image : Image) (scripts : List (List Statement)) (st : State) → IsFresh image scripts st → IsGood st
 good_fresh image scripts st fresh =
     let sessions = st.sessions.items in
     let run = run_of image sessions in
     let shape = fresh.shape in
-    let at_first = begin_state scripts image sessions fresh.whole shape fresh.new in
+    let proper : AreProper run = subst AreProper (sym (setting_fresh image scripts st fresh)) (scripts_hold (λ x. is_statement x ≡ true) scripts fresh.proper) in
+    let at_first = begin_state scripts image sessions fresh.whole shape fresh.bytes proper fresh.new in
     let count = length_new scripts sessions fresh.new in
     let few = fresh.few in
     let last = fresh.last in
@@ -226,12 +215,23 @@ good_fresh image scripts st fresh =
       each_room = each_room_new scripts sessions fresh.new fresh.short;
       few = omega (arith, count, few);
       low = omega (arith, last);
-      shape = subst (λ (b : Image). HasShape Small (length b)) (sym fresh.base) shape;
-      proper = subst AreProper (sym (of_run ∙ setting_fresh image scripts st fresh)) (scripts_hold (λ x. is_statement x ≡ true) scripts fresh.proper);
       all_low = omega (arith, all);
       size_low = omega (arith, size);
-      bytes = same_bytes run (run_is st) [] (log_of st) of_run (log_fresh image scripts st fresh) (record { pages = fresh.bytes; items = tt });
     }
+
+-- what contracts see of it
+pub seen_fresh : (image : Image) (scripts : List (List Statement)) (st : State) → IsFresh image scripts st →
+    (run_is st ≡ setting_of image scripts) × (entries_of (log_of st) ≡ []) × ((s : ℕ) → left_in (db_of st) s ≡ 0) × IsStart (run_is st)
+seen_fresh image scripts st fresh = (
+  run_fresh image scripts st fresh ∙ setting_fresh image scripts st fresh,
+  ap entries_of (log_fresh image scripts st fresh),
+  (λ s. left_seen st s ∙ none_left (slice_get st.sessions.items (s - 1)) (λ x here. (new_at scripts st.sessions.items (s - 1) x fresh.new here).new.doing)),
+  (good_fresh image scripts st fresh).state.start,
+)
+  where
+    none_left : (o : Option Session) → ((x : Session) → o ≡ Some x → x.doing ≡ Idle) → left_of_statement st.items.items o ≡ 0
+    none_left None idle = refl
+    none_left (Some x) idle = ap (turns_left st.items.items x) (idle x refl)
 
 -- the items before others have their form where all have it
 forms_front : (a b : List Record) → HaveForm (a ++ b) → HaveForm a

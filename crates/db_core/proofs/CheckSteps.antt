@@ -1,4 +1,7 @@
 -- The steps of a check, and what the core keeps of the session behind them.
+use Rattle.spec_file.specs.Image.{page}
+use Rattle.law_run.proofs.FirstPage.{final_first}
+use Rattle.law_undo.proofs.Views.{sound_forms, sound_rules}
 use Rattle.std.proofs.Common.{◌≡◌, ℕ, ◌+◌, ◌-◌, ◌<◌, ◌≤◌, Bool, true, false, List, [], ◌∷◌, ◌++◌, length, reverse, take, Some, ◌⊎◌, refl, sym, ap, ◌∙◌, subst, arith}
 use Rattle.std.proofs.lemmas.List.{length-reverse, take_all, reverse-reverse}
 use Rattle.spec_check.specs.declared.report.CheckReport.{CheckReport}
@@ -87,6 +90,9 @@ fresh_snapshot run log s i check start legal point place pages long ongoing fres
       inside = omega (arith, point);
       placed = omega (arith, point, place);
       long = long;
+      first = ap (λ image. page image 0) pages
+          ∙ final_first run.geometry run.opened log run.image (sound_forms run.geometry (length run.image) run.opened run.image log sound)
+          (sound_rules run.geometry (length run.image) run.opened run.image log sound);
       open_is = λ t. ap (λ h. is_unfinished h t) before ∙ ongoing t;
       reports = ap (λ n. Reports n (committed_image run.opened log run.image)) (sym point)
           ∙ ap (Reports check.point) (sym law

@@ -1,10 +1,13 @@
 -- The turns of a check keep the core's state good.
+use Rattle.spec_run.specs.Openings.{or_small}
+use Rattle.spec_file.specs.FileForm.{geometry_of}
+use Rattle.spec_tables.specs.Written.{IsCheckOf}
+use Rattle.db_core.specs.ViewLaws.{right_of}
 use Rattle.std.proofs.Common.{◌≡◌, ℕ, ◌+◌, ◌<◌, ◌≤◌, Bool, true, false, List, [], ◌∷◌, ◌++◌, length, reverse, Some, inl, inr, refl, sym, ap, ◌∙◌, subst, arith, append-nil, vec_len, vec_capacity}
 use Rattle.std.specs.Prelude.{slice_get, slice_set, sum_by}
 use Rattle.std.proofs.Math.ListN.{length-set}
 use Rattle.std.proofs.lemmas.List.{length_push}
 use Rattle.spec_file.specs.Image.{Image}
-use Rattle.spec_file.specs.declared.geometry.Geometry.TheVariants.{Small}
 use Rattle.spec_file.specs.Places.{HasShape}
 use Rattle.spec_log.specs.declared.item.Record.{Record}
 use Rattle.spec_log.specs.declared.item.Record.TheVariants.{Snap, CheckEnd}
@@ -24,7 +27,7 @@ use Rattle.db_core.specs.Checks.{BacksIn, Checked, EndsBy, GoesOnBy, MayReadIn, 
 use Rattle.db_core.specs.Reading.{is_back}
 use Rattle.db_core.specs.Rooms.{pending_of, started_of, owed_by, HasOwnRoom, turns_left}
 use Rattle.db_core.specs.States.{entries_of, Keeps, KeepsRoom, IsAt, IsSession, IsSnapshot, IsState}
-use Rattle.db_core.specs.Store.{run_is, log_of, AreProper, is_snap, told_count, IsGood, Went}
+use Rattle.db_core.specs.Store.{run_is, log_of, is_snap, told_count, IsGood, Went}
 use Rattle.db_core.proofs.Keeps.{get_set, steps_of}
 use Rattle.db_core.proofs.Moves.{ends_short, told_so}
 use Rattle.db_core.proofs.Next.{busy}
@@ -32,7 +35,7 @@ use Rattle.db_core.proofs.Told.{told_step, idle_told, turn_belongs}
 use Rattle.db_core.proofs.CheckSteps.{checking_due, check_comes, check_ends, end_opens}
 use Rattle.db_core.proofs.Backwards.{going_session, back_keeps, back_falls, read_keeps, read_falls}
 use Rattle.db_core.proofs.BackFits.{back_fits}
-use Rattle.db_core.proofs.Good.{get_below, get_put, get_same, sum_set, run_same, items_entries, IsMid, IsStep, same_bytes}
+use Rattle.db_core.proofs.Good.{get_below, get_put, get_same, sum_set, run_same, items_entries, IsMid, IsStep}
 use Rattle.db_core.proofs.GoOn.{items_are}
 use Rattle.db_core.proofs.Left.{leaves_others}
 
@@ -57,7 +60,7 @@ same_log_state run log pages sessions last all size k y state mine = record {
 pub check_reads : (st : State) (k : ℕ) (x : Session) → IsGood st → slice_get st.sessions.items k ≡ Some x → ((check : Check) → x.doing ≡ Checking check → is_back check.phase ≡ false) → MayReadIn x
 check_reads st k x good here behind check doing =
     let d = checking_due (run_is st) (log_of st) (k + 1) x check (good.state.each k x here) doing in record {
-      shape = subst (HasShape Small) (sym d.1.long) good.shape;
+      shape = subst (λ g. HasShape g (length check.pages)) (sym (ap (λ bytes. or_small (geometry_of bytes)) d.1.first)) (subst (HasShape (run_is st).geometry) (sym d.1.long) good.state.start.shape);
       behind = behind check doing;
       phase_is = d.1.phase_is;
     }
@@ -122,11 +125,8 @@ goes_good Step old new k x y good here b keeps mid items all_same size_same =
         ];
         few = subst (λ n. n ≤ 16) (sym (ap length mid.sessions ∙ length-set old.sessions.items k y)) good.few;
         low = subst (λ n. n ≤ length new.items.items) (sym mid.last) (subst (λ is. old.last ≤ length is) (sym mid.items) good.low);
-        shape = subst (λ s. HasShape Small (length s.value)) (sym mid.base) good.shape;
-        proper = subst AreProper (sym run_new) good.proper;
         all_low = subst (λ n. n ≤ 524288) (sym all_same) good.all_low;
         size_low = subst (λ n. n ≤ 268435456) (sym size_same) good.size_low;
-        bytes = same_bytes run (run_is new) log (log_of new) run_new log_new good.bytes;
       };
       turn = (
         run_new,
@@ -150,7 +150,7 @@ pub back_good : (old new : State) (k : ℕ) (x y : Session) → IsGood old → s
     new.items ≡ old.items → new.all ≡ old.all → new.size ≡ old.size → Checked k old new
 back_good old new k x y good here b mid items all_same size_same =
     goes_good (GoesBack old.items.items) old new k x y good here b
-    (λ telling snap. back_keeps (run_is old) (log_of old) b.before b.after telling snap (subst (λ is. GoesBack is b.before b.after) (sym (items_are old)) b.step)) mid items all_same size_same
+    (λ telling snap. back_keeps (run_is old) (log_of old) b.before b.after telling (right_of old good).sound snap (subst (λ is. GoesBack is b.before b.after) (sym (items_are old)) b.step)) mid items all_same size_same
 
 -- one turn that reads
 pub read_good : (old new : State) (k : ℕ) (x y : Session) → IsGood old → slice_get old.sessions.items k ≡ Some x → ReadsIn x y → IsMid k y old.frames old new →
@@ -257,7 +257,8 @@ end_good st k place x y item good here behind ps pi e =
           let is_item = r.4 ∙ named 0 in (
             subst (λ i. IsStep run log s y st.frames st.frames i st.all st.size) (sym is_item) (record {
               comes = check_comes run log s x e.check mine e.was;
-              mine = check_ends run log s x y e.check r.0 good.state.start good.state.legal (omega arith) mine e.was ((checking_due run log s x e.check mine e.was).1.undone (behind e.check e.was)) r.2 e.kept.script r.3 e.kept.tran e.doing e.left e.kept.held e.kept.used;
+              mine = check_ends run log s x y e.check r.0 good.state.start good.state.legal (omega arith) mine e.was ((checking_due run log s x e.check mine e.was).1.undone (behind e.check e.was))
+                  (subst (λ g. IsCheckOf g e.check.pages r.0) (ap (λ bytes. or_small (geometry_of bytes)) (checking_due run log s x e.check mine e.was).1.first) r.2) e.kept.script r.3 e.kept.tran e.doing e.left e.kept.held e.kept.used;
               pages_are = refl;
               all_is = good.state.all_is;
               size_is = good.state.size_is;

@@ -5,7 +5,6 @@ use Rattle.std.proofs.Math.ListN.{length-set}
 use Rattle.std.proofs.lemmas.List.{length-reverse, reverse-append, length_push}
 use Rattle.std.proofs.lemmas.List.Sums.{sum_by-cons}
 use Rattle.spec_file.specs.declared.geometry.Geometry.{Geometry}
-use Rattle.spec_file.specs.declared.geometry.Geometry.TheVariants.{Small}
 use Rattle.spec_file.specs.Places.{HasShape}
 use Rattle.spec_file.specs.Image.{Image}
 use Rattle.spec_log.specs.declared.item.Record.{Record}
@@ -21,14 +20,13 @@ use Rattle.law_run.proofs.Fresh.{started_below}
 use Rattle.law_run.proofs.Legal.{legal_is_sound}
 use Rattle.spec_run.specs.Entries.{items_of}
 use Rattle.spec_run.specs.Begun.{Setting}
-use Rattle.law_pages.specs.Bytes.{PutsBytes, IsOfBytes}
 use Rattle.spec_run.specs.Progress.{work_of, MayCome}
 use Rattle.spec_run.specs.Turns.{Appends}
 use Rattle.db_core.specs.declared.session.Session.{Session}
 use Rattle.db_core.specs.declared.state.State.{State}
 use Rattle.db_core.specs.Rooms.{owed_by, HasOwnRoom}
 use Rattle.db_core.specs.States.{whole_log, entries_of, run_of, IsSession, IsState}
-use Rattle.db_core.specs.Store.{run_is, log_of, AreProper, IsGood, IsTurn, IsSettled}
+use Rattle.db_core.specs.Store.{run_is, log_of, IsGood, IsTurn, IsSettled}
 use Rattle.db_core.proofs.Keeps.{keeps, get_set}
 
 pub get_at : (xs : List Session) (i : ℕ) (x : Session) → i < length xs → x ≡ get_or xs i x → slice_get xs i ≡ Some x
@@ -153,14 +151,6 @@ append_turn old new s item run log comes = (
   Appends item (subst (λ l. MayCome (work_of (run_is old) s l) item) (sym (items_entries (log_of old))) comes) (ap entries_of log),
 )
 
--- one item of bytes more, or none
-pub more_bytes : (old new : Setting) (log longer : List Record) (item : Record) → new ≡ old → longer ≡ item ∷ log → PutsBytes item → IsOfBytes old log → IsOfBytes new longer
-more_bytes old new log longer item run_new log_new puts is =
-    subst (λ r. IsOfBytes r longer) (sym run_new) (subst (IsOfBytes old) (sym log_new) (record { pages = is.pages; items = (puts, is.items) }))
-
-pub same_bytes : (old new : Setting) (log same : List Record) → new ≡ old → same ≡ log → IsOfBytes old log → IsOfBytes new same
-same_bytes old new log same run_new log_new is = subst (λ r. IsOfBytes r same) (sym run_new) (subst (IsOfBytes old) (sym log_new) is)
-
 -- what the core keeps behind the item, but for the room
 pub stepped_good : (old mid new : State) (k : ℕ) (x y : Session) (after : Image) (item : Record) → IsGood old → slice_get old.sessions.items k ≡ Some x → IsMid k y after old mid →
     IsStep (run_is old) (log_of old) (k + 1) y old.frames after item mid.all mid.size → mid.all ≤ 524288 → mid.size ≤ 268435456 →
@@ -203,11 +193,8 @@ stepped_good old mid new k x y after item good here mid_is step all_low size_low
       ];
       few = subst (λ n. n ≤ 16) (sym (ap length (set.sessions ∙ mid_is.sessions) ∙ length-set old.sessions.items k y)) good.few;
       low = omega (arith, last_now, low_tran, old_last, old_low, count);
-      shape = subst (λ b. HasShape Small (length b.value)) (sym (set.base ∙ mid_is.base)) good.shape;
-      proper = subst AreProper (sym run_new) good.proper;
       all_low = subst (λ n. n ≤ 524288) (sym all_new) all_low;
       size_low = subst (λ n. n ≤ 268435456) (sym size_new) size_low;
-      bytes = more_bytes (run_is old) (run_is new) (log_of old) (log_of new) item run_new log_new set.bytes good.bytes;
     }
 
 -- and the turn

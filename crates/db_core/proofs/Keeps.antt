@@ -76,6 +76,7 @@ snapshot_more run log x check telling p =
       inside = omega (arith, inside);
       placed = p.placed;
       long = p.long;
+      first = p.first;
       open_is = λ t. ap (λ xs. is_unfinished xs t) before ∙ p.open_is t;
       reports = p.reports
           ∙ ap (λ xs. Reports check.point (taken_back (is_unfinished xs) (reverse (take check.place (reverse g))) check.pages)) (sym before)

@@ -13,14 +13,15 @@ use Rattle.spec_plan.specs.Planned.{planned_size}
 use Rattle.spec_plan.specs.Refusals.{log_full}
 use Rattle.spec_script.specs.declared.statement.Statement.TheVariants as statement
 use Rattle.spec_words.specs.NetChanges.{FileShape}
-use Rattle.spec_words.specs.Heaps.{insert_plan, count_plan}
+use Rattle.spec_words.specs.Heaps.{insert_plan, count_plan, select_plan}
 use Rattle.spec_words.specs.Statements.{Plans, kind_of}
 use Rattle.spec_words.specs.Takes.{changes_at, takes_at}
 use Rattle.spec_words.specs.Views.{View, End, Gives, Stops, Outcome}
 use Rattle.spec_words.specs.Views.{Plan as Words}
 use Rattle.spec_run.specs.Shapes.{Reading, Writing, tran_to_write}
 use Rattle.spec_run.specs.Begun.{Becoming, shape_of, view_at, with_memory, refused, by_changes, by_taken, by_end, by_kind}
-use Rattle.law_shape.proofs.Numbered.{EndsNumbered, StopsNumbered, insert_numbered, count_numbered}
+use Rattle.law_net.specs.Statements.{IsNumbered, IfStops}
+use Rattle.law_net.proofs.Endings.{statements_are_numbered}
 use Rattle.pg_base.specs.Faults.{Rose}
 use Rattle.db_locks.specs.States.{PlanState}
 use Rattle.db_plan.specs.declared.planned.Plan.{Plan}
@@ -35,6 +36,10 @@ use Rattle.db_core.specs.States.{whole_log}
 use Rattle.db_core.specs.Store.{run_is, log_of, IsGood}
 use Rattle.db_core.specs.Plans.{HasSums, IsByPlan, IsWithinIfPlanned, IsPlanned}
 use Rattle.db_core.proofs.PlanSteps.{used_is, passes_is}
+
+-- whatever its view, the plan is refused by a number of its own
+abbrev pub StopsNumbered : Words Reply → Type 0
+StopsNumbered words = (view : View) → IfStops IsNumbered (words view).ending
 
 -- the sums of a log
 record Sums (g : List Record) (u : ℕ) (at : PlanAt) : Type 0 where
@@ -92,17 +97,17 @@ above_by g t at (Gives told view) sums is =
     by_some g t told view view.taken is.0
     ∙ ap (λ c. if c then refused t log_full else with_memory (Writing u (takes_at view) (changes_at view) (eqb t 0)) told) (sums_pass g u at (changes_at view) sums ∙ is.1)
 
-stopped_number : (end : End Reply) (refusal : Refusal) → end ≡ Stops refusal → EndsNumbered end → eqb refusal.number 701 ≡ false
-stopped_number end refusal is numbered = ne_eqb refusal.number 701 (subst EndsNumbered is numbered).1
+stopped_number : (end : End Reply) (refusal : Refusal) → end ≡ Stops refusal → IfStops IsNumbered end → eqb refusal.number 701 ≡ false
+stopped_number end refusal is numbered = ne_eqb refusal.number 701 (subst (IfStops IsNumbered) is numbered).1
 
-refused_by : (g : List Record) (t : ℕ) (at : PlanAt) (outcome : Outcome Reply) (refusal : Refusal) → Sums g (tran_to_write g t) at → EndsNumbered outcome.ending → (refusal.number ≡ 823 → ⊥) →
+refused_by : (g : List Record) (t : ℕ) (at : PlanAt) (outcome : Outcome Reply) (refusal : Refusal) → Sums g (tran_to_write g t) at → IfStops IsNumbered outcome.ending → (refusal.number ≡ 823 → ⊥) →
     MayRefuse at outcome refusal → IsByPlan (by_end g t outcome.ending) g t (Err refusal)
 refused_by g t at outcome refusal sums numbered sound (Stopped is) = inl (ap (by_end g t) is, stopped_number outcome.ending refusal is numbered)
 refused_by g t at outcome refusal sums numbered sound (Passed above is) = inl (above_by g t at outcome.ending sums above ∙ ap (refused t) (sym is), ap (λ (q : Refusal). eqb q.number 701) is)
 refused_by g t at outcome refusal sums numbered sound (Failed p reached is) = absurd (sound (ap (λ (q : Refusal). q.number) is))
 refused_by g t at outcome refusal sums numbered sound (Short is) = inr (end_wants g t outcome.ending, is)
 
-planned_by : (g : List Record) (t : ℕ) (at : PlanAt) (outcome : Outcome Reply) (result : Result Plan Refusal) → Sums g (tran_to_write g t) at → EndsNumbered outcome.ending → NoFault result →
+planned_by : (g : List Record) (t : ℕ) (at : PlanAt) (outcome : Outcome Reply) (result : Result Plan Refusal) → Sums g (tran_to_write g t) at → IfStops IsNumbered outcome.ending → NoFault result →
     MayPlan at outcome result → IsByPlan (by_end g t outcome.ending) g t result
 planned_by g t at outcome (Ok (plan.Read reply)) sums numbered sound may = read_by g t at outcome.ending reply may
 planned_by g t at outcome (Ok (plan.Written reply takes changes)) sums numbered sound may = written_by g t at outcome.ending reply takes changes sums may
@@ -151,6 +156,7 @@ pub record HasWords (shape : FileShape) (s : Statement) : Type 0 where
   pub numbered : StopsNumbered words
 
 pub planned_words : (shape : FileShape) (s : Statement) → is_planned s ≡ true → HasWords shape s
-planned_words shape (statement.Insert table key payload) h = record { words = insert_plan shape table key payload; kind = refl; numbered = insert_numbered shape table key payload }
-planned_words shape (statement.Count table) h = record { words = count_plan shape table; kind = refl; numbered = count_numbered shape table }
+planned_words shape (statement.Insert table key payload) h = record { words = insert_plan shape table key payload; kind = refl; numbered = statements_are_numbered shape (statement.Insert table key payload) }
+planned_words shape (statement.Count table) h = record { words = count_plan shape table; kind = refl; numbered = statements_are_numbered shape (statement.Count table) }
+planned_words shape (statement.Select table key) h = record { words = select_plan shape table key; kind = refl; numbered = statements_are_numbered shape (statement.Select table key) }
 planned_words shape other h = absurd (cc)

@@ -3,7 +3,6 @@ use Rattle.std.proofs.Common.{◌≡◌, ℕ, ◌+◌, ◌*◌, ◌≤◌, true,
 use Rattle.std.specs.Prelude.{if◌then◌else◌, slice_get, slice_set, sum_by}
 use Rattle.std.specs.declared.result.Result.{Result}
 use Rattle.std.proofs.Math.ListN.{length-set}
-use Rattle.spec_file.specs.declared.geometry.Geometry.TheVariants.{Small}
 use Rattle.spec_file.specs.Places.{HasShape}
 use Rattle.spec_log.specs.declared.item.Record.{Record}
 use Rattle.spec_script.specs.declared.reply.Refusal.{Refusal}
@@ -17,9 +16,9 @@ use Rattle.db_core.specs.declared.session.Session.{Session}
 use Rattle.db_core.specs.declared.state.State.{State}
 use Rattle.db_core.specs.Rooms.{pending_of, started_of, owed_by, HasOwnRoom}
 use Rattle.db_core.specs.States.{whole_log, entries_of, IsAt, IsOpen, IsSession, IsState, IsSame, KeepsRoom}
-use Rattle.db_core.specs.Store.{AreProper, run_is, log_of, IsGood, LeavesOthers, Went}
+use Rattle.db_core.specs.Store.{run_is, log_of, IsGood, LeavesOthers, Went}
 use Rattle.db_core.specs.Plans.{IsByPlan, IsPlanned, IsWithinIfPlanned, used_now, changes_in, takes_in, HasRoomFor, IsReady, IsPrepared, IsRoomier}
-use Rattle.db_core.proofs.Good.{get_below, get_put, get_same, sum_set, run_same, same_bytes}
+use Rattle.db_core.proofs.Good.{get_below, get_put, get_same, sum_set, run_same}
 use Rattle.db_core.proofs.Keeps.{get_set}
 use Rattle.db_core.proofs.Left.{leaves_others}
 
@@ -129,11 +128,8 @@ roomier_good k old new x here r good =
       ];
       few = subst (λ n. n ≤ 16) (sym (roomier_few k old new x here r)) good.few;
       low = omega (arith, low, last_is, items);
-      shape = subst (λ b. HasShape Small (length b.value)) (sym r.base) good.shape;
-      proper = subst AreProper (sym (roomier_run k old new r)) good.proper;
       all_low = subst (λ n. n ≤ 524288) (sym r.all_is) good.all_low;
       size_low = subst (λ n. n ≤ 268435456) (sym r.size_is) good.size_low;
-      bytes = same_bytes (run_is old) (run_is new) (log_of old) (log_of new) (roomier_run k old new r) (roomier_log k old new r) good.bytes;
     }
 
 pub roomier_others : (k : ℕ) (old new : State) (x : Session) → slice_get old.sessions.items k ≡ Some x → IsRoomier k old new → IsGood old → LeavesOthers k old new

@@ -1,6 +1,6 @@
 -- Over an empty log no check ends without its report but for want of memory.
 use Rattle.std.proofs.Common.{◌≡◌, ℕ, ◌+◌, Bool, true, false, ◌||◌, eqb, List, [], ◌∷◌, ◌++◌, length, reverse, Option, Some, None, refl, ap, ◌∙◌, subst, sym}
-use Rattle.std.specs.Prelude.{slice_get, sum_by}
+use Rattle.std.specs.Prelude.{slice_get}
 use Rattle.std.specs.List.{list_any}
 use Rattle.std.proofs.lemmas.Bool.{cond_both, or_from}
 use Rattle.std.proofs.lemmas.List.Folds.{list_any-append}
@@ -12,28 +12,21 @@ use Rattle.spec_log.specs.Log.{rest_of, greatest_of, left_of}
 use Rattle.spec_log.specs.Limits.{passes_limit}
 use Rattle.spec_log.specs.Images.{damaged_page}
 use Rattle.spec_script.specs.declared.reply.Reply.{Reply}
-use Rattle.spec_script.specs.declared.reply.Reply.TheVariants.{Done, Rows, Refused}
+use Rattle.spec_script.specs.declared.reply.Reply.TheVariants.{Done, Rows, Report, Terminated, Refused}
 use Rattle.spec_script.specs.declared.statement.Statement.{Statement}
-use Rattle.spec_script.specs.declared.statement.Statement.TheVariants as statement
 use Rattle.spec_plan.specs.Planned.{planned_size}
-use Rattle.spec_plan.specs.Refusals.{is_open, nothing_to_commit, nothing_to_undo, log_full, no_room}
-use Rattle.spec_plan.specs.Rows.{heap_row}
+use Rattle.spec_plan.specs.Refusals.{is_open, nothing_to_commit, nothing_to_undo, log_full}
 use Rattle.spec_plan.specs.declared.plan.Planned.{Planned}
 use Rattle.spec_file.specs.declared.data.Resource.{Resource}
-use Rattle.spec_file.specs.declared.data.Resource.TheVariants as resource
-use Rattle.spec_rows.specs.Slots.{slot_count}
 use Rattle.spec_run.specs.Sessions.{session_of}
 use Rattle.spec_run.specs.Shapes.{Refused as Refusing, Opening, Writing, Committing, RollingBack, tran_to_write}
-use Rattle.spec_words.specs.NetChanges.{FileShape}
 use Rattle.spec_words.specs.Takes.{changes_at, takes_at}
 use Rattle.spec_words.specs.Views.{View, End, Gives, Stops}
-use Rattle.spec_words.specs.Words.{refuse, take, found_or, first_of, all_of}
-use Rattle.spec_words.specs.Tables.{table_of, table_pages}
-use Rattle.spec_words.specs.Heaps.{heap_page, room_on, row_put, insert_plan, count_plan}
+use Rattle.spec_words.specs.Statements.{TransactionWord, Begins, Commits, RollsBack, StatementKind, Transacts, Plans, Checks, kind_of}
+use Rattle.law_net.specs.Statements.{IfPlanned, IsPlain}
+use Rattle.law_net.proofs.Replies.{statements_reply_plainly}
 use Rattle.law_net.specs.GoodViews.{IfGives, Leads}
-use Rattle.law_net.proofs.WordLaws.{leads_then, leads_give}
-use Rattle.law_net.proofs.InsertTakes.{always}
-use Rattle.spec_run.specs.Begun.{Setting, Telling, Answers, Reports, Tells, Becoming, shape_of, view_at, surely, with_memory, refused, by_changes, by_taken, by_end, by_damage, becomes}
+use Rattle.spec_run.specs.Begun.{Setting, Telling, Answers, Reports, Tells, Becoming, shape_of, view_at, surely, with_memory, refused, by_changes, by_word, by_taken, by_end, by_damage, by_kind, becomes}
 use Rattle.spec_run.specs.Progress.{Progress, progress_of, at_work, with_statement, script_of, is_short, cut_short, moved_to, moved}
 use Rattle.spec_run.specs.Turns.{AreTold, told_to}
 use Rattle.spec_run.specs.Answers.{is_terminated}
@@ -78,42 +71,38 @@ end_silent log t (Gives reply view) silent = by_takes view.taken
     by_takes [] = silent
     by_takes (r ∷ taken) = changes_silent log t reply (takes_at view) (changes_at view) silent
 
--- INSERT and COUNT give rows
-insert_rows : (shape : FileShape) (name : List ℕ) (key : ℕ) (payload : List ℕ) (v : View) → Leads (insert_plan shape name key payload) v (λ reply view. is_terminated reply ≡ false)
-insert_rows shape name key payload v =
-    let bytes = heap_row key payload in
-    let K : Reply → View → Type 0 = λ reply view. is_terminated reply ≡ false in
-    leads_then (table_of name) _ v K (always (table_of name) v _ (λ row w.
-    leads_then (table_pages shape row) _ w K (always (table_pages shape row) w _ (λ pages x.
-    leads_then (take (resource.Table (record { 0 = row.id }))) _ x K (always (take (resource.Table (record { 0 = row.id }))) x _ (λ u y.
-    leads_then (first_of (room_on shape row (length bytes)) pages) _ y K (always (first_of (room_on shape row (length bytes)) pages) y _ (λ found z.
-    leads_then (found_or found (refuse no_room)) _ z K (always (found_or found (refuse no_room)) z _ (λ p q.
-    leads_then (row_put shape p bytes) _ q K (always (row_put shape p bytes) q _ (λ s a. leads_give (Rows 1 []) a K refl))))))))))))
+-- a planned statement gives no such reply
+plain_silent : (reply : Reply) → IsPlain reply → is_terminated reply ≡ false
+plain_silent Done plain = refl
+plain_silent (Rows count payloads) plain = refl
+plain_silent (Report lsn report) plain = refl
+plain_silent (Terminated cause) plain = absurd plain
+plain_silent (Refused refusal) plain = refl
 
-count_rows : (shape : FileShape) (name : List ℕ) (v : View) → Leads (count_plan shape name) v (λ reply view. is_terminated reply ≡ false)
-count_rows shape name v =
-    let K : Reply → View → Type 0 = λ reply view. is_terminated reply ≡ false in
-    leads_then (table_of name) _ v K (always (table_of name) v _ (λ row w.
-    leads_then (table_pages shape row) _ w K (always (table_pages shape row) w _ (λ pages x.
-    leads_then (all_of (heap_page shape row) pages) _ x K (always (all_of (heap_page shape row) pages) x _ (λ found y.
-    leads_give (Rows (sum_by slot_count found) []) y K refl))))))
+given_silent : (end : End Reply) → IfGives (λ reply view. IsPlain reply) end → IfGives (λ reply view. is_terminated reply ≡ false) end
+given_silent (Gives reply view) plain = plain_silent reply plain
+given_silent (Stops refusal) plain = tt
 
-becomes_silent : (run : Setting) (log : List Record) (t : ℕ) (st : Statement) → run.opened ≡ [] → IsSilent (becomes run log t st).telling
-becomes_silent run log t statement.Begin none =
-    cond_both (eqb t 0) (surely (Opening (greatest_of (log ++ run.opened) + 1)) Done) (surely (Refusing t IS_OPEN) (Refused is_open))
+word_silent : (log : List Record) (t : ℕ) (word : TransactionWord) → IsSilent (by_word log t word).telling
+word_silent log t Begins =
+    cond_both (eqb t 0) (surely (Opening (greatest_of log + 1)) Done) (surely (Refusing t IS_OPEN) (Refused is_open))
     (λ (b : Becoming). IsSilent b.telling) (λ _. refl) (λ _. refl)
-becomes_silent run log t statement.Commit none =
+word_silent log t Commits =
     cond_both (eqb t 0) (surely (Refusing t NOTHING_TO_COMMIT) (Refused nothing_to_commit)) (surely (Committing t) Done)
     (λ (b : Becoming). IsSilent b.telling) (λ _. refl) (λ _. refl)
-becomes_silent run log t statement.Rollback none =
-    cond_both (eqb t 0) (surely (Refusing t NOTHING_TO_UNDO) (Refused nothing_to_undo)) (surely (RollingBack t (left_of t (log ++ run.opened))) Done)
+word_silent log t RollsBack =
+    cond_both (eqb t 0) (surely (Refusing t NOTHING_TO_UNDO) (Refused nothing_to_undo)) (surely (RollingBack t (left_of t log)) Done)
     (λ (b : Becoming). IsSilent b.telling) (λ _. refl) (λ _. refl)
-becomes_silent run log t (statement.Insert table key payload) none =
-    end_silent (log ++ run.opened) t (insert_plan (shape_of run) table key payload (view_at run log t)).ending (insert_rows (shape_of run) table key payload (view_at run log t))
-becomes_silent run log t (statement.Count table) none =
-    end_silent (log ++ run.opened) t (count_plan (shape_of run) table (view_at run log t)).ending (count_rows (shape_of run) table (view_at run log t))
-becomes_silent run log t (statement.Check workers) none =
-    subst (λ damage. IsSilent (by_damage run log damage).telling) (sym (ap (λ o. damaged_page o run.image) none)) refl
+
+kind_silent : (run : Setting) (log : List Record) (t : ℕ) (kind : StatementKind) → run.opened ≡ [] →
+    IfPlanned (λ plan. (view : View) → Leads plan view (λ reply after. IsPlain reply)) kind → IsSilent (by_kind run log t kind).telling
+kind_silent run log t (Transacts word) none plain = word_silent (log ++ run.opened) t word
+kind_silent run log t (Plans plan) none plain =
+    let first = view_at run log t in end_silent (log ++ run.opened) t (plan first).ending (given_silent (plan first).ending (plain first))
+kind_silent run log t Checks none plain = subst (λ damage. IsSilent (by_damage run log damage).telling) (sym (ap (λ o. damaged_page o run.image) none)) refl
+
+becomes_silent : (run : Setting) (log : List Record) (t : ℕ) (st : Statement) → run.opened ≡ [] → IsSilent (becomes run log t st).telling
+becomes_silent run log t st none = kind_silent run log t (kind_of (shape_of run) st) none (statements_reply_plainly (shape_of run) st)
 
 -- a session goes on
 work_silent : (run : Setting) (log : List Record) (s : ℕ) (p : Progress) (due : List Record) → run.opened ≡ [] → IsSilentSo p → IsSilentSo (at_work run log s p due)

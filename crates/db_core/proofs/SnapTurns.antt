@@ -3,7 +3,6 @@ use Rattle.std.proofs.Common.{◌≡◌, ℕ, ◌+◌, ◌-◌, ◌<◌, ◌≤�
 use Rattle.std.specs.Prelude.{slice_get, slice_set, sum_by}
 use Rattle.std.proofs.Math.ListN.{length-set}
 use Rattle.std.proofs.lemmas.Option.{slice_get_within}
-use Rattle.spec_file.specs.declared.geometry.Geometry.TheVariants.{Small}
 use Rattle.spec_file.specs.Places.{HasShape}
 use Rattle.spec_log.specs.declared.item.Record.{Record}
 use Rattle.spec_log.specs.declared.item.Record.TheVariants.{Snap, CheckEnd}
@@ -29,7 +28,7 @@ use Rattle.spec_run.specs.Bounds.{most_turns}
 use Rattle.db_core.specs.Checks.{Begins, Checked, EndsAtOnce, IsFresh, Snapped}
 use Rattle.db_core.specs.Rooms.{pending_of, started_of, owed_by, HasOwnRoom, turns_left, left_of_statement}
 use Rattle.db_core.specs.States.{whole_log, entries_of, IsAt, IsOpen, IsSession, IsSnapshot, IsState}
-use Rattle.db_core.specs.Store.{run_is, log_of, AreProper, is_snap, told_count, IsGood, IsSettled}
+use Rattle.db_core.specs.Store.{run_is, log_of, is_snap, told_count, IsGood, IsSettled}
 use Rattle.db_core.proofs.Keeps.{get_set, steps_of, own_progress, other_session}
 use Rattle.db_core.proofs.Moves.{goes_on, ends_short, IsToldSo, work_told, work_tran}
 use Rattle.db_core.proofs.Next.{busy, opens_after, told_count as replies_told}
@@ -37,7 +36,7 @@ use Rattle.db_core.proofs.Opens.{open_snap, open_end}
 use Rattle.db_core.proofs.Records.{IsBegun, begun_work, begun_comes}
 use Rattle.db_core.proofs.CheckSteps.{fresh_snapshot}
 use Rattle.db_core.proofs.BeginWord.{ends_room}
-use Rattle.db_core.proofs.Good.{count_is, get_below, get_put, get_same, part_of_sum, owed_low, sum_low, sum_set, run_same, items_entries, IsMid, IsStep, log_more, stepped_good, stepped_turn, more_bytes}
+use Rattle.db_core.proofs.Good.{count_is, get_below, get_put, get_same, part_of_sum, owed_low, sum_low, sum_set, run_same, items_entries, IsMid, IsStep, log_more, stepped_good, stepped_turn}
 use Rattle.db_core.proofs.GoOn.{room_behind}
 use Rattle.db_core.proofs.Left.{leaves_others}
 use Rattle.db_core.proofs.Stepped.{state_pages}
@@ -240,11 +239,8 @@ short_good st one mid two k before workers place x y snap last good here idle ne
         ];
         few = subst (λ n. n ≤ 16) (sym (ap length sessions_are ∙ length-set st.sessions.items k y)) good.few;
         low = (let a = good.low in let b = ap length items_are_now ∙ length_push (st.items.items ++ snap ∷ []) last in let c = length_push st.items.items snap in omega (arith, a, b, c, last_same));
-        shape = subst (λ b. HasShape Small (length b.value)) (sym (set_two.base ∙ is_mid.base ∙ set_one.base)) good.shape;
-        proper = subst AreProper (sym run_new) good.proper;
         all_low = subst (λ n. n ≤ 524288) (sym all_two) good.all_low;
         size_low = subst (λ n. n ≤ 268435456) (sym size_two) good.size_low;
-        bytes = more_bytes run (run_is two) (Snap s i ∷ log) (log_of two) (CheckEnd s i 3) run_new log_new tt (more_bytes run run log (Snap s i ∷ log) (Snap s i) refl refl tt good.bytes);
       };
       turn = (run_new, AtOnce i (subst (λ l. MayCome (work_of run s l) (Snap s i)) (sym (items_entries log)) may_snap) (ap entries_of log_new));
       others = leaves_others st two k y (snap ∷ (last ∷ [])) good (items_are_now ∙ append_assoc st.items.items (snap ∷ []) (last ∷ [])) sessions_are;

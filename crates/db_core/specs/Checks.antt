@@ -1,6 +1,6 @@
 -- The turns of a check.
+use Rattle.spec_run.specs.Openings.{geometry_said}
 use Rattle.std.specs.Prelude.{◌≡◌, ℕ, ◌+◌, ◌-◌, ◌≤◌, true, List, [], ◌∷◌, ◌++◌, slice_get, Option, Some, None, Result, Ok, Err, ◌⊎◌}
-use Rattle.spec_file.specs.declared.geometry.Geometry.TheVariants.{Small}
 use Rattle.spec_file.specs.Image.{Image}
 use Rattle.spec_file.specs.declared.data.NoMemory.{NoMemory}
 use Rattle.spec_log.specs.declared.item.Record.{Record}
@@ -72,7 +72,7 @@ pub record TakesCheck (check : Check) (old new : Session) : Type 0 where
 -- the check ends with the report of its pages, once all is read, or for want of memory
 abbrev pub EndsWith : StatementNo → Check → Session → Session → Record → Type 0
 EndsWith place check old new x =
-    ((report : CheckReport) × (is_read check.phase ≡ true) × IsCheckOf Small check.pages report
+    ((report : CheckReport) × (is_read check.phase ≡ true) × IsCheckOf (geometry_said check.pages) check.pages report
     × (new.replies.items ≡ old.replies.items ++ Report (record { 0 = check.point }) report ∷ []) × (x ≡ CheckEnd place.session place.index 0))
     ⊎ ((new.replies.items ≡ old.replies.items ++ Refused out_of_memory ∷ []) × (x ≡ CheckEnd place.session place.index 3))
 

@@ -1,6 +1,6 @@
 -- A check reads its pages: the maps, then extent by extent.
+use Rattle.spec_run.specs.Openings.{geometry_said}
 use Rattle.std.specs.Prelude.{◌≡◌, ◌==◌, ℕ, ◌+◌, ◌/◌, Bool, true, false, length}
-use Rattle.spec_file.specs.declared.geometry.Geometry.TheVariants.{Small}
 use Rattle.spec_file.specs.Image.{Image}
 use Rattle.spec_file.specs.Places.{HasShape}
 use Rattle.ck_facts.specs.declared.map.AllocMap.{AllocMap}
@@ -24,13 +24,13 @@ is_read (Scanning map scan) = extents_left map scan == 0
 
 -- the maps of these pages
 pub record AreMapsOf (pages : Image) (map : AllocMap) : Type 0 where
-  pub geometry : map.geometry ≡ Small
+  pub geometry : map.geometry ≡ geometry_said pages
   pub count : map.pages ≡ length pages
   pub of : IsMapOf pages map
 
 -- a scan of these pages that is under way
 pub record IsScan (pages : Image) (map : AllocMap) (scan : Scan) : Type 0 where
-  pub geometry : map.geometry ≡ Small
+  pub geometry : map.geometry ≡ geometry_said pages
   pub count : map.pages ≡ length pages
   pub by : IsScanBy map scan
   pub of : IsScanOf pages map scan
@@ -65,7 +65,7 @@ ReadsOn pages (Scanning map scan) new = ScansOn pages map scan new
 
 -- a check may go on behind what it takes back
 pub record MayRead (pages : Image) (phase : Phase) : Type 0 where
-  pub shape : HasShape Small (length pages)
+  pub shape : HasShape (geometry_said pages) (length pages)
   pub behind : is_back phase ≡ false
   pub phase_is : IsPhaseOf pages phase
 

@@ -35,10 +35,10 @@ start_is st at good =
     let view = (began_at st at).start in
     let shape = view_shape run.geometry run.opened (log_of st) run.image (tran_at st.sessions.items at) (right_of st good).sound in
     record {
-      file = good.shape;
+      file = good.state.start.shape;
       pages = shape.pages;
       whole = whole_shape run.image view shape good.state.start.whole;
-      bytes = (images_are_of_bytes run (log_of st) (tran_at st.sessions.items at) good.bytes).1;
+      bytes = (images_are_of_bytes run (log_of st) (tran_at st.sessions.items at) good.state.start good.state.legal).1;
     }
 
 frames_are : (st : State) → IsGood st → IsImageOf (shape_of (run_is st)) st.frames
@@ -46,10 +46,10 @@ frames_are st good =
     let run = run_is st in
     let shape = final_shape run.opened (log_of st) run.image in
     subst (IsImageOf (shape_of run)) (sym good.state.pages_are) (record {
-      file = good.shape;
+      file = good.state.start.shape;
       pages = shape.pages;
       whole = whole_shape run.image (final_image run.opened (log_of st) run.image) shape good.state.start.whole;
-      bytes = (images_are_of_bytes run (log_of st) 0 good.bytes).0;
+      bytes = (images_are_of_bytes run (log_of st) 0 good.state.start good.state.legal).0;
     })
 
 -- the file has as many pages as it was found with
@@ -78,9 +78,9 @@ header_by st at r good free p i low only = ∥∥₁_elim good (Coded-set coded_
 
 pub size_of : (v : StatementView) → HasShape (state_of v).view.shape.geometry (state_of v).view.shape.pages
 size_of v = record {
-  low = ∥∥₁_elim v.good le_prop (λ g. g.shape.low);
-  high = ∥∥₁_elim v.good le_prop (λ g. g.shape.high);
-  whole = ∥∥₁_elim v.good (Coded-set coded_ℕ _ _) (λ g. g.shape.whole);
+  low = ∥∥₁_elim v.good le_prop (λ g. g.state.start.shape.low);
+  high = ∥∥₁_elim v.good le_prop (λ g. g.state.start.shape.high);
+  whole = ∥∥₁_elim v.good (Coded-set coded_ℕ _ _) (λ g. g.state.start.shape.whole);
 }
 
 image_prop : (v : StatementView) → IsProp (AreImages (state_of v))

@@ -1,10 +1,10 @@
 -- What the core keeps of each session, tied to the history.
+use Rattle.spec_run.specs.Openings.{geometry_said}
 use Rattle.std.specs.Prelude.{◌≡◌, ℕ, ◌+◌, ◌-◌, ◌<◌, ◌≤◌, ◌==◌, Bool, true, false, List, [], ◌∷◌, ◌++◌, length, map, reverse, take, slice_get, slice_index, vec_capacity, Some, ◌⊎◌}
 use Rattle.std.specs.List.{list_any}
 use Rattle.spec_log.specs.declared.limits.TheConstants.{MOST_CHANGES}
 use Rattle.spec_file.specs.declared.data.Resource.{Resource}
-use Rattle.spec_file.specs.declared.geometry.Geometry.TheVariants.{Small}
-use Rattle.spec_file.specs.Image.{Image}
+use Rattle.spec_file.specs.Image.{Image, page}
 use Rattle.spec_log.specs.declared.item.Record.{Record}
 use Rattle.spec_log.specs.declared.item.Record.TheVariants.{Undo, Commit, Abort, CheckEnd}
 use Rattle.spec_log.specs.Items.{is_same}
@@ -67,6 +67,7 @@ pub record IsSnapshot (run : Setting) (log : List Record) (check : Check) (telli
   pub inside : check.point ≤ length (whole_log run log)
   pub placed : check.place < check.point
   pub long : length check.pages ≡ length run.image
+  pub first : page check.pages 0 ≡ page run.image 0
   pub open_is : (t : ℕ) → is_unfinished (items_before run log check.point) t ≡ is_among check.ongoing.items t
   pub reports : telling ≡ Reports check.point (taken_back (is_unfinished (items_before run log check.point))
       (reverse (take check.place (reverse (whole_log run log)))) check.pages)
@@ -177,4 +178,4 @@ pub record IsSame (old new : Session) : Type 0 where
 
 -- what a run over these pages begins with, with sessions that have these scripts
 abbrev pub run_of : Image → List Session → Setting
-run_of image sessions = record { geometry = Small; opened = []; image = image; scripts = map (λ (x : Session). x.script.items) sessions }
+run_of image sessions = record { geometry = geometry_said image; opened = []; image = image; scripts = map (λ (x : Session). x.script.items) sessions }

@@ -1,17 +1,13 @@
 -- The core's state as a whole, and what a turn makes of it.
 use Rattle.std.specs.Prelude.{◌≡◌, ◌/◌, ℕ, ◌+◌, ◌-◌, ◌<◌, ◌≤◌, max, Bool, true, false, List, [], ◌∷◌, ◌++◌, length, map, reverse, sum_by, slice_get, vec_len, vec_capacity, Some, None, ◌⊎◌}
 use Rattle.spec_log.specs.declared.limits.TheConstants.{MOST_ITEMS, MOST_BYTES}
-use Rattle.spec_file.specs.declared.geometry.Geometry.TheVariants.{Small}
 use Rattle.spec_log.specs.declared.item.Record.{Record}
 use Rattle.spec_log.specs.declared.item.Record.TheVariants.{Snap}
 use Rattle.spec_log.specs.Items.{tran_of}
 use Rattle.spec_run.specs.Begun.{Setting}
 use Rattle.spec_run.specs.Progress.{progress_of, next_of, script_of}
 use Rattle.spec_script.specs.declared.statement.Statement.{Statement}
-use Rattle.spec_script.specs.Lines.{is_statement}
 use Rattle.spec_run.specs.Turns.{Turn}
-use Rattle.spec_file.specs.Places.{HasShape}
-use Rattle.law_pages.specs.Bytes.{PutsBytes, IsOfBytes}
 use Rattle.db_core.specs.declared.session.Doing.TheVariants.{Idle}
 use Rattle.db_core.specs.declared.session.Session.{Session}
 use Rattle.db_core.specs.declared.state.State.{State}
@@ -36,12 +32,7 @@ left_at st at = left_of_statement st.items.items (slice_get st.sessions.items at
 abbrev pub db_of : State → Db
 db_of st = record { run = run_is st; entries = entries_of (log_of st); left = map (λ (x : Session). turns_left st.items.items x x.doing) st.sessions.items }
 
--- each statement of a script is one of the language
-abbrev pub AreProper : Setting → Type 0
-AreProper run = (s n : ℕ) (st : Statement) → slice_get (script_of run.scripts s) n ≡ Some st → is_statement st ≡ true
-
--- the state is that of the history, there is room for what is begun, no sum passes a limit, and all that was put is of
--- bytes
+-- the state is that of the history, there is room for what is begun, and no sum passes a limit
 pub record IsGood (st : State) : Type 0 where
   pub state : IsState (run_is st) (log_of st) st.frames st.sessions.items st.last st.all st.size
   pub room : vec_len st.items + st.owed ≤ vec_capacity st.items
@@ -49,11 +40,8 @@ pub record IsGood (st : State) : Type 0 where
   pub each_room : (k : ℕ) (x : Session) → slice_get st.sessions.items k ≡ Some x → HasOwnRoom x
   pub few : length st.sessions.items ≤ 16
   pub low : st.last ≤ length st.items.items
-  pub shape : HasShape Small (length st.base.value)
-  pub proper : AreProper (run_is st)
   pub all_low : st.all ≤ MOST_ITEMS / 2
   pub size_low : st.size ≤ MOST_BYTES
-  pub bytes : IsOfBytes (run_is st) (log_of st)
 
 -- a turn of a session, from one state to the next
 abbrev pub IsTurn : ℕ → State → State → Type 0
@@ -90,7 +78,6 @@ pub record IsSettled (at before : ℕ) (item : Record) (x : Session) (old new : 
   pub all_is : new.all ≡ old.all
   pub size_is : new.size ≡ old.size
   pub owed : new.owed ≡ old.owed - before + owed_by x
-  pub bytes : PutsBytes item
 
 -- each other session has as many turns left as before
 abbrev pub LeavesOthers : ℕ → State → State → Type 0

@@ -1,4 +1,9 @@
 -- The file and the sessions of a good state show a statement what its transaction sees and who holds what.
+use Rattle.spec_run.specs.Openings.{or_small, geometry_said}
+use Rattle.spec_file.specs.FileForm.{geometry_of}
+use Rattle.spec_file.specs.Image.{page}
+use Rattle.law_run.proofs.FirstPage.{final_first}
+use Rattle.law_undo.proofs.Views.{sound_forms}
 use Rattle.std.proofs.Common.{◌≡◌, ℕ, zero, suc, ◌+◌, ◌-◌, ◌<◌, true, false, eqb, not, ◌&&◌, List, [], ◌∷◌, length, Option, Some, None, ◌⊎◌, inl, inr, refl, sym, ap, ◌∙◌, subst, arith, Contains}
 use Rattle.std.specs.Prelude.{slice_get, find, option_map}
 use Rattle.std.specs.Coded.{Coded-set, coded_ℕ, coded_bool, coded_option}
@@ -6,7 +11,6 @@ use Rattle.std.proofs.Math.Logic.{∥∥₁_elim}
 use Rattle.std.specs.List.{list_any}
 use Rattle.std.proofs.lemmas.Bool.{cases_Bool, eqb-true, eqb-false, not-true}
 use Rattle.spec_file.specs.declared.data.Resource.{Resource}
-use Rattle.spec_file.specs.declared.geometry.Geometry.TheVariants.{Small}
 use Rattle.spec_log.specs.declared.item.Record.{Record}
 use Rattle.spec_log.specs.Items.{is_same}
 use Rattle.spec_log.specs.Log.{is_unfinished, has_ended, holds}
@@ -78,11 +82,23 @@ pub tran_ongoing : (st : State) (at : ℕ) → IsGood st → IsOngoing (run_is s
 tran_ongoing st at good =
     ongoing_of st (slice_get st.sessions.items at) good (λ x e. elim (tran_opens st at x good e) [ inl none ↦ inl none | inr o ↦ inr (at + 1, o) ])
 
-pub good_size : (st : State) → IsGood st → HasShape Small (length st.frames)
+pub good_size : (st : State) → IsGood st → HasShape (run_is st).geometry (length st.frames)
 good_size st good =
     let count : length st.base.value ≡ length st.frames =
     sym (ap length good.state.pages_are ∙ (final_shape (run_is st).opened (log_of st) (run_is st).image).pages) in
-    subst (HasShape Small) count good.shape
+    subst (HasShape (run_is st).geometry) count good.state.start.shape
+
+-- page 0 stands as it was found, and so says the run's geometry
+pub good_first : (st : State) → IsGood st → page st.frames 0 ≡ page (run_is st).image 0
+good_first st good =
+    let run = run_is st in
+    let sound = (right_of st good).sound in
+    ap (λ image. page image 0) good.state.pages_are
+    ∙ final_first run.geometry run.opened (log_of st) run.image (sound_forms run.geometry (length run.image) run.opened run.image (log_of st) sound)
+    (sound_rules run.geometry (length run.image) run.opened run.image (log_of st) sound)
+
+pub good_geometry : (st : State) → IsGood st → geometry_said st.frames ≡ (run_is st).geometry
+good_geometry st good = ap (λ bytes. or_small (geometry_of bytes)) (good_first st good)
 
 -- what a session's transaction holds
 none_held : (x : Session) (r : Resource) → eqb x.tran 0 ≡ true → has_held x r ≡ false

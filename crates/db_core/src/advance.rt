@@ -1,22 +1,21 @@
 //! One turn of a session.
 ghost use Rattle.std.specs.Prelude.{◌≡◌, ◌<◌, length, slice_get, Some};
-ghost use Rattle.spec_file.specs.declared.geometry.Geometry.TheVariants.{Small};
 ghost use Rattle.db_core.specs.Plans.{HasSums, IsPlanned};
 ghost use Rattle.db_core.specs.Rooms.{HasOwnRoom};
 ghost use Rattle.db_core.specs.Stages.{IsStage};
-ghost use Rattle.db_core.specs.Store.{Advanced, Answers, GoesNearer, IsGood};
+ghost use Rattle.db_core.specs.Store.{Advanced, Answers, GoesNearer, IsGood, run_is};
 ghost use Rattle.db_core.specs.declared.stage.Stage.TheVariants as stages;
 
 use crate::TurnOut;
 use crate::checks::{begin_check, go_on_check};
 use crate::plans::{begin_planned, used_now};
+use crate::reading::geometry_of;
 use crate::session::Session;
 use crate::stage::{Stage, stage_of};
 use crate::state::State;
 use crate::statement_view::StatementView;
 use crate::turns::{begin_word, go_on};
 use db_plan::{Plan, PlanAt, plan};
-use pg_base::Geometry;
 use spec_file::NoMemory;
 use spec_script::Refusal;
 
@@ -25,11 +24,11 @@ fn sums_of(state: &State, at: usize) -> PlanAt
     requires at { at < length state.now.sessions.items }
     requires good { IsGood state.now }
     ensures sums { (x : Session) → slice_get state.now.sessions.items at ≡ Some x → HasSums state.now x result }
-    ensures geometry { result.geometry ≡ Small }
+    ensures geometry { result.geometry ≡ (run_is state.now).geometry }
     ensures pages { result.pages ≡ length state.now.frames }
 {
     PlanAt {
-        geometry: Geometry::Small,
+        geometry: geometry_of(&state.frames),
         pages: state.frames.count() as u32,
         used_changes: used_now(&state.sessions[at]),
         announced_changes: state.all,

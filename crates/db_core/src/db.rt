@@ -2,7 +2,7 @@
 ghost use Rattle.std.specs.Prelude.{◌≡◌, ◌+◌, ◌-◌, ◌<◌, ◌≤◌, ◌++◌, [], length, map, reverse, slice_get, Some, IfOk, List, ℕ, true, false};
 ghost use Rattle.spec_script.specs.declared.limits.TheConstants.{MOST_LINES};
 ghost use Rattle.std.specs.List.{list_any};
-ghost use Rattle.spec_file.specs.declared.geometry.Geometry.TheVariants.{Small};
+ghost use Rattle.law_run.specs.Laws.{IsStart};
 ghost use Rattle.spec_log.specs.Cells.{HasWholePages};
 ghost use Rattle.spec_log.specs.Images.{final_image};
 ghost use Rattle.spec_log.specs.Items.{has_form};
@@ -13,7 +13,8 @@ ghost use Rattle.spec_run.specs.Turns.{AreTold, told_to, IsLegal, IsWhole};
 ghost use Rattle.spec_file.specs.Places.{HasShape};
 ghost use Rattle.spec_run.specs.Bounds.{TakesTurn, RunWithin};
 ghost use Rattle.spec_run.specs.Answers.{is_terminated};
-ghost use Rattle.spec_run.specs.Schedules.{rest_from, setting_of, turns_of};
+ghost use Rattle.spec_run.specs.Schedules.{rest_from, turns_of};
+ghost use Rattle.spec_run.specs.Openings.{geometry_said, setting_of};
 ghost use Rattle.db_core.specs.States.{TurnIn, left_in};
 ghost use Rattle.db_core.specs.Store.{SaysOut};
 ghost use Rattle.spec_log.specs.declared.item.Record.{Record as AnyRecord};
@@ -50,19 +51,19 @@ impl Model for Core {
 }
 
 impl Core {
-    /// Sessions with these scripts that have done nothing yet, over a file of the small geometry. All
-    /// room that BEGIN, COMMIT, ROLLBACK and a refusal need later is taken here.
+    /// Sessions with these scripts that have done nothing yet, over a file of the geometry that its page 0
+    /// says. All room that BEGIN, COMMIT, ROLLBACK and a refusal need later is taken here.
     pub fn begin(
         alloc: Global,
         frames: Frames,
         scripts: Vec<Vec<Statement>>,
     ) -> Result<Core, NoMemory>
         requires whole { HasWholePages frames }
-        requires shape { HasShape Small (length frames) }
+        requires shape { HasShape (geometry_said frames) (length frames) }
         requires few { length scripts.items ≤ 16 }
         requires short { (k : ℕ) (script : List AnyStatement) → slice_get (map (λ s. s.items) scripts.items) k ≡ Some script → length script ≤ MOST_LINES }
         requires proper { (k n : ℕ) (script : List AnyStatement) (st : AnyStatement) → slice_get (map (λ s. s.items) scripts.items) k ≡ Some script → slice_get script n ≡ Some st → is_statement st ≡ true }
-        ensures { IfOk result (λ core. (core.run ≡ setting_of frames (map (λ s. s.items) scripts.items)) × (core.entries ≡ []) × ((s : ℕ) → left_in core s ≡ 0)) }
+        ensures { IfOk result (λ core. (core.run ≡ setting_of frames (map (λ s. s.items) scripts.items)) × (core.entries ≡ []) × ((s : ℕ) → left_in core s ≡ 0) × IsStart core.run) }
     {
         are_of_bytes(&frames);
         let sessions = sessions_of(alloc, scripts)?;

@@ -1,7 +1,7 @@
 //! A check reads the pages that it holds: the maps, then extent by extent.
 ghost use Rattle.std.specs.Prelude.{◌≡◌, ◌<◌, length, true, false, IfErr, IfOk, OnOk};
-ghost use Rattle.spec_file.specs.declared.geometry.Geometry.TheVariants.{Small};
 ghost use Rattle.spec_file.specs.Places.{HasShape};
+ghost use Rattle.spec_run.specs.Openings.{geometry_said};
 ghost use Rattle.spec_tables.specs.Written.{IsCheckOf};
 ghost use Rattle.ck_scan.specs.Scans.{extents_left};
 ghost use Rattle.pg_base.specs.declared.reader.ReadStop.TheVariants as stops;
@@ -39,19 +39,30 @@ pub fn is_read(phase: &Phase) -> bool
     }
 }
 
+/// The geometry that page 0 says.
+pub fn geometry_of(pages: &Frames) -> Geometry
+    requires { 0 < length pages.now }
+    ensures { result ≡ geometry_said pages.now }
+{
+    match Geometry::of_byte(pages.page(0).bytes[106]) {
+        Some(geometry) => geometry,
+        None => Geometry::Small,
+    }
+}
+
 /// The maps of pages in memory, whose reading neither fails nor ends.
 fn maps_of(alloc: Global, pages: &Frames) -> Result<AllocMap, ReadStop>
-    requires { HasShape Small (length pages.now) }
+    requires { HasShape (geometry_said pages.now) (length pages.now) }
     ensures maps { IfOk result (AreMapsOf pages.now) }
     ensures cause { IfErr result (λ stop. stop ≡ stops.NoMemory) }
 {
     let mut reader = FramesReader::of(pages);
-    read_maps(alloc, &mut reader, Geometry::Small, pages.count() as u32)
+    read_maps(alloc, &mut reader, geometry_of(pages), pages.count() as u32)
 }
 
 /// The maps of pages, and a scan by them that has read no extent yet.
 fn begin_scan(alloc: Global, pages: &Frames) -> Result<Phase, NoMemory>
-    requires { HasShape Small (length pages.now) }
+    requires { HasShape (geometry_said pages.now) (length pages.now) }
     ensures { IfOk result (BeginsScan pages.now) }
 {
     let Ok(map) = maps_of(alloc, pages) else {
@@ -110,7 +121,7 @@ pub fn read_on(alloc: Global, pages: &Frames, phase: &mut Phase) -> Result<(), N
 pub fn report_of(alloc: Global, pages: &Frames, phase: Phase) -> Result<CheckReport, NoMemory>
     requires may { MayRead pages.now phase }
     requires read { phases.is_read phase ≡ true }
-    ensures { IfOk result (IsCheckOf Small pages.now) }
+    ensures { IfOk result (IsCheckOf (geometry_said pages.now) pages.now) }
 {
     match phase {
         Phase::Scanning { map, scan } => scan.finish(alloc, &map),

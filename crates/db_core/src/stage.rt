@@ -58,5 +58,6 @@ fn stage_by(statement: &Statement) -> Stage
         Statement::Check { .. } => Stage::Check,
         Statement::Insert { .. } => Stage::Planned,
         Statement::Count(_) => Stage::Planned,
+        Statement::Select { .. } => Stage::Planned,
     }
 }

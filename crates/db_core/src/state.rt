@@ -3,7 +3,6 @@ ghost use Rattle.std.specs.Prelude.{◌≡◌, ◌+◌, ◌-◌, ◌<◌, ◌≤
 ghost use Rattle.db_core.specs.Rooms as rooms;
 ghost use Rattle.db_core.specs.Store.{IsSettled};
 
-use crate::bytes::puts_bytes;
 use crate::session::{Doing, Session};
 use spec_log::{Record, tran_of_item};
 use std::alloc::Global;
@@ -82,7 +81,6 @@ pub fn settle(state: &mut State, at: usize, before: usize, item: Record)
     requires low { state.old.owed < 2 ^ 63 }
     ensures { (x : Session) → slice_get state.old.sessions.items at ≡ Some x → IsSettled at before item x state.old state.new }
 {
-    puts_bytes(&item);
     state.last = tran_of_item(&item).max(state.last);
     state.owed = state.owed - before + owed_by(&state.sessions[at]);
     push_item(&mut state.items, item);

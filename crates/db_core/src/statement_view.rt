@@ -191,13 +191,6 @@ impl<'a> StatementView<'a> {
         &self.state.sessions[self.at]
     }
 
-    /// The other transaction that holds a resource.
-    fn holder(&self, r: Resource) -> Option<Tran>
-        ensures { option_map (λ t. t.0) result ≡ (began_at self.now.state.now self.now.at).other r }
-    {
-        holder_among(&self.state.sessions, r, self.session().tran)
-    }
-
     /// Whether the session's transaction holds a resource.
     fn owns(&self, r: Resource) -> bool
         ensures { result ≡ (began_at self.now.state.now self.now.at).own r }
@@ -226,6 +219,10 @@ impl PlanPages for StatementView<'_> {
     ghost size = { size_of };
 
     ghost images = { images_of };
+
+    fn holder(&self, r: Resource) -> Option<Tran> {
+        holder_among(&self.state.sessions, r, self.session().tran)
+    }
 
     fn look(&mut self, p: PageNo, r: Resource, into: &mut Page) -> Result<(), PageStop> {
         if let Some(by) = self.holder(r) {

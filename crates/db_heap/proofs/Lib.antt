@@ -8,3 +8,5 @@ pub mod RowSteps
 pub mod RoomFound
 pub mod ByteReads
 pub mod InsertSteps
+pub mod Rising
+pub mod SelectSteps

@@ -8,8 +8,7 @@ use Rattle.spec_file.specs.Pfs.{fullness_of}
 use Rattle.spec_rows.specs.Slots.{slot_count, rows_size}
 use Rattle.spec_file.specs.Places.{pfs_page}
 use Rattle.spec_file.specs.declared.geometry.Geometry.{Geometry}
-use Rattle.spec_plan.specs.Rows.{passes_page, has_room_for, free_count, with_row}
-use Rattle.spec_plan.specs.Statements.{with_fullness}
+use Rattle.spec_plan.specs.Rows.{passes_page, has_room_for, free_count, with_row, with_fullness}
 use Rattle.spec_words.specs.Views.{View}
 use Rattle.spec_words.specs.Words.{◌then◌, put_pfs, put_page}
 use Rattle.spec_words.specs.Heaps.{row_put}

@@ -1,3 +1,4 @@
 pub mod Counts
+pub mod Selects
 pub mod Inserts
 pub mod InsertPlans

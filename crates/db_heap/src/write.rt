@@ -2,8 +2,7 @@
 ghost use Rattle.std.specs.Prelude.{◌≡◌, ◌+◌, ◌-◌, ◌≤◌, ℕ, List, IsTrue, Contains, length};
 ghost use Rattle.spec_file.specs.Pfs as pfs;
 ghost use Rattle.spec_rows.specs.Rows.{is_data_row};
-ghost use Rattle.spec_plan.specs.Rows.{free_count, has_room_for};
-ghost use Rattle.spec_plan.specs.Statements.{with_fullness};
+ghost use Rattle.spec_plan.specs.Rows.{free_count, has_room_for, with_fullness};
 ghost use Rattle.spec_words.specs.Heaps as spec;
 ghost use Rattle.heap_page.specs.Pages.{IsHeapPage};
 ghost use Rattle.db_cat.specs.Rows.{row_of};

@@ -13,7 +13,7 @@ ghost use Rattle.db_locks.specs.Locks.{others_of};
 
 use crate::key::key;
 use crate::{LockTable, PageStop, PlanPages};
-use pg_base::{Geometry, NoMemory, Page, PageNo, Resource, is_whole};
+use pg_base::{Geometry, NoMemory, Page, PageNo, Resource, Tran, is_whole};
 use std::alloc::{AllocError, Global};
 
 fn comes_before(r: Resource, s: Resource) -> bool
@@ -166,6 +166,10 @@ impl PlanPages for MemView {
     ghost size = { size_of };
 
     ghost images = { images_of };
+
+    fn holder(&self, r: Resource) -> Option<Tran> {
+        self.locks.holder(r)
+    }
 
     fn look(&mut self, p: PageNo, r: Resource, into: &mut Page) -> Result<(), PageStop> {
         if let Some(by) = self.locks.holder(r) {

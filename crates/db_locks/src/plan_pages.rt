@@ -1,5 +1,7 @@
 //! The view of a transaction while a statement is planned.
 ghost use Rattle.std.specs.Prelude.{◌≡◌, ◌<◌, ℕ, IsTrue, None, Contains, IfErr, OnOk, OnErr, take as front, slice_set};
+ghost use Rattle.std.specs.Option.{option_map};
+ghost use Rattle.spec_file.specs.declared.data.Resource.{Resource};
 ghost use Rattle.spec_file.specs.declared.data.PageNo.{PageNo};
 ghost use Rattle.spec_file.specs.Image.{page, maps_start};
 ghost use Rattle.spec_file.specs.Places.{HasShape};
@@ -34,15 +36,19 @@ pub trait PlanPages {
     /// else has changed.
     ghost images: { (v : Self) → IsTrue (state v).told → AreImages (state v) };
 
-    /// Fills `into` with page `p` as it is shown. What `r` guards there is as the transaction sees it.
-    /// Changes nothing, whatever it answers.
+    /// The other transaction that holds a resource.
+    fn holder(&self, r: Resource) -> Option<Tran>
+        ensures { option_map (λ t. t.0) result ≡ (state self.now).view.other r };
+
+    /// Fills `into` with page `p` as it is shown. What `r` guards there is as the transaction sees it, and
+    /// so is whatever no other transaction holds. Changes nothing, whatever it answers.
     fn look(&mut self, p: PageNo, r: Resource, into: &mut Page) -> Result<(), PageStop>
         requires { p.0 < (state self.old).view.shape.pages }
         ensures look { Does (state self.old) (state self.new) (look r p.0) (filled (page (state self.old).view.now p.0) result) }
         ensures names { IfErr result (NamesBoth p.0 r) }
         ensures free { OnOk result ((state self.old).view.other r ≡ None) }
         ensures shown { OnOk result (IsTrue (state self.old).told → into.new.bytes ≡ page (state self.old).shown p.0) }
-        ensures guarded { OnOk result (IsTrue (state self.old).told → AgreeUnder r (state self.old).view.shape p.0 into.new.bytes (page (state self.old).view.now p.0)) }
+        ensures guarded { OnOk result (IsTrue (state self.old).told → (s : Resource) → (state self.old).view.other s ≡ None → AgreeUnder s (state self.old).view.shape p.0 into.new.bytes (page (state self.old).view.now p.0)) }
         ensures header { OnOk result (IsTrue (state self.old).told → IsTrue (tells_header (state self.old).view.shape.geometry r p.0) → front maps_start into.new.bytes ≡ front maps_start (page (state self.old).view.now p.0)) }
         ensures view { (state self.new).view ≡ (state self.old).view }
         ensures same { KeepsShown (state self.old) (state self.new) };

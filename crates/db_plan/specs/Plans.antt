@@ -24,6 +24,7 @@ use Rattle.db_plan.specs.Limits.{passes}
 abbrev pub is_planned : Statement → Bool
 is_planned (statement.Insert table key payload) = true
 is_planned (statement.Count table) = true
+is_planned (statement.Select table key) = true
 is_planned other = false
 
 -- the plan of a statement whose words end so: it reads where nothing was taken; else it takes and changes what the view

@@ -13,7 +13,7 @@ ghost use Rattle.db_plan.specs.Plans.{IsPlannedAs, IsLimited, WritesBy, is_plann
 use crate::limits::{exceeds, planned_bytes};
 use crate::refusals::{of_find, of_insert, out_of_memory};
 use crate::{Plan, PlanAt};
-use db_heap::{heap_count, heap_insert};
+use db_heap::{heap_count, heap_insert, heap_select};
 use db_locks::PlanPages;
 use net_changes::{net_changes, net_takes};
 use spec_file::{NoMemory, Resource};
@@ -29,6 +29,16 @@ fn rows(alloc: Global, count: u64) -> Reply
     Reply::Rows {
         count,
         payloads: Values::new(alloc),
+    }
+}
+
+// These rows were found.
+fn found_rows(payloads: Values<Values<u8>>) -> Reply
+    ensures { result ≡ spec.rows_found payloads }
+{
+    Reply::Rows {
+        count: payloads.count() as u64,
+        payloads,
     }
 }
 
@@ -118,6 +128,25 @@ fn plan_count<P: PlanPages>(
     }
 }
 
+// SELECT.
+fn plan_select<P: PlanPages>(
+    alloc: Global,
+    v: &mut P,
+    at: &PlanAt,
+    table: &Name,
+    key: u64,
+) -> Result<Plan, Refusal>
+    requires geometry { at.now.geometry ≡ (P.state v.old).view.shape.geometry }
+    requires pages { at.now.pages ≡ (P.state v.old).view.shape.pages }
+    requires begins { (P.state v.old).view.taken ≡ [] }
+    ensures { IsPlannedAs at.now (P.state v.old) (P.state v.new) (spec.select_plan (P.state v.old).view.shape table.now key) result }
+{
+    match heap_select(alloc, v, at.geometry, at.pages, table, key) {
+        Ok(payloads) => Ok(Plan::Read(found_rows(payloads))),
+        Err(stop) => Err(of_find(alloc, stop, table)),
+    }
+}
+
 /// Plans a statement on a view where nothing is taken yet: its words are carried out there, and its takes and changes
 /// are those of the view as it then stands. Its refusal is the first that its words meet; 9002 where its changes pass a
 /// limit; 823 where the device failed at a page that they reach; 701.
@@ -141,6 +170,7 @@ pub fn plan<P: PlanPages>(
             payload,
         } => plan_insert(alloc, v, at, table, *key, payload.as_slice()),
         Statement::Count(table) => plan_count(alloc, v, at, table),
+        Statement::Select { table, key } => plan_select(alloc, v, at, table, *key),
         _ => unreachable!(),
     }
 }

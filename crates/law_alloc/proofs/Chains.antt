@@ -105,6 +105,7 @@ taken_gives shape standing p v own g =
 iam_keeps : (shape : FileShape) (q at : ℕ) (bytes : List ℕ) (v : View) → IsOwn shape q → Low bytes → IsGoodOf shape v → Leads (put_iam q at bytes) v (λ u w. IsGoodOf shape w)
 iam_keeps shape q at bytes v own low g = write_keeps shape (resource.Page (record { 0 = q })) _ bytes v (record {
   may = tt;
+  fits = own.0;
   are_bytes = low_bytes bytes low;
   guarded = page_guards shape q at bytes own.0 own.1;
 }) g

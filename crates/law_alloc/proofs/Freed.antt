@@ -10,7 +10,7 @@ use Rattle.spec_alloc.specs.Search.{gam_read, sgam_read, pfs_read}
 use Rattle.spec_alloc.specs.Freeing.{is_in_use, put_bits, extent_freed, shared_freed, marked_freed}
 use Rattle.law_net.specs.GoodViews.{Leads}
 use Rattle.law_net.proofs.WordLaws.{leads_give, leads_weaker}
-use Rattle.law_net.proofs.InsertKeeps.{IsGoodOf, take_keeps}
+use Rattle.law_net.proofs.InsertKeeps.{IsGoodOf, extent_taken}
 use Rattle.law_alloc.specs.Keeps.{SharedKeepsGood, MarkedKeepsGood}
 use Rattle.law_alloc.proofs.Searches.{Any, sees_reads, leads_from, map_reads}
 use Rattle.law_alloc.proofs.Singles.{gam_keeps, sgam_keeps, pfs_keeps, good_then, extent_in}
@@ -27,7 +27,7 @@ bits_keep shape e in_use v lt g =
 pub shared_keeps : (shape : FileShape) (p : ℕ) (v : View) → p < shape.pages → IsGoodOf shape v → Leads (shared_freed shape p) v (Good shape)
 shared_keeps shape p v lt g =
     leads_from (pfs_read shape p) _ v Any (Good shape) (map_reads _ _ v) (λ a b.
-    good_then shape (take (resource.Extent (record { 0 = p / 8 }))) _ v (Good shape) (take_keeps shape (resource.Extent (record { 0 = p / 8 })) v g) (λ u w h.
+    good_then shape (take (resource.Extent (record { 0 = p / 8 }))) _ v (Good shape) (extent_taken shape (p / 8) v (extent_in shape p v lt g) g) (λ u w h.
     leads_from (gam_read shape (p / 8)) _ w Any (Good shape) (map_reads _ _ w) (λ c d.
     leads_from (sgam_read shape (p / 8)) _ w Any (Good shape) (map_reads _ _ w) (λ c d.
     good_then shape (put_pfs shape p 0) _ w (Good shape) (pfs_keeps shape p 0 w lt (omega arith) h) (λ s x k.
@@ -41,7 +41,7 @@ extent_keeps shape e in_use v lt g =
     cond_both in_use reading freeing (λ plan. Leads plan v (Good shape))
     (λ h. leads_from (gam_read shape e) (λ _. sgam_read shape e) v Any (Good shape) (map_reads _ _ v) (λ a b.
     leads_weaker (sgam_read shape e) v (λ x w. (w ≡ v) × Unit {0}) (Good shape) (λ x w k. same_view w k.0) (map_reads _ _ v)))
-    (λ h. good_then shape (take (resource.Extent (record { 0 = e }))) _ v (Good shape) (take_keeps shape (resource.Extent (record { 0 = e })) v g) (λ u w k.
+    (λ h. good_then shape (take (resource.Extent (record { 0 = e }))) _ v (Good shape) (extent_taken shape e v lt g) (λ u w k.
     leads_from (gam_read shape e) _ w Any (Good shape) (map_reads _ _ w) (λ c d.
     leads_from (sgam_read shape e) _ w Any (Good shape) (map_reads _ _ w) (λ c d.
     gam_keeps shape e 1 w lt (omega arith) k))))

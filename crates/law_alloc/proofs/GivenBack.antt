@@ -22,7 +22,7 @@ use Rattle.law_net.specs.GoodViews.{Leads}
 use Rattle.law_net.proofs.WordLaws.{leads_then, leads_give, leads_good, leads_each, leads_weaker}
 use Rattle.law_net.proofs.RowBytes.{low_bytes}
 use Rattle.law_net.proofs.WordsKeep.{catalog_keeps_good}
-use Rattle.law_net.proofs.InsertKeeps.{IsGoodOf, take_keeps}
+use Rattle.law_net.proofs.InsertKeeps.{IsGoodOf, extent_taken}
 use Rattle.law_alloc.specs.Keeps.{ObjectPageFreedKeepsGood, NewChainKeepsGood, DropKeepsGood, EntryKeepsGood}
 use Rattle.law_alloc.proofs.Searches.{Any, sees_reads, leads_from, map_reads}
 use Rattle.law_alloc.proofs.Singles.{Found, Given, single_finds, gam_keeps, page_keeps, good_then}
@@ -112,7 +112,7 @@ dropped_keeps shape chain p v lt g =
 
 left_keeps : (shape : FileShape) (e : ℕ) (v : View) → e < shape.pages / 8 → IsGoodOf shape v → Leads (left_freed shape e) v (Good shape)
 left_keeps shape e v lt g =
-    good_then shape (take (resource.Extent (record { 0 = e }))) (λ _. gam_read shape e then (λ _. put_gam shape e 1)) v (Good shape) (take_keeps shape (resource.Extent (record { 0 = e })) v g) (λ u w h.
+    good_then shape (take (resource.Extent (record { 0 = e }))) (λ _. gam_read shape e then (λ _. put_gam shape e 1)) v (Good shape) (extent_taken shape e v lt g) (λ u w h.
     leads_from (gam_read shape e) (λ _. put_gam shape e 1) w Any (Good shape) (map_reads _ _ w) (λ a b. gam_keeps shape e 1 w lt (omega arith) h))
 
 drop_keeps : (shape : FileShape) (row : CatalogRow) (v : View) → IsGoodOf shape v → Leads (pages_dropped shape row) v (Good shape)

@@ -15,7 +15,7 @@ use Rattle.law_extents.proofs.GoodKinds.{first_ordinary}
 use Rattle.law_net.specs.GoodViews.{IsGoodView, Leads, KeepsGood}
 use Rattle.law_net.proofs.WordLaws.{leads_then, leads_give, leads_weaker}
 use Rattle.law_net.proofs.ReadingLeaves.{Reads}
-use Rattle.law_net.proofs.InsertKeeps.{IsGoodOf, take_keeps}
+use Rattle.law_net.proofs.InsertKeeps.{IsGoodOf, extent_taken}
 use Rattle.law_net.proofs.WordsKeep.{gam_keeps_good, sgam_keeps_good, pfs_keeps_good, page_keeps_good}
 use Rattle.law_alloc.specs.Keeps.{IfFound, IsOwn, SingleKeepsGood}
 use Rattle.law_alloc.proofs.Searches.{Any, sees_reads, leads_from, search_reads}
@@ -97,7 +97,7 @@ lower_keeps shape e v lt g =
 
 mixed_gives : (shape : FileShape) (byte p : ℕ) → byte < 256 → IsOwn shape p → GivesPage shape (of_mixed shape byte p)
 mixed_gives shape byte p low own v g =
-    good_then shape (take (resource.Extent (record { 0 = p / 8 }))) _ v (Given shape) (take_keeps shape (resource.Extent (record { 0 = p / 8 })) v g) (λ u w h.
+    good_then shape (take (resource.Extent (record { 0 = p / 8 }))) _ v (Given shape) (extent_taken shape (p / 8) v (extent_in shape p v own.0 g) g) (λ u w h.
     good_then shape (put_pfs shape p byte) _ w (Given shape) (pfs_keeps shape p byte w own.0 low h) (λ s x k.
     good_then shape (lower_sgam shape (p / 8)) _ x (Given shape) (lower_keeps shape (p / 8) x (extent_in shape p x own.0 k) k) (λ t y l.
     leads_give p y (Given shape) (l, own))))

@@ -2,7 +2,7 @@
 use Rattle.std.specs.Prelude.{◌≡◌, ℕ, zero, suc, ◌+◌, ◌/◌, ◌%◌, ◌<◌, ◌==◌, ◌&&◌, ◌||◌, Bool, true, not, nat_lt, List, length, Contains}
 use Rattle.std.specs.List.{range_with_len, list_any}
 use Rattle.std.specs.Ordering.{nat_cmp}
-use Rattle.std.proofs.Common.{refl, ap, ◌∙◌, sym, inl, inr, arith}
+use Rattle.std.proofs.Common.{refl, ap, ◌∙◌, sym, subst, inl, inr, arith}
 use Rattle.std.proofs.lemmas.Bool.{and_parts, and_from, or_cases, or_left, or_right, eqb-true, eq-eqb, ne_eqb, lt-ltb, not_from_false}
 use Rattle.std.proofs.lemmas.Cmp.{nat_cmp_total}
 use Rattle.std.proofs.lemmas.List.Kept.{IsStrictlySortedBy-filter}
@@ -17,8 +17,9 @@ use Rattle.spec_chain.proofs.ChainLaws.{page_below, below_page}
 use Rattle.spec_chain.specs.Marks.{IsMarked}
 use Rattle.spec_chain.specs.Uses.{HoldsPage, is_allocated, IsAllocatedTo}
 use Rattle.spec_check.proofs.Members.{filter_from, filter_in, range_from, range_in, range_sorted}
-use Rattle.spec_plan.specs.Sight.{Sight}
-use Rattle.spec_plan.specs.Reading.{first_page, is_single, is_marked, object_pages}
+use Rattle.spec_plan.specs.Reading.{first_page, is_single, is_marked}
+use Rattle.spec_words.specs.Views.{View}
+use Rattle.spec_words.specs.Tables.{object_pages}
 use Rattle.law_chains.specs.Laws.{chain_pages, IsWhole, PagesAreAllocated, PagesRise}
 use Rattle.spec_chain.proofs.Pointers.{whole_last, last_parts, inside_below, inside_nonzero}
 use Rattle.law_chains.proofs.Ranges.{found_from, found_in}
@@ -75,41 +76,41 @@ mark_in g image row n p chain marked =
     (and_from (iam_interval (page image q) == interval_of_page g p) (iam_mark (page image q) ((p / 8) % size))
     (eq-eqb _ _ (marked.1.1 ∙ sym (intervals g p))) marked.1.2)
 
-abbrev is_read : Sight → List ℕ → ℕ → Bool
-is_read sight chain p = is_single sight.view chain p || (is_marked sight.geometry sight.view chain p && is_allocated sight.geometry sight.view p)
+abbrev is_read : View → List ℕ → ℕ → Bool
+is_read view chain p = is_single view.now chain p || (is_marked view.shape.geometry view.now chain p && is_allocated view.shape.geometry view.now p)
 
-allocated_from : (sight : Sight) (row : CatalogRow) (n p : ℕ) → IsWhole sight.geometry sight.view row n
-    → Contains (object_pages sight (chain_pages sight.view row n)) p → IsAllocatedTo sight.geometry sight.view row p
-allocated_from sight row n p chain has =
-    let g = sight.geometry in
-    let image = sight.view in
+allocated_from : (view : View) (row : CatalogRow) (n p : ℕ) → length view.now ≡ view.shape.pages → IsWhole view.shape.geometry view.now row n
+    → Contains (object_pages view.shape (chain_pages view.now row n) view) p → IsAllocatedTo view.shape.geometry view.now row p
+allocated_from view row n p long chain has =
+    let g = view.shape.geometry in
+    let image = view.now in
     let pages = chain_pages image row n in
-    let kept = filter_from (is_read sight pages) (range_with_len 0 (length image)) p has in
-    let below = range_from (length image) p kept.0 in
+    let kept = filter_from (is_read view pages) (range_with_len 0 view.shape.pages) p has in
+    let below = subst (λ m. p < m) (sym long) (range_from view.shape.pages p kept.0) in
     elim (or_cases (is_single image pages p) (is_marked g image pages p && is_allocated g image p) kept.1) [
       | inl single ↦ inl (slot_from g image row n p chain below single)
       | inr both ↦ let parts = and_parts (is_marked g image pages p) (is_allocated g image p) both in
           inr (below, mark_from g image row n p chain parts.0, parts.1)
     ]
 
-allocated_in : (sight : Sight) (row : CatalogRow) (n p : ℕ) → IsWhole sight.geometry sight.view row n
-    → IsAllocatedTo sight.geometry sight.view row p → Contains (object_pages sight (chain_pages sight.view row n)) p
-allocated_in sight row n p chain allocated =
-    let g = sight.geometry in
-    let image = sight.view in
+allocated_in : (view : View) (row : CatalogRow) (n p : ℕ) → length view.now ≡ view.shape.pages → IsWhole view.shape.geometry view.now row n
+    → IsAllocatedTo view.shape.geometry view.now row p → Contains (object_pages view.shape (chain_pages view.now row n) view) p
+allocated_in view row n p long chain allocated =
+    let g = view.shape.geometry in
+    let image = view.now in
     let pages = chain_pages image row n in
     elim allocated [
-      | inl slot ↦ filter_in (is_read sight pages) (range_with_len 0 (length image)) p (range_in (length image) p (inside_below (length image) p slot.1.1))
+      | inl slot ↦ filter_in (is_read view pages) (range_with_len 0 view.shape.pages) p (range_in view.shape.pages p (subst (λ m. p < m) long (inside_below (length image) p slot.1.1)))
           (or_left (is_single image pages p) (is_marked g image pages p && is_allocated g image p) (slot_in g image row n p slot.0 chain slot.1))
-      | inr marked ↦ filter_in (is_read sight pages) (range_with_len 0 (length image)) p (range_in (length image) p marked.0)
+      | inr marked ↦ filter_in (is_read view pages) (range_with_len 0 view.shape.pages) p (range_in view.shape.pages p (subst (λ m. p < m) long marked.0))
           (or_right (is_single image pages p) (is_marked g image pages p && is_allocated g image p)
           (and_from (is_marked g image pages p) (is_allocated g image p) (mark_in g image row n p chain marked.1) marked.2))
     ]
 
 pub pages_are_allocated : PagesAreAllocated
-pages_are_allocated sight row n p chain = (allocated_from sight row n p chain, allocated_in sight row n p chain)
+pages_are_allocated view row n p long chain = (allocated_from view row n p long chain, allocated_in view row n p long chain)
 
 pub pages_rise : PagesRise
-pages_rise sight chain =
-    IsStrictlySortedBy-filter nat_cmp (is_read sight chain) (range_with_len 0 (length sight.view))
-    (range_sorted nat_cmp nat_cmp_total (length sight.view) (λ k below. let less = lt-ltb k (k + 1) (omega arith) in rw less refl))
+pages_rise view chain =
+    IsStrictlySortedBy-filter nat_cmp (is_read view chain) (range_with_len 0 view.shape.pages)
+    (range_sorted nat_cmp nat_cmp_total view.shape.pages (λ k below. let less = lt-ltb k (k + 1) (omega arith) in rw less refl))

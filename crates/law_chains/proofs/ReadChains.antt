@@ -1,8 +1,8 @@
 -- Reading a chain, page by page, goes along the pointers of the object's chain.
-use Rattle.std.specs.Prelude.{◌≡◌, ◌⊎◌, ℕ, zero, suc, ◌+◌, ◌<◌, ◌==◌, ◌&&◌, ◌||◌, Bool, true, false, not, IsTrue, is_none, Option, Some, None, List, [], ◌∷◌, ◌++◌, length}
+use Rattle.std.specs.Prelude.{if◌then◌else◌, ◌≡◌, ◌⊎◌, ℕ, zero, suc, ◌+◌, ◌<◌, ◌==◌, ◌&&◌, ◌||◌, Bool, true, false, not, IsTrue, is_none, Option, Some, None, List, [], ◌∷◌, ◌++◌, length}
 use Rattle.std.specs.List.{list_any}
 use Rattle.std.proofs.Common.{refl, ap, ◌∙◌, sym, subst, inl, inr, arith, add-one}
-use Rattle.std.proofs.lemmas.Bool.{cases_Bool, cases_order, and_parts, and_from, eqb-true, eq-eqb, not-true, not_from_false, not-false, or_parts, both_ways}
+use Rattle.std.proofs.lemmas.Bool.{false≢true, cases_Bool, cases_order, and_parts, and_from, eqb-true, eq-eqb, not-true, not_from_false, not-false, or_parts, both_ways}
 use Rattle.std.proofs.lemmas.List.FromFn.{length-map-range_with_len, map-range_with_len_more}
 use Rattle.spec_file.specs.declared.data.Resource.{Resource}
 use Rattle.spec_file.specs.declared.data.Resource.TheVariants as resource
@@ -13,13 +13,23 @@ use Rattle.spec_file.specs.CatalogRows.{CatalogRow}
 use Rattle.spec_chain.specs.declared.end.ChainEnd.{ChainEnd}
 use Rattle.spec_chain.specs.Chains.{next_of, pointer, holder, is_last, fault_of_bytes, IsMet, GoesOn, HasPages}
 use Rattle.spec_plan.specs.Refusals.{held_by, bad_page}
-use Rattle.spec_plan.specs.Sight.{Sight, Outcome, Refuses}
-use Rattle.spec_plan.specs.Reading.{are_slots_inside, is_chain_page, chain_from}
+use Rattle.spec_plan.specs.Reading.{are_slots_inside}
+use Rattle.spec_words.specs.NetChanges.{FileShape}
+use Rattle.spec_words.specs.Views.{View, End, Gives, Stops, Outcome, Plan}
+use Rattle.spec_words.specs.Words.{◌then◌, gone_on, by_holder, ended, give, sees, where_good, look}
+use Rattle.spec_words.specs.Tables.{is_chain_page, chain_from, chain_of}
 use Rattle.law_chains.specs.Laws.{chain_pages, IsReadable, Reads, ChainIsRead}
-use Rattle.law_chains.specs.Laws.Reads.{Goes, Stops}
+use Rattle.law_chains.specs.Laws.Reads.{Goes, Refuses}
 use Rattle.spec_chain.proofs.Pointers.{goes_good, good_fault, whole_last, last_whole, last_parts}
 use Rattle.law_chains.proofs.Ranges.{found_from, found_in}
 use Rattle.spec_chain.proofs.ChainLaws.{chain_is_short}
+
+-- the file that the view has
+abbrev pub file_shape : View → FileShape
+file_shape view = record view.shape { pages = length view.now }
+
+abbrev pub seen : View → View
+seen view = record view { shape = file_shape view }
 
 count : (image : Image) (row : CatalogRow) (k : ℕ) → length (chain_pages image row k) ≡ k
 count image row k = length-map-range_with_len (pointer image row) 0 k
@@ -39,76 +49,76 @@ none_test : (x : Option ChainEnd) → x ≡ None → is_none x ≡ true
 none_test x h = ap is_none h
 
 -- a page with which the reading goes on is the chain's
-page_goes : (sight : Sight) (row : CatalogRow) (k : ℕ) → is_inside (length sight.view) (pointer sight.view row k) ≡ true
-    → is_chain_page sight row (chain_pages sight.view row k) (pointer sight.view row k) ≡ true → GoesOn sight.geometry sight.view row k
-page_goes sight row k inside is =
-    let image = sight.view in
+page_goes : (view : View) (row : CatalogRow) (k : ℕ) → is_inside (length view.now) (pointer view.now row k) ≡ true
+    → is_chain_page (file_shape view) row (chain_pages view.now row k) (pointer view.now row k) (page view.now (pointer view.now row k)) ≡ true → GoesOn view.shape.geometry view.now row k
+page_goes view row k inside is =
+    let image = view.now in
     let q = pointer image row k in
-    let fault = fault_of_bytes sight.geometry (length image) row.id q (page image q) in
+    let fault = fault_of_bytes view.shape.geometry (length image) row.id q (page image q) in
     let any = list_any (λ p. p == q) (chain_pages image row k) in
-    let parts = and_parts (is_ordinary sight.geometry q && is_none fault) (not any) is in
-    let good = and_parts (is_ordinary sight.geometry q) (is_none fault) parts.0 in (
-      good_fault sight.geometry image row k (record { inside = inside; ordinary = good.0; bytes = none_is fault good.1 }),
+    let parts = and_parts (is_ordinary view.shape.geometry q && is_none fault) (not any) is in
+    let good = and_parts (is_ordinary view.shape.geometry q) (is_none fault) parts.0 in (
+      good_fault view.shape.geometry image row k (record { inside = inside; ordinary = good.0; bytes = none_is fault good.1 }),
       λ met. both_ways any (not-true any parts.1) (met_in image row k q met),
     )
 
-goes_page : (sight : Sight) (row : CatalogRow) (k : ℕ) → GoesOn sight.geometry sight.view row k
-    → is_chain_page sight row (chain_pages sight.view row k) (pointer sight.view row k) ≡ true
-goes_page sight row k on =
-    let image = sight.view in
+goes_page : (view : View) (row : CatalogRow) (k : ℕ) → GoesOn view.shape.geometry view.now row k
+    → is_chain_page (file_shape view) row (chain_pages view.now row k) (pointer view.now row k) (page view.now (pointer view.now row k)) ≡ true
+goes_page view row k on =
+    let image = view.now in
     let q = pointer image row k in
-    let fault = fault_of_bytes sight.geometry (length image) row.id q (page image q) in
+    let fault = fault_of_bytes view.shape.geometry (length image) row.id q (page image q) in
     let any = list_any (λ p. p == q) (chain_pages image row k) in
-    let good = goes_good sight.geometry image row k on in
+    let good = goes_good view.shape.geometry image row k on in
     let unmet : any ≡ false = elim (cases_Bool any) [ inl met ↦ absurd (on.1 (met_from image row k q met)) | inr none ↦ none ] in
-    and_from (is_ordinary sight.geometry q && is_none fault) (not any)
-    (and_from (is_ordinary sight.geometry q) (is_none fault) good.ordinary (none_test fault good.bytes)) (not_from_false any unmet)
+    and_from (is_ordinary view.shape.geometry q && is_none fault) (not any)
+    (and_from (is_ordinary view.shape.geometry q) (is_none fault) good.ordinary (none_test fault good.bytes)) (not_from_false any unmet)
 
--- the reading stands at the k-th pointer, and may make m steps more
-abbrev from_pointer : ℕ → Sight → CatalogRow → ℕ → (List ℕ → Outcome) → Outcome
-from_pointer m sight row k next = chain_from m sight row (chain_pages sight.view row k) (holder sight.view row k) (pointer sight.view row k) next
+-- how the reading ends that stands at the k-th pointer, and may make m steps more
+abbrev pub from_pointer : ℕ → View → CatalogRow → ℕ → End (List ℕ)
+from_pointer m view row k = (chain_from m (file_shape view) row (chain_pages view.now row k) (holder view.now row k) (pointer view.now row k) (seen view)).ending
 
 -- what it has seen when it stands there
-record HasCome (sight : Sight) (row : CatalogRow) (k : ℕ) : Type 0 where
-  pages : HasPages sight.geometry sight.view row k
-  slots : 0 < k → IsTrue (are_slots_inside sight.view row.first_iam)
-  free : (j : ℕ) → j < k → sight.other (resource.Page (record { 0 = pointer sight.view row j })) ≡ None
+record HasCome (view : View) (row : CatalogRow) (k : ℕ) : Type 0 where
+  pages : HasPages view.shape.geometry view.now row k
+  slots : 0 < k → IsTrue (are_slots_inside view.now row.first_iam)
+  free : (j : ℕ) → j < k → view.other (resource.Page (record { 0 = pointer view.now row j })) ≡ None
 
-passes : (sight : Sight) (row : CatalogRow) (k n : ℕ) → HasCome sight row k → is_last k (pointer sight.view row k) ≡ false → IsReadable sight row n → k < n
-passes sight row k n come more readable = elim (cases_order k n) [
-  | inl same ↦ absurd (both_ways (is_last k (pointer sight.view row k)) more
-      (subst (λ j. is_last j (pointer sight.view row j) ≡ true) (sym same) (whole_last sight.geometry sight.view row n readable.chain.whole)))
+passes : (view : View) (row : CatalogRow) (k n : ℕ) → HasCome view row k → is_last k (pointer view.now row k) ≡ false → IsReadable (seen view) row n → k < n
+passes view row k n come more readable = elim (cases_order k n) [
+  | inl same ↦ absurd (both_ways (is_last k (pointer view.now row k)) more
+      (subst (λ j. is_last j (pointer view.now row j) ≡ true) (sym same) (whole_last view.shape.geometry view.now row n readable.chain.whole)))
   | inr (inl less) ↦ less
   | inr (inr beyond) ↦ absurd (readable.chain.pages.ends (come.pages n beyond))
 ]
 
 -- so a chain that may be read goes on there
-goes_here : (sight : Sight) (row : CatalogRow) (k n : ℕ) → HasCome sight row k → is_last k (pointer sight.view row k) ≡ false → IsReadable sight row n
-    → GoesOn sight.geometry sight.view row k
-goes_here sight row k n come more readable = readable.chain.pages.pages k (passes sight row k n come more readable)
+goes_here : (view : View) (row : CatalogRow) (k n : ℕ) → HasCome view row k → is_last k (pointer view.now row k) ≡ false → IsReadable (seen view) row n
+    → GoesOn view.shape.geometry view.now row k
+goes_here view row k n come more readable = readable.chain.pages.pages k (passes view row k n come more readable)
 
 -- the single-page slots are asked of the first page alone
-abbrev slots_test : Sight → CatalogRow → ℕ → Bool
-slots_test sight row k = not (length (chain_pages sight.view row k) == 0) || are_slots_inside sight.view (pointer sight.view row k)
+abbrev slots_test : View → CatalogRow → ℕ → Bool
+slots_test view row k = not (length (chain_pages view.now row k) == 0) || are_slots_inside view.now (pointer view.now row k)
 
-slots_seen : (sight : Sight) (row : CatalogRow) (k : ℕ) → HasCome sight row k → slots_test sight row k ≡ true → IsTrue (are_slots_inside sight.view row.first_iam)
-slots_seen sight row zero come passes = passes
-slots_seen sight row (suc k) come passes = come.slots (omega arith)
+slots_seen : (view : View) (row : CatalogRow) (k : ℕ) → HasCome view row k → slots_test view row k ≡ true → IsTrue (are_slots_inside view.now row.first_iam)
+slots_seen view row zero come passes = passes
+slots_seen view row (suc k) come passes = come.slots (omega arith)
 
-slots_wrong : (sight : Sight) (row : CatalogRow) (k : ℕ) → slots_test sight row k ≡ false → IsTrue (are_slots_inside sight.view row.first_iam) → ⊥
-slots_wrong sight row k fails inside =
-    let size = length (chain_pages sight.view row k) in
-    let parts = or_parts (not (size == 0)) (are_slots_inside sight.view (pointer sight.view row k)) fails in
-    let none : k ≡ 0 = sym (count sight.view row k) ∙ eqb-true size 0 (not-false (size == 0) parts.0) in
-    both_ways (are_slots_inside sight.view (pointer sight.view row k)) parts.1
-    (subst (λ j. are_slots_inside sight.view (pointer sight.view row j) ≡ true) (sym none) inside)
+slots_wrong : (view : View) (row : CatalogRow) (k : ℕ) → slots_test view row k ≡ false → IsTrue (are_slots_inside view.now row.first_iam) → ⊥
+slots_wrong view row k fails inside =
+    let size = length (chain_pages view.now row k) in
+    let parts = or_parts (not (size == 0)) (are_slots_inside view.now (pointer view.now row k)) fails in
+    let none : k ≡ 0 = sym (count view.now row k) ∙ eqb-true size 0 (not-false (size == 0) parts.0) in
+    both_ways (are_slots_inside view.now (pointer view.now row k)) parts.1
+    (subst (λ j. are_slots_inside view.now (pointer view.now row j) ≡ true) (sym none) inside)
 
-comes_on : (sight : Sight) (row : CatalogRow) (k : ℕ) → HasCome sight row k → GoesOn sight.geometry sight.view row k
-    → sight.other (resource.Page (record { 0 = pointer sight.view row k })) ≡ None → slots_test sight row k ≡ true → HasCome sight row (suc k)
-comes_on sight row k come on free slots = record {
-  pages = λ j below. up_to k (GoesOn sight.geometry sight.view row) come.pages on j below;
-  slots = λ some. slots_seen sight row k come slots;
-  free = λ j below. up_to k (λ i. sight.other (resource.Page (record { 0 = pointer sight.view row i })) ≡ None) come.free free j below;
+comes_on : (view : View) (row : CatalogRow) (k : ℕ) → HasCome view row k → GoesOn view.shape.geometry view.now row k
+    → view.other (resource.Page (record { 0 = pointer view.now row k })) ≡ None → slots_test view row k ≡ true → HasCome view row (suc k)
+comes_on view row k come on free slots = record {
+  pages = λ j below. up_to k (GoesOn view.shape.geometry view.now row) come.pages on j below;
+  slots = λ some. slots_seen view row k come slots;
+  free = λ j below. up_to k (λ i. view.other (resource.Page (record { 0 = pointer view.now row i })) ≡ None) come.free free j below;
 } where
   up_to : (k : ℕ) (P : ℕ → Type 0) → ((j : ℕ) → j < k → P j) → P k → (j : ℕ) → j < suc k → P j
   up_to k P before here j below = elim (cases_order j k) [
@@ -124,103 +134,164 @@ pages_more image row k = ap (chain_pages image row) (sym (add-one k)) ∙ map-ra
 last_test : (image : Image) (row : CatalogRow) (k q : ℕ) (b : Bool) → is_last k q ≡ b → is_last (length (chain_pages image row k)) q ≡ b
 last_test image row k q b e = ap (λ n. is_last n q) (count image row k) ∙ e
 
-module _ (m : ℕ) (sight : Sight) (row : CatalogRow) (k : ℕ) where
+-- how words end
+abbrev ended_so : Outcome (List ℕ) → End (List ℕ)
+ended_so o = o.ending
+
+if_true : (test : Bool) (first second : Plan (List ℕ)) (v : View) → test ≡ true → (if test then first else second) v ≡ first v
+if_true true first second v e = refl
+if_true false first second v e = absurd (false≢true e)
+
+if_false : (test : Bool) (first second : Plan (List ℕ)) (v : View) → test ≡ false → (if test then first else second) v ≡ second v
+if_false true first second v e = absurd (false≢true (sym e))
+if_false false first second v e = refl
+
+where_bad : (good : Bool) (p : ℕ) (next : Unit {0} → Plan (List ℕ)) (v : View) → good ≡ false → ((where_good good p then next) v).ending ≡ Stops (bad_page p)
+unfolding ◌then◌ where_good
+where_bad true p next v e = absurd (false≢true (sym e))
+where_bad false p next v e = refl
+
+where_right : (good : Bool) (p : ℕ) (next : Unit {0} → Plan (List ℕ)) (v : View) → good ≡ true → ((where_good good p then next) v).ending ≡ (next tt v).ending
+unfolding ◌then◌ where_good
+where_right true p next v e = refl
+where_right false p next v e = absurd (false≢true e)
+
+look_held : (r : Resource) (p : ℕ) (next : List ℕ → Plan (List ℕ)) (v : View) (t : ℕ) → v.other r ≡ Some t → ((look r p then next) v).ending ≡ Stops (held_by r t)
+unfolding ◌then◌ look
+look_held r p next v t e =
+    ap (λ (o : Option ℕ). (gone_on (by_holder r o (ended (p ∷ []) (Gives (page v.now p) v))).reached (by_holder r o (ended (p ∷ []) (Gives (page v.now p) v))).ending next).ending) e
+
+look_free : (r : Resource) (p : ℕ) (next : List ℕ → Plan (List ℕ)) (v : View) → v.other r ≡ None → ((look r p then next) v).ending ≡ (next (page v.now p) v).ending
+unfolding ◌then◌ look
+look_free r p next v e =
+    ap (λ (o : Option ℕ). (gone_on (by_holder r o (ended (p ∷ []) (Gives (page v.now p) v))).reached (by_holder r o (ended (p ∷ []) (Gives (page v.now p) v))).ending next).ending) e
+
+module _ (m : ℕ) (view : View) (row : CatalogRow) (k : ℕ) where
   abbrev here : ℕ
-  here = pointer sight.view row k
+  here = pointer view.now row k
 
   abbrev held_page : Resource
   held_page = resource.Page (record { 0 = here })
 
-  at_last : is_last k here ≡ true → (next : List ℕ → Outcome) → from_pointer (suc m) sight row k next ≡ next (chain_pages sight.view row k)
-  at_last e next = let last = last_test sight.view row k here true e in rw last refl
+  abbrev met : List ℕ
+  met = chain_pages view.now row k
 
-  at_outside : is_last k here ≡ false → is_inside (length sight.view) here ≡ false
-      → (next : List ℕ → Outcome) → from_pointer (suc m) sight row k next ≡ Refuses (bad_page (holder sight.view row k))
-  at_outside e outside next = let more = last_test sight.view row k here false e in rw (more, outside) refl
+  abbrev slots_now : View → Bool
+  slots_now v = not (length met == 0) || are_slots_inside v.now here
 
-  at_held : (t : ℕ) → is_last k here ≡ false → is_inside (length sight.view) here ≡ true → sight.other held_page ≡ Some t
-      → (next : List ℕ → Outcome) → from_pointer (suc m) sight row k next ≡ Refuses (held_by held_page t)
-  at_held t e inside held next = let more = last_test sight.view row k here false e in rw (more, inside, held) refl
+  abbrev with_slots : ℕ → Bool → Plan (List ℕ)
+  with_slots next slots = where_good slots here then (λ _. chain_from m (file_shape view) row (met ++ here ∷ []) here next)
 
-  at_other : is_last k here ≡ false → is_inside (length sight.view) here ≡ true → sight.other held_page ≡ None
-      → is_chain_page sight row (chain_pages sight.view row k) here ≡ false
-      → (next : List ℕ → Outcome) → from_pointer (suc m) sight row k next ≡ Refuses (bad_page here)
-  at_other e inside free other next = let more = last_test sight.view row k here false e in rw (more, inside, free, other) refl
+  abbrev with_page : List ℕ → Plan (List ℕ)
+  with_page bytes = where_good (is_chain_page (file_shape view) row met here bytes) here then (λ _. sees slots_now then (λ slots. with_slots (next_of bytes) slots))
 
-  at_slots : is_last k here ≡ false → is_inside (length sight.view) here ≡ true → sight.other held_page ≡ None
-      → is_chain_page sight row (chain_pages sight.view row k) here ≡ true → slots_test sight row k ≡ false
-      → (next : List ℕ → Outcome) → from_pointer (suc m) sight row k next ≡ Refuses (bad_page here)
-  at_slots e inside free is slots next = let more = last_test sight.view row k here false e in rw (more, inside, free, is, slots) refl
+  abbrev rest : Plan (List ℕ)
+  rest = where_good (is_inside (length view.now) here) (holder view.now row k) then (λ _. look held_page here then (λ bytes. with_page bytes))
 
-  at_page : is_last k here ≡ false → is_inside (length sight.view) here ≡ true → sight.other held_page ≡ None
-      → is_chain_page sight row (chain_pages sight.view row k) here ≡ true → slots_test sight row k ≡ true
-      → (next : List ℕ → Outcome) → from_pointer (suc m) sight row k next ≡ from_pointer m sight row (suc k) next
-  at_page e inside free is slots next =
-      let more = last_test sight.view row k here false e in
-      let on : from_pointer (suc m) sight row k next
-      ≡ chain_from m sight row (chain_pages sight.view row k ++ here ∷ []) here (next_of (page sight.view here)) next = rw (more, inside, free, is, slots) refl in
-      on ∙ ap (λ ps. chain_from m sight row ps here (next_of (page sight.view here)) next) (sym (pages_more sight.view row k))
+  at_last : is_last k here ≡ true → from_pointer (suc m) view row k ≡ Gives met (seen view)
+  unfolding give
+  at_last e = ap ended_so (if_true (is_last (length met) here) (give met) rest (seen view) (last_test view.now row k here true e))
 
-same_reads : (sight : Sight) (row : CatalogRow) (read read' : (List ℕ → Outcome) → Outcome) → ((next : List ℕ → Outcome) → read next ≡ read' next)
-    → Reads sight row read' → Reads sight row read
-same_reads sight row read read' same (Goes n readable is) = Goes n readable (λ next. same next ∙ is next)
-same_reads sight row read read' same (Stops r unreadable is) = Stops r unreadable (λ next. same next ∙ is next)
+  goes : is_last k here ≡ false → from_pointer (suc m) view row k ≡ (rest (seen view)).ending
+  goes e = ap ended_so (if_false (is_last (length met) here) (give met) rest (seen view) (last_test view.now row k here false e))
+
+  at_outside : is_last k here ≡ false → is_inside (length view.now) here ≡ false → from_pointer (suc m) view row k ≡ Stops (bad_page (holder view.now row k))
+  at_outside e outside = goes e ∙ where_bad (is_inside (length view.now) here) (holder view.now row k) (λ _. look held_page here then (λ bytes. with_page bytes)) (seen view) outside
+
+  inside_goes : is_last k here ≡ false → is_inside (length view.now) here ≡ true → from_pointer (suc m) view row k ≡ ((look held_page here then (λ bytes. with_page bytes)) (seen view)).ending
+  inside_goes e inside = goes e ∙ where_right (is_inside (length view.now) here) (holder view.now row k) (λ _. look held_page here then (λ bytes. with_page bytes)) (seen view) inside
+
+  at_held : (t : ℕ) → is_last k here ≡ false → is_inside (length view.now) here ≡ true → view.other held_page ≡ Some t → from_pointer (suc m) view row k ≡ Stops (held_by held_page t)
+  at_held t e inside held = inside_goes e inside ∙ look_held held_page here (λ bytes. with_page bytes) (seen view) t held
+
+  page_goes_on : is_last k here ≡ false → is_inside (length view.now) here ≡ true → view.other held_page ≡ None → from_pointer (suc m) view row k ≡ (with_page (page view.now here) (seen view)).ending
+  page_goes_on e inside free = inside_goes e inside ∙ look_free held_page here (λ bytes. with_page bytes) (seen view) free
+
+  at_other : is_last k here ≡ false → is_inside (length view.now) here ≡ true → view.other held_page ≡ None
+      → is_chain_page (file_shape view) row met here (page view.now here) ≡ false → from_pointer (suc m) view row k ≡ Stops (bad_page here)
+  at_other e inside free other =
+      page_goes_on e inside free
+      ∙ where_bad (is_chain_page (file_shape view) row met here (page view.now here)) here (λ _. sees slots_now then (λ slots. with_slots (next_of (page view.now here)) slots)) (seen view) other
+
+  slots_go : is_last k here ≡ false → is_inside (length view.now) here ≡ true → view.other held_page ≡ None
+      → is_chain_page (file_shape view) row met here (page view.now here) ≡ true
+      → from_pointer (suc m) view row k ≡ (with_slots (next_of (page view.now here)) (slots_test view row k) (seen view)).ending
+  unfolding ◌then◌ sees
+  slots_go e inside free is =
+      page_goes_on e inside free
+      ∙ where_right (is_chain_page (file_shape view) row met here (page view.now here)) here (λ _. sees slots_now then (λ slots. with_slots (next_of (page view.now here)) slots)) (seen view) is
+
+  at_slots : is_last k here ≡ false → is_inside (length view.now) here ≡ true → view.other held_page ≡ None
+      → is_chain_page (file_shape view) row met here (page view.now here) ≡ true → slots_test view row k ≡ false → from_pointer (suc m) view row k ≡ Stops (bad_page here)
+  at_slots e inside free is slots =
+      slots_go e inside free is
+      ∙ where_bad (slots_test view row k) here (λ _. chain_from m (file_shape view) row (met ++ here ∷ []) here (next_of (page view.now here))) (seen view) slots
+
+  at_page : is_last k here ≡ false → is_inside (length view.now) here ≡ true → view.other held_page ≡ None
+      → is_chain_page (file_shape view) row met here (page view.now here) ≡ true → slots_test view row k ≡ true
+      → from_pointer (suc m) view row k ≡ from_pointer m view row (suc k)
+  at_page e inside free is slots =
+      slots_go e inside free is
+      ∙ where_right (slots_test view row k) here (λ _. chain_from m (file_shape view) row (met ++ here ∷ []) here (next_of (page view.now here))) (seen view) slots
+      ∙ ap (λ ps. (chain_from m (file_shape view) row ps here (next_of (page view.now here)) (seen view)).ending) (sym (pages_more view.now row k))
 
 option_cases : (x : Option ℕ) → (x ≡ None) ⊎ ((t : ℕ) × (x ≡ Some t))
 option_cases None = inl refl
 option_cases (Some t) = inr (t, refl)
 
 -- what comes of the page that the pointer names, where the pointer isn't the last
-reads_page : (m : ℕ) (sight : Sight) (row : CatalogRow) (k : ℕ) → HasCome sight row k → is_last k (pointer sight.view row k) ≡ false
-    → (HasCome sight row (suc k) → Reads sight row (from_pointer m sight row (suc k))) → Reads sight row (from_pointer (suc m) sight row k)
-reads_page m sight row k come more rest =
-    let g = sight.geometry in
-    let image = sight.view in
+reads_page : (m : ℕ) (view : View) (row : CatalogRow) (k : ℕ) → HasCome view row k → is_last k (pointer view.now row k) ≡ false
+    → (HasCome view row (suc k) → Reads (seen view) row (from_pointer m view row (suc k))) → Reads (seen view) row (from_pointer (suc m) view row k)
+reads_page m view row k come more rest =
+    let g = view.shape.geometry in
+    let image = view.now in
     let q = pointer image row k in
-    let held = sight.other (resource.Page (record { 0 = q })) in
-    let is_page = is_chain_page sight row (chain_pages image row k) q in
+    let held = view.other (resource.Page (record { 0 = q })) in
+    let is_page = is_chain_page (file_shape view) row (chain_pages image row k) q (page image q) in
     elim (cases_Bool (is_inside (length image) q)) [
-      | inr outside ↦ Stops (bad_page (holder image row k))
-          (λ n readable. both_ways (is_inside (length image) q) outside (goes_good g image row k (goes_here sight row k n come more readable)).inside)
-          (at_outside m sight row k more outside)
+      | inr outside ↦ Refuses (bad_page (holder image row k))
+          (λ n readable. both_ways (is_inside (length image) q) outside (goes_good g image row k (goes_here view row k n come more readable)).inside)
+          (at_outside m view row k more outside)
       | inl inside ↦ elim (option_cases held) [
-        | inr taken ↦ Stops (held_by (resource.Page (record { 0 = q })) taken.0)
-            (λ n readable. let both : None ≡ Some taken.0 = sym (readable.free k (passes sight row k n come more readable)) ∙ taken.1 in cc)
-            (at_held m sight row k taken.0 more inside taken.1)
+        | inr taken ↦ Refuses (held_by (resource.Page (record { 0 = q })) taken.0)
+            (λ n readable. let both : None ≡ Some taken.0 = sym (readable.free k (passes view row k n come more readable)) ∙ taken.1 in cc)
+            (at_held m view row k taken.0 more inside taken.1)
         | inl free ↦ elim (cases_Bool is_page) [
-          | inr other ↦ Stops (bad_page q)
-              (λ n readable. both_ways is_page other (goes_page sight row k (goes_here sight row k n come more readable)))
-              (at_other m sight row k more inside free other)
-          | inl is ↦ elim (cases_Bool (slots_test sight row k)) [
-            | inr wrong ↦ Stops (bad_page q) (λ n readable. slots_wrong sight row k wrong readable.slots) (at_slots m sight row k more inside free is wrong)
-            | inl right ↦ same_reads sight row (from_pointer (suc m) sight row k) (from_pointer m sight row (suc k)) (at_page m sight row k more inside free is right)
-                (rest (comes_on sight row k come (page_goes sight row k inside is) free right))
+          | inr other ↦ Refuses (bad_page q)
+              (λ n readable. both_ways is_page other (goes_page view row k (goes_here view row k n come more readable)))
+              (at_other m view row k more inside free other)
+          | inl is ↦ elim (cases_Bool (slots_test view row k)) [
+            | inr wrong ↦ Refuses (bad_page q) (λ n readable. slots_wrong view row k wrong readable.slots) (at_slots m view row k more inside free is wrong)
+            | inl right ↦ subst (Reads (seen view) row) (sym (at_page m view row k more inside free is right))
+                (rest (comes_on view row k come (page_goes view row k inside is) free right))
           ]
         ]
       ]
     ]
 
 -- the chain is whole at a last pointer
-ends_whole : (sight : Sight) (row : CatalogRow) (k : ℕ) → HasCome sight row k → is_last k (pointer sight.view row k) ≡ true → IsReadable sight row k
-ends_whole sight row k come last =
-    let end = last_whole sight.geometry sight.view row k last in
-    let some = (last_parts k (pointer sight.view row k) last).1 in
+ends_whole : (view : View) (row : CatalogRow) (k : ℕ) → HasCome view row k → is_last k (pointer view.now row k) ≡ true → IsReadable (seen view) row k
+ends_whole view row k come last =
+    let end = last_whole view.shape.geometry view.now row k last in
+    let some = (last_parts k (pointer view.now row k) last).1 in
     record {
       chain = record { pages = record { pages = come.pages; ends = end.1 }; whole = end.0 };
       slots = come.slots (omega (arith, some));
       free = come.free;
     }
 
-reads_from : (m : ℕ) (sight : Sight) (row : CatalogRow) (k : ℕ) → 0 < length sight.view → k + m ≡ length sight.view + 2 → HasCome sight row k
-    → Reads sight row (from_pointer m sight row k)
-reads_from zero sight row k some steps come =
-    let short = chain_is_short sight.geometry sight.view row k some come.pages in absurd (omega (arith, short, steps))
-reads_from (suc m) sight row k some steps come = elim (cases_Bool (is_last k (pointer sight.view row k))) [
-  | inl last ↦ Goes k (ends_whole sight row k come last) (at_last m sight row k last)
-  | inr more ↦ reads_page m sight row k come more (λ on. reads_from m sight row (suc k) some (omega (arith, steps)) on)
+reads_from : (m : ℕ) (view : View) (row : CatalogRow) (k : ℕ) → 0 < length view.now → k + m ≡ length view.now + 2 → HasCome view row k
+    → Reads (seen view) row (from_pointer m view row k)
+reads_from zero view row k some steps come =
+    let short = chain_is_short view.shape.geometry view.now row k some come.pages in absurd (omega (arith, short, steps))
+reads_from (suc m) view row k some steps come = elim (cases_Bool (is_last k (pointer view.now row k))) [
+  | inl last ↦ Goes k (ends_whole view row k come last) (at_last m view row k last)
+  | inr more ↦ reads_page m view row k come more (λ on. reads_from m view row (suc k) some (omega (arith, steps)) on)
 ]
 
 pub chain_is_read : ChainIsRead
-chain_is_read sight row some =
-    reads_from (suc (suc (length sight.view))) sight row 0 some (omega arith)
-    (record { pages = λ j below. absurd (omega (arith, below)); slots = λ below. absurd (omega (arith, below)); free = λ j below. absurd (omega (arith, below)) })
+chain_is_read view row some long =
+    subst (λ n. Reads (record view { shape = record view.shape { pages = n } }) row
+    (chain_of (record view.shape { pages = n }) row (record view { shape = record view.shape { pages = n } })).ending) long
+    (reads_from (suc (suc (length view.now))) view row 0 (subst (λ n. 0 < n) (sym long) some) (omega arith)
+    (record { pages = λ j below. absurd (omega (arith, below)); slots = λ below. absurd (omega (arith, below)); free = λ j below. absurd (omega (arith, below)) }))

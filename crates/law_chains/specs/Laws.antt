@@ -11,8 +11,9 @@ use Rattle.spec_script.specs.declared.reply.Refusal.{Refusal}
 use Rattle.spec_chain.specs.declared.end.ChainEnd.TheVariants as end
 use Rattle.spec_chain.specs.Chains.{pointer, end_at, HasLength}
 use Rattle.spec_chain.specs.Uses.{IsAllocatedTo}
-use Rattle.spec_plan.specs.Sight.{Sight, Outcome, Refuses}
-use Rattle.spec_plan.specs.Reading.{are_slots_inside, chain_read, object_pages}
+use Rattle.spec_plan.specs.Reading.{are_slots_inside}
+use Rattle.spec_words.specs.Views.{View, End, Gives, Stops}
+use Rattle.spec_words.specs.Tables.{chain_of, object_pages}
 
 -- the first n pages of the object's chain, in their order
 abbrev pub chain_pages : Image → CatalogRow → ℕ → List ℕ
@@ -25,24 +26,24 @@ pub record IsWhole (g : Geometry) (image : Image) (row : CatalogRow) (n : ℕ) :
 
 -- a statement may read the chain, which has n pages: the single-page slots of the first hold pages of the
 -- file, and nobody else holds one of them
-pub record IsReadable (sight : Sight) (row : CatalogRow) (n : ℕ) : Type 0 where
-  pub chain : IsWhole sight.geometry sight.view row n
-  pub slots : IsTrue (are_slots_inside sight.view row.first_iam)
-  pub free : (k : ℕ) → k < n → sight.other (resource.Page (record { 0 = pointer sight.view row k })) ≡ None
+pub record IsReadable (view : View) (row : CatalogRow) (n : ℕ) : Type 0 where
+  pub chain : IsWhole view.shape.geometry view.now row n
+  pub slots : IsTrue (are_slots_inside view.now row.first_iam)
+  pub free : (k : ℕ) → k < n → view.other (resource.Page (record { 0 = pointer view.now row k })) ≡ None
 
--- what comes of reading a chain, whatever is to come next
-pub data Reads (sight : Sight) (row : CatalogRow) (read : (List ℕ → Outcome) → Outcome) : Type 0 where
-  Goes : (n : ℕ) → IsReadable sight row n → ((next : List ℕ → Outcome) → read next ≡ next (chain_pages sight.view row n)) → Reads sight row read
-  Stops : (r : Refusal) → ((n : ℕ) → IsReadable sight row n → ⊥) → ((next : List ℕ → Outcome) → read next ≡ Refuses r) → Reads sight row read
+-- what comes of reading a chain
+pub data Reads (view : View) (row : CatalogRow) (read : End (List ℕ)) : Type 0 where
+  Goes : (n : ℕ) → IsReadable view row n → read ≡ Gives (chain_pages view.now row n) view → Reads view row read
+  Refuses : (r : Refusal) → ((n : ℕ) → IsReadable view row n → ⊥) → read ≡ Stops r → Reads view row read
 
--- reading a chain goes on with the object's pages where it may be read, and else refuses
+-- reading a chain gives the object's pages where it may be read, and else refuses
 abbrev pub ChainIsRead : Type 0
-ChainIsRead = (sight : Sight) (row : CatalogRow) → 0 < length sight.view → Reads sight row (chain_read sight row)
+ChainIsRead = (view : View) (row : CatalogRow) → 0 < view.shape.pages → length view.now ≡ view.shape.pages → Reads view row (chain_of view.shape row view).ending
 
 -- the pages that a statement reads are those allocated to the object
 abbrev pub PagesAreAllocated : Type 0
-PagesAreAllocated = (sight : Sight) (row : CatalogRow) (n p : ℕ) → IsWhole sight.geometry sight.view row n
-    → Contains (object_pages sight (chain_pages sight.view row n)) p ↔ IsAllocatedTo sight.geometry sight.view row p
+PagesAreAllocated = (view : View) (row : CatalogRow) (n p : ℕ) → length view.now ≡ view.shape.pages → IsWhole view.shape.geometry view.now row n
+    → Contains (object_pages view.shape (chain_pages view.now row n) view) p ↔ IsAllocatedTo view.shape.geometry view.now row p
 
 abbrev pub PagesRise : Type 0
-PagesRise = (sight : Sight) (chain : List ℕ) → IsStrictlySortedBy nat_cmp (object_pages sight chain)
+PagesRise = (view : View) (chain : List ℕ) → IsStrictlySortedBy nat_cmp (object_pages view.shape chain view)

@@ -3,7 +3,7 @@ use Rattle.std.proofs.Common.{[], ◌∷◌, ◌++◌, replicate, refl, ap}
 use Rattle.spec_file.specs.Image.{number_at}
 use Rattle.spec_words.specs.NetChanges.{differing}
 use Rattle.law_net.specs.Examples.{maps_file, bytes_change, RunsStayInExtents, CellsGoToTheLast, SlotsBeginByTheGreater, PagesBecomeAllocated, OthersDoNot, TakesAreInOrder, ChangesAreListedOnce}
-use Rattle.law_net.proofs.RowChanges.{part_none}
+use Rattle.law_net.proofs.Covered.{part_none}
 
 pub runs_stay : RunsStayInExtents
 runs_stay = refl

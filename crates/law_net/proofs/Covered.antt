@@ -22,7 +22,7 @@ use Rattle.spec_plan.specs.declared.plan.Planned.{Planned}
 use Rattle.spec_words.specs.NetChanges.{FileShape, is_turned, bit_change, bit_changes, begins_run, run_change, run_changes, differing, cell_over, part_changes, page_changes, slots_start, is_iam, becomes_allocated, is_page_changed, iam_changes, other_changes, changes_of}
 use Rattle.law_net.specs.Files.{DifferUnder}
 use Rattle.law_net.specs.NetLaw.{HasFewBytes, IsShortCell}
-use Rattle.law_plan.specs.Good.{IsCoveredBy, AreCoveredBy}
+use Rattle.law_net.specs.Plans.{IsCoveredBy, AreCoveredBy}
 use Rattle.law_net.proofs.Cuts.{Each, each_append}
 use Rattle.law_net.proofs.Cells.{after_size}
 use Rattle.law_net.proofs.Runs.{paged_place, beside, low_place, run_few, run_changed, run_of}
@@ -156,6 +156,9 @@ unfolding differing
 differing_none start now p lo hi e =
     filter_none (λ i. not (eqb (slice_index (page start p) i) (slice_index (page now p) i))) (range_with_len lo (hi - lo))
     (λ i. not_from_true (eqb (slice_index (page start p) i) (slice_index (page now p) i)) (eq-eqb (slice_index (page start p) i) (slice_index (page now p) i) (ap (λ bs. slice_index bs i) e)))
+
+pub part_none : (start now : Image) (p low high : ℕ) → page start p ≡ page now p → part_changes start now p low high ≡ []
+part_none start now p low high e = ap (cell_over start now p) (differing_none start now p low high e)
 
 boot_covered : (shape : FileShape) (own : Resource → Bool) (taken : List Resource) (start now : Image) → AreImages shape start now → DifferUnder shape taken start now →
     Each (IsCovered (Mine shape own taken start now) shape) (part_changes start now 9 0 8192)

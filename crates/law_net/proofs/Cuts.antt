@@ -16,7 +16,7 @@ use Rattle.law_undo.proofs.Reading.{IsInside, SameShape, MayPut, shape_put, shap
 use Rattle.law_undo.proofs.CellAtoms.{cell_atom, same_cell}
 use Rattle.law_undo.proofs.Shapes.{shape_sym}
 use Rattle.spec_plan.specs.declared.plan.Planned.{Planned}
-use Rattle.law_plan.specs.Good.{Find}
+use Rattle.law_net.specs.Plans.{Find}
 use Rattle.law_net.specs.NetLaw.{made}
 
 -- one bit of one byte

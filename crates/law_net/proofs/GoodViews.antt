@@ -4,6 +4,7 @@ use Rattle.std.specs.Prelude.{if◌then◌else◌, IsSomeAnd, slice_index}
 use Rattle.std.proofs.lemmas.List.{get_or_past}
 use Rattle.std.specs.List.{list_any}
 use Rattle.std.proofs.lemmas.Bool.{cases_Bool, cases_eq, cond_both, and_parts, or_cases, or_left, or_right, eqb-true, leb-true, ltb-true}
+use Rattle.spec_file.specs.declared.data.ObjId.{ObjId}
 use Rattle.spec_file.specs.declared.data.Resource.{Resource}
 use Rattle.spec_file.specs.declared.data.Resource.TheVariants as resource
 use Rattle.spec_file.specs.Image.{AreBytes, maps_start}
@@ -25,7 +26,7 @@ use Rattle.spec_words.specs.Views.{View}
 use Rattle.spec_words.specs.Words.{with_taken, written}
 use Rattle.law_net.proofs.Cuts.{place}
 use Rattle.law_net.specs.Files.{IsGuardedBy}
-use Rattle.law_net.specs.GoodViews.{IsGoodView}
+use Rattle.law_net.specs.GoodViews.{MayTake, IsGoodView}
 use Rattle.law_net.proofs.Images.{inside_image}
 use Rattle.law_net.proofs.Zones.{bit_number}
 use Rattle.law_net.proofs.Takes.{same_resource, itself}
@@ -48,8 +49,33 @@ taken_mine r v = by_test (is_among v.taken r) refl
     by_test true e = e
     by_test false e = or_left (is_same r r) (list_any (is_same r) v.taken) (itself r)
 
-pub good_taken : (r : Resource) (v : View) → v.other r ≡ None → IsGoodView v → IsGoodView (with_taken r v)
-good_taken r v free good =
+-- what may have been taken may have been taken where one more resource is, which may be
+known_more : (r s : Resource) (v : View) → MayTake v r → MayTake v s → is_among v.taken s ≡ true → MayTake (record v { taken = r ∷ v.taken }) s
+known_more r resource.Catalog v new old among = tt
+known_more r (resource.Table o) v new old among = λ other h. elim (or_cases (is_same (resource.Table other) r) (is_among v.taken (resource.Table other)) h) [
+  | inl same ↦ sym (subst (MayTake v) (sym (same_resource (resource.Table other) r same)) new o among)
+  | inr there ↦ old other there
+]
+known_more r (resource.Extent e) v new old among = old
+known_more r (resource.Byte p) v new old among = old
+known_more r (resource.Page p) v new old among = old
+
+-- and so may that resource itself
+known_self : (r s : Resource) (v : View) → s ≡ r → MayTake v r → MayTake (record v { taken = r ∷ v.taken }) s
+known_self r resource.Catalog v same new = tt
+known_self r (resource.Table o) v same new = λ other h. elim (or_cases (is_same (resource.Table other) r) (is_among v.taken (resource.Table other)) h) [
+  | inl e ↦ table_same (same_resource (resource.Table other) r e ∙ sym same)
+  | inr there ↦ subst (MayTake v) (sym same) new other there
+]
+  where
+    table_same : {a b : ObjId} → resource.Table a ≡ resource.Table b → a ≡ b
+    table_same e = cc
+known_self r (resource.Extent e) v same new = subst (MayTake v) (sym same) new
+known_self r (resource.Byte p) v same new = subst (MayTake v) (sym same) new
+known_self r (resource.Page p) v same new = subst (MayTake v) (sym same) new
+
+pub good_taken : (r : Resource) (v : View) → v.other r ≡ None → MayTake v r → IsGoodView v → IsGoodView (with_taken r v)
+good_taken r v free may good =
     cond_both (is_among v.taken r) v (record v { taken = r ∷ v.taken }) IsGoodView (λ e. good)
     (λ e. record {
       before = good.before;
@@ -61,11 +87,31 @@ good_taken r v free good =
         | inl same ↦ ap v.other (same_resource s r same) ∙ free
         | inr among ↦ good.free s among
       ];
+      known = λ s h. elim (or_cases (is_same s r) (list_any (is_same s) v.taken) h) [
+        | inl same ↦ known_self r s v (same_resource s r same) may
+        | inr among ↦ known_more r s v may (good.known s among) among
+      ];
     })
+
+-- a resource under which bytes are put: any but a table
+abbrev pub IsPlace : FileShape → Resource → Type 0
+IsPlace shape resource.Catalog = Unit {0}
+IsPlace shape (resource.Table o) = ⊥
+IsPlace shape (resource.Extent e) = e.0 < shape.pages / 8
+IsPlace shape (resource.Byte p) = p.0 < shape.pages
+IsPlace shape (resource.Page p) = p.0 < shape.pages
+
+pub place_may : (r : Resource) (v : View) → IsPlace v.shape r → MayTake v r
+place_may resource.Catalog v is = tt
+place_may (resource.Table o) v is = absurd is
+place_may (resource.Extent e) v is = is
+place_may (resource.Byte p) v is = is
+place_may (resource.Page p) v is = is
 
 -- a cell, of these bytes, all of whose bits the resource guards
 pub record IsGuardedCell (shape : FileShape) (r : Resource) (cell : Cell) (bytes : List ℕ) : Type 0 where
   pub may : MayPut cell bytes
+  pub fits : IsPlace shape r
   pub are_bytes : AreBytes bytes
   pub guarded : (p i j : ℕ) → has_atom cell (length bytes) (place p i j) ≡ true → IsGuardedBy (λ s. s ≡ r) shape p i j
 
@@ -87,6 +133,7 @@ good_written r cell bytes v fits mine good =
             other (same ∙ sym (read_put v.now cell bytes (place p i j) fits.may inside ∙ ap (λ b. if b then bit_in cell bytes (place p i j) else read v.now (place p i j)) e)))
       ];
       free = good.free;
+      known = λ s among. good.known s among;
     }
 
 -- what guards the cells of the words
@@ -103,11 +150,12 @@ page_guards shape p at bytes lt ordinary q i j h =
 
 pub page_cell : (shape : FileShape) (p : ℕ) (bytes : List ℕ) → p < shape.pages → is_ordinary shape.geometry p ≡ true → AreBytes bytes →
     IsGuardedCell shape (resource.Page (record { 0 = p })) (Bytes (record { 0 = p }) 0) bytes
-page_cell shape p bytes lt ordinary low = record { may = tt; are_bytes = low; guarded = page_guards shape p 0 bytes lt ordinary }
+page_cell shape p bytes lt ordinary low = record { may = tt; fits = lt; are_bytes = low; guarded = page_guards shape p 0 bytes lt ordinary }
 
 pub catalog_cell : (shape : FileShape) (at : ℕ) (bytes : List ℕ) → 9 < shape.pages → AreBytes bytes → IsGuardedCell shape resource.Catalog (Bytes (record { 0 = 9 }) at) bytes
 catalog_cell shape at bytes lt low = record {
   may = tt;
+  fits = tt;
   are_bytes = low;
   guarded = λ q i j h. inl (guard_is (byte_guard shape.geometry shape.pages q i) resource.Catalog
       (ap (λ k. byte_guard shape.geometry shape.pages k i) (sym (eqb-true 9 q (and_parts (eqb 9 q) (leb at i && ltb i (at + length bytes)) h).0))
@@ -124,6 +172,7 @@ pub pfs_cell : (shape : FileShape) (p byte : ℕ) → 16 ≤ shape.pages → p <
     IsGuardedCell shape (resource.Byte (record { 0 = p })) (Bytes (record { 0 = (pfs_place shape.geometry p).page }) (pfs_place shape.geometry p).at) (byte ∷ [])
 pfs_cell shape p byte many lt low = record {
   may = tt;
+  fits = lt;
   are_bytes = one_byte byte low;
   guarded = λ q i j h.
       let at = (pfs_place shape.geometry p).at in
@@ -138,9 +187,10 @@ pfs_cell shape p byte many lt low = record {
     only : (i at : ℕ) → at ≤ i → i < at + 1 → i ≡ at
     only i at a b = omega (arith, a, b)
 
-bit_cell : (shape : FileShape) (r : Resource) (q n v : ℕ) → v < 2 → bit_guard shape.geometry shape.pages q n ≡ Some r → IsGuardedCell shape r (Bit (record { 0 = q }) n) (v ∷ [])
-bit_cell shape r q n v low guard = record {
+bit_cell : (shape : FileShape) (r : Resource) (q n v : ℕ) → IsPlace shape r → v < 2 → bit_guard shape.geometry shape.pages q n ≡ Some r → IsGuardedCell shape r (Bit (record { 0 = q }) n) (v ∷ [])
+bit_cell shape r q n v place low guard = record {
   may = low;
+  fits = place;
   are_bytes = one_byte v (omega (arith, low));
   guarded = λ p i j h.
       let a = and_parts (eqb q p) (eqb (maps_start + n / 8) i && eqb (n % 8) j) h in
@@ -159,11 +209,11 @@ bit_cell shape r q n v low guard = record {
 pub gam_cell : (shape : FileShape) (e v : ℕ) → HasShape shape.geometry shape.pages → e < shape.pages / 8 → v < 2 →
     IsGuardedCell shape (resource.Extent (record { 0 = e })) (Bit (record { 0 = (gam_place shape.geometry e).page }) (gam_place shape.geometry e).at) (v ∷ [])
 gam_cell shape e v file lt low =
-    bit_cell shape (resource.Extent (record { 0 = e })) (gam_place shape.geometry e).page (gam_place shape.geometry e).at v low
+    bit_cell shape (resource.Extent (record { 0 = e })) (gam_place shape.geometry e).page (gam_place shape.geometry e).at v lt low
     (extents_guard_bits shape.geometry shape.pages e file.low file.high lt).0
 
 pub sgam_cell : (shape : FileShape) (e v : ℕ) → HasShape shape.geometry shape.pages → e < shape.pages / 8 → v < 2 →
     IsGuardedCell shape (resource.Extent (record { 0 = e })) (Bit (record { 0 = (sgam_place shape.geometry e).page }) (sgam_place shape.geometry e).at) (v ∷ [])
 sgam_cell shape e v file lt low =
-    bit_cell shape (resource.Extent (record { 0 = e })) (sgam_place shape.geometry e).page (sgam_place shape.geometry e).at v low
+    bit_cell shape (resource.Extent (record { 0 = e })) (sgam_place shape.geometry e).page (sgam_place shape.geometry e).at v lt low
     (extents_guard_bits shape.geometry shape.pages e file.low file.high lt).1

@@ -1,6 +1,7 @@
 -- INSERT leaves a view that differs only where what guards it is held or taken.
-use Rattle.std.proofs.Common.{◌≡◌, ℕ, ◌+◌, ◌-◌, ◌<◌, ◌≤◌, true, List, [], ◌∷◌, length, None, sym, ◌∙◌, subst}
+use Rattle.std.proofs.Common.{◌≡◌, ℕ, ◌+◌, ◌-◌, ◌/◌, ◌<◌, ◌≤◌, true, List, [], ◌∷◌, length, None, sym, ◌∙◌, subst}
 use Rattle.std.proofs.lemmas.Bool.{cond_both}
+use Rattle.spec_file.specs.declared.data.ObjId.{ObjId}
 use Rattle.spec_file.specs.declared.data.Resource.{Resource}
 use Rattle.spec_file.specs.declared.data.Resource.TheVariants as resource
 use Rattle.spec_log.specs.declared.item.Cell.{Cell}
@@ -10,8 +11,7 @@ use Rattle.spec_file.specs.Pfs.{fullness_of}
 use Rattle.spec_file.specs.Roles.{is_ordinary}
 use Rattle.spec_chain.specs.Uses.{pfs_byte}
 use Rattle.spec_plan.specs.Refusals.{no_room}
-use Rattle.spec_plan.specs.Rows.{heap_row, with_row, free_count}
-use Rattle.spec_plan.specs.Statements.{with_fullness}
+use Rattle.spec_plan.specs.Rows.{heap_row, with_row, free_count, with_fullness}
 use Rattle.spec_words.specs.NetChanges.{FileShape}
 use Rattle.spec_words.specs.Views.{View}
 use Rattle.spec_words.specs.Takes.{is_among}
@@ -21,8 +21,8 @@ use Rattle.spec_words.specs.Words.{refuse, take, write, put_pfs, found_or, first
 use Rattle.spec_words.specs.Tables.{table_of, table_pages}
 use Rattle.spec_words.specs.Heaps.{room_on, row_put, insert_plan}
 use Rattle.law_net.proofs.ReadingLeaves.{table_reads, table_pages_reads, Inside, IsFoundPage, room_reads, first_reads}
-use Rattle.law_net.proofs.GoodViews.{IsGuardedCell, good_taken, good_written, taken_mine, page_cell, pfs_cell}
-use Rattle.law_net.specs.GoodViews.{IsGoodView, Leads}
+use Rattle.law_net.proofs.GoodViews.{IsGuardedCell, IsPlace, place_may, good_taken, good_written, taken_mine, page_cell, pfs_cell}
+use Rattle.law_net.specs.GoodViews.{MayTake, IsGoodView, Leads}
 use Rattle.law_net.proofs.WordLaws.{leads_then, leads_give, leads_refuse, leads_sees, leads_take, leads_write, leads_found, leads_weaker}
 use Rattle.law_net.proofs.RowBytes.{Low, low_bytes, bytes_low, low_with_row, low_row, low_fullness}
 
@@ -31,10 +31,10 @@ pub record IsGoodOf (shape : FileShape) (v : View) : Type 0 where
   pub same : v.shape ≡ shape
   pub good : IsGoodView v
 
-good_of_taken : (shape : FileShape) (r : Resource) (v : View) → v.other r ≡ None → IsGoodOf shape v → IsGoodOf shape (with_taken r v)
-good_of_taken shape r v free g = record {
+good_of_taken : (shape : FileShape) (r : Resource) (v : View) → v.other r ≡ None → MayTake v r → IsGoodOf shape v → IsGoodOf shape (with_taken r v)
+good_of_taken shape r v free may g = record {
   same = cond_both (is_among v.taken r) v (record v { taken = r ∷ v.taken }) (λ w. w.shape ≡ shape) (λ e. g.same) (λ e. g.same);
-  good = good_taken r v free g.good;
+  good = good_taken r v free may g.good;
 }
 
 -- a write that its resource guards keeps what is good
@@ -42,13 +42,18 @@ pub write_keeps : (shape : FileShape) (r : Resource) (cell : Cell) (bytes : List
     Leads (write r cell bytes) v (λ u w. IsGoodOf shape w)
 write_keeps shape r cell bytes v fits g =
     leads_write r cell bytes v (λ u w. IsGoodOf shape w) (λ free.
-    let t = good_of_taken shape r v free g in record {
+    let t = good_of_taken shape r v free (place_may r v (subst (λ s. IsPlace s r) (sym g.same) fits.fits)) g in record {
       same = t.same;
       good = good_written r cell bytes (with_taken r v) (subst (λ s. IsGuardedCell s r cell bytes) (sym t.same) fits) (taken_mine r v) t.good;
     })
 
-pub take_keeps : (shape : FileShape) (r : Resource) (v : View) → IsGoodOf shape v → Leads (take r) v (λ u w. IsGoodOf shape w)
-take_keeps shape r v g = leads_take r v (λ u w. IsGoodOf shape w) (λ free. good_of_taken shape r v free g)
+pub take_keeps : (shape : FileShape) (r : Resource) (v : View) → MayTake v r → IsGoodOf shape v → Leads (take r) v (λ u w. IsGoodOf shape w)
+take_keeps shape r v may g = leads_take r v (λ u w. IsGoodOf shape w) (λ free. good_of_taken shape r v free may g)
+
+-- an extent of the file is taken
+pub extent_taken : (shape : FileShape) (e : ℕ) (v : View) → e < shape.pages / 8 → IsGoodOf shape v →
+    Leads (take (resource.Extent (record { 0 = e }))) v (λ u w. IsGoodOf shape w)
+extent_taken shape e v lt g = take_keeps shape (resource.Extent (record { 0 = e })) v (subst (λ (s : FileShape). e < s.pages / 8) (sym g.same) lt) g
 
 row_keeps : (shape : FileShape) (p : ℕ) (row : List ℕ) (v : View) → p < shape.pages → is_ordinary shape.geometry p ≡ true → Low row → IsGoodOf shape v →
     Leads (row_put shape p row) v (λ u w. IsGoodOf shape w)
@@ -69,10 +74,18 @@ row_keeps shape p row v lt ordinary low g =
     (pfs_cell shape p (with_fullness byte (fullness_of (free_count bytes - (length row + 2)))) many lt
     (low_fullness byte (free_count bytes - (length row + 2)) (old.bytes (pfs_page shape.geometry p) (pfs_place shape.geometry p).at))) g))))))
 
+-- no table was taken
+abbrev pub HasNoTable : View → Type 0
+HasNoTable v = (o : ObjId) → is_among v.taken (resource.Table o) ≡ true → ⊥
+
+-- the first table is taken
+pub table_keeps : (shape : FileShape) (id : ℕ) (v : View) → HasNoTable v → IsGoodOf shape v → Leads (take (resource.Table (record { 0 = id }))) v (λ u w. IsGoodOf shape w)
+table_keeps shape id v none g = take_keeps shape (resource.Table (record { 0 = id })) v (λ other h. absurd (none other h)) g
+
 -- INSERT keeps what is good
-pub insert_keeps : (shape : FileShape) (name : List ℕ) (key : ℕ) (payload : List ℕ) (v : View) → Low payload → IsGoodOf shape v →
+pub insert_keeps : (shape : FileShape) (name : List ℕ) (key : ℕ) (payload : List ℕ) (v : View) → Low payload → HasNoTable v → IsGoodOf shape v →
     Leads (insert_plan shape name key payload) v (λ reply w. IsGoodOf shape w)
-insert_keeps shape name key payload v low g =
+insert_keeps shape name key payload v low none g =
     let bytes = heap_row key payload in
     let K : Reply → View → Type 0 = λ reply w. IsGoodOf shape w in
     leads_then (table_of name) _ v K (leads_weaker (table_of name) v (λ x w. (w ≡ v) × Unit {0}) _ (λ row w e.
@@ -86,6 +99,6 @@ insert_keeps shape name key payload v low g =
     (row_keeps shape p bytes z at.0 at.1 (low_row key payload low) (subst (IsGoodOf shape) (sym k.0) h))))
     (λ none. leads_refuse no_room z _)))
     (first_reads shape (room_on shape row (length bytes)) pages y f.1 (λ p lt. room_reads shape row (length bytes) p y lt))))
-    (take_keeps shape (resource.Table (record { 0 = row.id })) u (subst (IsGoodOf shape) (sym (f.0 ∙ e.0)) g))))
+    (table_keeps shape row.id u (subst HasNoTable (sym (f.0 ∙ e.0)) none) (subst (IsGoodOf shape) (sym (f.0 ∙ e.0)) g))))
     (table_pages_reads shape row w)))
     (table_reads name v))

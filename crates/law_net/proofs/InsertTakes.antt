@@ -10,8 +10,7 @@ use Rattle.spec_log.specs.declared.item.Cell.TheVariants.{Bytes}
 use Rattle.spec_script.specs.declared.reply.Reply.{Reply}
 use Rattle.spec_script.specs.declared.reply.Reply.TheVariants.{Rows}
 use Rattle.spec_plan.specs.Refusals.{no_room}
-use Rattle.spec_plan.specs.Rows.{heap_row, with_row, free_count}
-use Rattle.spec_plan.specs.Statements.{with_fullness}
+use Rattle.spec_plan.specs.Rows.{heap_row, with_row, free_count, with_fullness}
 use Rattle.spec_words.specs.NetChanges.{FileShape}
 use Rattle.spec_words.specs.Takes.{is_among}
 use Rattle.spec_words.specs.Views.{View, End, Gives, Stops, Plan}

@@ -1,4 +1,4 @@
--- What only reads leaves the view as it was: the words of reading, the pages of a table, and COUNT.
+-- What only reads leaves the view as it was: the words of reading, the pages of a table, COUNT and SELECT.
 use Rattle.std.proofs.Common.{◌≡◌, ℕ, zero, suc, ◌+◌, ◌%◌, ◌<◌, ◌≤◌, Bool, true, eqb, not, ◌||◌, ◌&&◌, List, [], ◌∷◌, ◌++◌, length, Option, Some, None, refl, sym, ◌∙◌, subst, arith}
 use Rattle.std.specs.Prelude.{All, if◌then◌else◌, filter}
 use Rattle.std.specs.List.{range_with_len}
@@ -10,20 +10,21 @@ use Rattle.spec_file.specs.Places.{pfs_page, is_inside}
 use Rattle.spec_file.specs.CatalogRows.{CatalogRow, rows_of}
 use Rattle.spec_file.specs.Roles.{is_ordinary}
 use Rattle.spec_rows.specs.Slots.{slot_count}
-use Rattle.std.specs.Prelude.{sum_by}
-use Rattle.law_net.specs.Statements.{TablePagesLeaveView, CountLeavesView}
+use Rattle.std.specs.Prelude.{sum_by, flat_map}
+use Rattle.law_net.specs.Statements.{TablePagesLeaveView, CountLeavesView, SelectLeavesView}
 use Rattle.spec_chain.specs.Chains.{is_last, next_of}
 use Rattle.spec_chain.specs.Uses.{pfs_byte, is_allocated}
 use Rattle.spec_plan.specs.Refusals.{bad_page, no_table}
 use Rattle.spec_plan.specs.Reading.{is_catalog, named_among, are_slots_inside, is_single, is_marked}
-use Rattle.spec_plan.specs.Rows.{passes_page, has_room_for}
+use Rattle.spec_plan.specs.Rows.{passes_page, has_room_for, payloads_of}
 use Rattle.spec_words.specs.NetChanges.{FileShape}
 use Rattle.spec_words.specs.Views.{View, Plan}
 use Rattle.spec_script.specs.declared.reply.Reply.{Reply}
 use Rattle.spec_script.specs.declared.reply.Reply.TheVariants.{Rows}
 use Rattle.spec_words.specs.Words.{all_of, ◌then◌, give, refuse, sees, or_later, first_of}
 use Rattle.spec_words.specs.Tables.{table_of, is_chain_page, chain_from, chain_of, bytes_read, byte_pages, object_pages, table_pages}
-use Rattle.spec_words.specs.Heaps.{heap_page, room_on}
+use Rattle.spec_words.specs.Orders.{in_rising_order}
+use Rattle.spec_words.specs.Heaps.{heap_page, room_on, rows_found}
 use Rattle.law_net.specs.GoodViews.{LookLeavesView, ReachLeavesView, HeldLeavesView, GoodLeavesView, Leads}
 use Rattle.law_net.proofs.WordLaws.{leads_reach, leads_all, leads_then, leads_give, leads_refuse, leads_sees, leads_held, leads_good, leads_look, leads_found, leads_weaker, leads_each}
 
@@ -143,14 +144,21 @@ first_reads shape try (p ∷ ps) v inside each =
     by_found None w e f ih = subst (λ u. Leads (first_of try ps) u (λ x y. (y ≡ v) × IsFoundPage shape x)) (sym e) ih
     by_found (Some q) w e f ih = leads_give (Some q) w _ (e, f)
 
--- so does COUNT
-pub count_leaves_view : CountLeavesView
-count_leaves_view shape name v =
+-- what is answered of all pages of a table leaves the view
+answer_leaves_view : (answer : List (List ℕ) → Reply) (shape : FileShape) (name : List ℕ) (v : View) →
+    Leads (table_of name then (λ row. table_pages shape row then (λ pages. all_of (heap_page shape row) pages then (λ found. give (answer found))))) v (λ reply w. w ≡ v)
+answer_leaves_view answer shape name v =
     let K : Reply → View → Type 0 = λ reply w. w ≡ v in
     leads_then (table_of name) _ v K (leads_weaker (table_of name) v (λ x w. (w ≡ v) × Unit {0}) _ (λ row w e.
     leads_then (table_pages shape row) _ w K (leads_weaker (table_pages shape row) w (λ x u. (u ≡ w) × Inside shape x) _ (λ pages u f.
-    leads_then (all_of (heap_page shape row) pages) _ u K (leads_weaker (all_of (heap_page shape row) pages) u (λ all y. y ≡ v) _ (λ found y h. leads_give (Rows (sum_by slot_count found) []) y K h)
+    leads_then (all_of (heap_page shape row) pages) _ u K (leads_weaker (all_of (heap_page shape row) pages) u (λ all y. y ≡ v) _ (λ found y h. leads_give (answer found) y K h)
     (leads_all (heap_page shape row) pages (λ y. y ≡ v) u
     (λ p y h. leads_weaker (heap_page shape row p) y (λ bytes z. (z ≡ y) × (is_ordinary shape.geometry p ≡ true)) (λ bytes z. z ≡ v) (λ bytes z k. k.0 ∙ h) (page_reads shape row p y)) (f.0 ∙ e.0))))
     (table_pages_reads shape row w)))
     (table_reads name v))
+
+pub count_leaves_view : CountLeavesView
+count_leaves_view shape name v = answer_leaves_view (λ found. Rows (sum_by slot_count found) []) shape name v
+
+pub select_leaves_view : SelectLeavesView
+select_leaves_view shape name key v = answer_leaves_view (λ found. rows_found (in_rising_order (flat_map (payloads_of key) found))) shape name v

@@ -1,18 +1,23 @@
 -- Where a statement leaves a good view, its net changes and its takes are good, and nobody else holds what it takes.
-use Rattle.std.proofs.Common.{◌≡◌, ℕ, zero, suc, ◌+◌, ◌/◌, ◌≤◌, get_or, Bool, true, false, [], ◌∷◌, length, Option, refl, arith}
+use Rattle.std.proofs.Common.{◌≡◌, ℕ, zero, suc, ◌+◌, ◌/◌, ◌≤◌, get_or, Bool, true, false, List, [], ◌∷◌, length, Option, refl, sym, subst, arith}
 use Rattle.std.specs.Prelude.{filter}
 use Rattle.std.specs.List.{range_with_len}
 use Rattle.std.proofs.lemmas.Bool.{both_ways, cond_both}
 use Rattle.spec_file.specs.declared.data.Resource.{Resource}
-use Rattle.spec_file.specs.Image.{Image}
-use Rattle.spec_file.specs.Places.{gam_place, sgam_place}
+use Rattle.spec_file.specs.declared.data.Resource.TheVariants as resource
+use Rattle.spec_file.specs.Image.{Image, AreBytes}
+use Rattle.spec_file.specs.Places.{HasShape, gam_place, sgam_place}
 use Rattle.spec_words.specs.NetChanges.{FileShape, is_turned, is_byte_changed, is_page_changed}
 use Rattle.spec_words.specs.Takes.{is_among, takes_at}
-use Rattle.spec_words.specs.Views.{View, beginning}
-use Rattle.spec_words.specs.Heaps.{insert_plan}
+use Rattle.spec_script.specs.declared.reply.Reply.{Reply}
+use Rattle.spec_words.specs.Views.{View, beginning, Plan}
+use Rattle.spec_words.specs.Heaps.{insert_plan, count_plan, select_plan}
 use Rattle.law_net.specs.Files.{IsImageOf}
-use Rattle.law_net.specs.GoodViews.{IsGoodView}
-use Rattle.law_net.specs.Statements.{IsGoodEnd, InsertIsGood}
+use Rattle.spec_script.specs.declared.statement.Statement.TheVariants as statement
+use Rattle.law_net.specs.GoodViews.{IsGoodView, Leads}
+use Rattle.law_net.specs.Statements.{IsGoodEnd, StatementsAreGood}
+use Rattle.law_net.proofs.FewTakes.{takes_few}
+use Rattle.law_net.proofs.ReadingLeaves.{count_leaves_view, select_leaves_view}
 use Rattle.law_net.proofs.NetLaw.{net_changes_are_good}
 use Rattle.law_net.proofs.WordLaws.{leads_weaker}
 use Rattle.law_net.proofs.RowBytes.{bytes_low}
@@ -38,8 +43,12 @@ good_end view good =
       net = net;
       free = λ k r lt. good.free (get_or (takes_at view) k r) (net.among k r lt);
       few = omega (arith, few, low, a, b, c, d);
+      few_takes = takes_few view good (good_file view.shape view.start good.before);
     }
   where
+    good_file : (shape : FileShape) (image : Image) → IsImageOf shape image → HasShape shape.geometry shape.pages
+    good_file shape image is = is.file
+
     file_low : (shape : FileShape) (image : Image) → IsImageOf shape image → 16 ≤ shape.pages
     file_low shape image is = let file = is.file in file.low
 
@@ -52,9 +61,29 @@ begins_good shape image other own is = record {
   after = is;
   differ = λ p i j here there low differ. absurd (differ refl);
   free = λ r h. absurd (none_among r h);
+  known = λ r h. absurd (none_among r h);
 }
 
-pub insert_is_good : InsertIsGood
+insert_is_good : (shape : FileShape) (image : Image) (other : Resource → Option ℕ) (own : Resource → Bool) (name : List ℕ) (key : ℕ) (payload : List ℕ) →
+    IsImageOf shape image → AreBytes payload → Leads (insert_plan shape name key payload) (beginning shape image other own) (λ reply view. IsGoodEnd view)
 insert_is_good shape image other own name key payload is low =
     leads_weaker (insert_plan shape name key payload) (beginning shape image other own) (λ u w. IsGoodOf shape w) (λ u w. IsGoodEnd w) (λ u w g. good_end w g.good)
-    (insert_keeps shape name key payload (beginning shape image other own) (bytes_low payload low) (record { same = refl; good = begins_good shape image other own is }))
+    (insert_keeps shape name key payload (beginning shape image other own) (bytes_low payload low) (λ o h. none_among (resource.Table o) h) (record { same = refl; good = begins_good shape image other own is }))
+
+-- where a view was left, its end is good as its beginning is
+left_is_good : (shape : FileShape) (image : Image) (other : Resource → Option ℕ) (own : Resource → Bool) (plan : Plan Reply) → IsImageOf shape image →
+    Leads plan (beginning shape image other own) (λ reply after. after ≡ beginning shape image other own) → Leads plan (beginning shape image other own) (λ reply after. IsGoodEnd after)
+left_is_good shape image other own plan is left =
+    let first = beginning shape image other own in
+    leads_weaker plan first (λ reply w. w ≡ first) (λ reply w. IsGoodEnd w) (λ reply w e. subst IsGoodEnd (sym e) (good_end first (begins_good shape image other own is))) left
+
+pub statements_are_good : StatementsAreGood
+statements_are_good shape image other own statement.Begin is puts = tt
+statements_are_good shape image other own statement.Commit is puts = tt
+statements_are_good shape image other own statement.Rollback is puts = tt
+statements_are_good shape image other own (statement.Insert table key payload) is puts = insert_is_good shape image other own table key payload is puts
+statements_are_good shape image other own (statement.Count table) is puts =
+    left_is_good shape image other own (count_plan shape table) is (count_leaves_view shape table (beginning shape image other own))
+statements_are_good shape image other own (statement.Select table key) is puts =
+    left_is_good shape image other own (select_plan shape table key) is (select_leaves_view shape table key (beginning shape image other own))
+statements_are_good shape image other own (statement.Check workers) is puts = tt

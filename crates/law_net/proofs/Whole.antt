@@ -13,7 +13,7 @@ use Rattle.law_cover.proofs.Pages.{pfs_inside}
 use Rattle.spec_words.specs.NetChanges.{FileShape, is_page_changed, is_iam, page_changes, part_changes, bit_changes, run_changes, iam_changes, other_changes, changes_of}
 use Rattle.law_net.proofs.Cuts.{Zone, Or, IsCut, InRange, cut_both, cut_range, made_is, cut_finds}
 use Rattle.law_net.specs.NetLaw.{made}
-use Rattle.law_plan.specs.Good.{Find}
+use Rattle.law_net.specs.Plans.{Find}
 use Rattle.law_net.proofs.Cells.{IsSpan, cut_bits}
 use Rattle.law_net.proofs.Parts.{cut_part, cut_page}
 use Rattle.law_net.proofs.Runs.{cut_runs}

@@ -20,7 +20,7 @@ nine : (n : ℕ) → 16 ≤ n → 9 < n
 nine n le = omega (arith, le)
 
 pub take_keeps_good : TakeKeepsGood
-take_keeps_good v r = kept (take r) v (take_keeps v.shape r v)
+take_keeps_good v r may = kept (take r) v (take_keeps v.shape r v may)
 
 pub gam_keeps_good : GamKeepsGood
 gam_keeps_good v e value lt low = kept (put_gam v.shape e value) v

@@ -1,6 +1,8 @@
 -- Good views, and what each word does to a view.
 use Rattle.std.specs.Prelude.{◌≡◌, ℕ, ◌/◌, ◌<◌, Bool, true, List, None}
 use Rattle.spec_file.specs.declared.data.Resource.{Resource}
+use Rattle.spec_file.specs.declared.data.ObjId.{ObjId}
+use Rattle.spec_file.specs.declared.data.Resource.TheVariants as resource
 use Rattle.spec_file.specs.Image.{AreBytes, page}
 use Rattle.spec_file.specs.Roles.{is_ordinary}
 use Rattle.spec_words.specs.Takes.{is_among}
@@ -8,12 +10,23 @@ use Rattle.spec_words.specs.Views.{View, End, Gives, Stops, Plan}
 use Rattle.spec_words.specs.Words.{look, reach, unless_held, where_good, take, put_gam, put_sgam, put_pfs, put_page, put_catalog}
 use Rattle.law_net.specs.Files.{IsImageOf, DifferUnder}
 
--- a view of a file that differs from how it began only under what was taken, and nobody else holds any of that
+-- the view's statement may have taken the resource: the catalog, no table but one, an extent, a PFS byte or a page of the
+-- file
+abbrev pub MayTake : View → Resource → Type 0
+MayTake view resource.Catalog = Unit {0}
+MayTake view (resource.Table o) = (other : ObjId) → is_among view.taken (resource.Table other) ≡ true → other ≡ o
+MayTake view (resource.Extent e) = e.0 < view.shape.pages / 8
+MayTake view (resource.Byte p) = p.0 < view.shape.pages
+MayTake view (resource.Page p) = p.0 < view.shape.pages
+
+-- a view of a file that differs from how it began only under what was taken, which its statement may take, and nobody else
+-- holds any of that
 pub record IsGoodView (view : View) : Type 0 where
   pub before : IsImageOf view.shape view.start
   pub after : IsImageOf view.shape view.now
   pub differ : DifferUnder view.shape view.taken view.start view.now
   pub free : (r : Resource) → is_among view.taken r ≡ true → view.other r ≡ None
+  pub known : (r : Resource) → is_among view.taken r ≡ true → MayTake view r
 
 abbrev pub IfGives : {A : Type 0} → (A → View → Type 0) → End A → Type 0
 IfGives Holds (Gives given after) = Holds given after
@@ -44,7 +57,7 @@ abbrev pub KeepsGood : Plan (Unit {0}) → View → Type 0
 KeepsGood word view = IsGoodView view → Leads word view (λ given after. IsGoodView after × (after.shape ≡ view.shape))
 
 abbrev pub TakeKeepsGood : Type 0
-TakeKeepsGood = (view : View) (r : Resource) → KeepsGood (take r) view
+TakeKeepsGood = (view : View) (r : Resource) → MayTake view r → KeepsGood (take r) view
 
 abbrev pub GamKeepsGood : Type 0
 GamKeepsGood = (view : View) (e value : ℕ) → e < view.shape.pages / 8 → value < 2 → KeepsGood (put_gam view.shape e value) view

@@ -1,7 +1,7 @@
 pub mod Files
+pub mod Plans
 pub mod NetLaw
 pub mod Touched
 pub mod GoodViews
 pub mod Statements
-pub mod Agreement
 pub mod Examples

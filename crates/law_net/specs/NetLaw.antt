@@ -4,14 +4,14 @@ use Rattle.spec_file.specs.declared.data.Resource.{Resource}
 use Rattle.spec_file.specs.declared.geometry.Geometry.{Geometry}
 use Rattle.spec_file.specs.declared.role.Role.{Role}
 use Rattle.spec_file.specs.declared.role.Role.TheVariants as role
-use Rattle.spec_file.specs.Image.{Image}
+use Rattle.spec_file.specs.Image.{Image, AreBytes}
 use Rattle.spec_file.specs.Places.{Place, gam_place, sgam_place}
 use Rattle.spec_file.specs.Roles.{role_of}
 use Rattle.spec_log.specs.declared.item.Cell.{Cell}
 use Rattle.spec_log.specs.declared.item.Cell.TheVariants.{Bytes, Bit}
 use Rattle.spec_log.specs.Cells.{put}
 use Rattle.spec_plan.specs.declared.plan.Planned.{Planned}
-use Rattle.law_plan.specs.Good.{Find, HaveCells, AreCoveredBy}
+use Rattle.law_net.specs.Plans.{Find, HaveCells, AreCoveredBy}
 use Rattle.spec_words.specs.NetChanges.{FileShape, extents_of, pages_of, is_turned, is_byte_changed, is_page_changed, changes_of}
 use Rattle.spec_words.specs.Takes.{is_among, comes_before, takes_of}
 use Rattle.law_net.specs.Files.{IsImageOf, DifferUnder}
@@ -55,6 +55,11 @@ change_limit shape start now =
     turned_bits shape (gam_place shape.geometry) start now + turned_bits shape (sgam_place shape.geometry) start now + changed_bytes shape start now
     + 3 * changed_pages shape start now + 1
 
+-- what each found and what it puts are bytes
+abbrev pub HaveBytes : List Planned → Type 0
+HaveBytes [] = Unit {0}
+HaveBytes (c ∷ cs) = (AreBytes c.before × AreBytes c.after) × HaveBytes cs
+
 -- the changes make the one image from the other. Each finds the bytes that it says, has the form of a log's change, and
 -- is covered by what the transaction holds or takes, one of a PFS page within one extent; and they are few. The takes
 -- rise, each is new to the transaction, and each was taken by the statement
@@ -62,6 +67,7 @@ pub record AreNetChanges (shape : FileShape) (own : Resource → Bool) (taken : 
   pub make : made start changes ≡ now
   pub find : Find start changes
   pub cells : HaveCells changes
+  pub bytes : HaveBytes changes
   pub covered : AreCoveredBy (IsHeldOrTaken own takes) shape.geometry shape.pages changes
   pub short : All (λ (c : Planned). IsShortCell shape.geometry c.cell (length c.after)) changes
   pub few : length changes ≤ change_limit shape start now

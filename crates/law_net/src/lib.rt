@@ -2,12 +2,11 @@
 //! word keeps what this needs.
 #![tactic(auto)]
 
-ghost use Rattle.law_net.specs.Agreement.{InsertIsPlanned, CountIsPlanned};
 ghost use Rattle.law_net.specs.Examples.{RunsStayInExtents, CellsGoToTheLast, SlotsBeginByTheGreater, PagesBecomeAllocated, OthersDoNot, TakesAreInOrder, ChangesAreListedOnce};
 ghost use Rattle.law_net.specs.NetLaw.{NetChangesAreGood};
 ghost use Rattle.law_net.specs.Touched.{ChangesAreUnder};
 ghost use Rattle.law_net.specs.GoodViews.{LookLeavesView, ReachLeavesView, HeldLeavesView, GoodLeavesView, TakeKeepsGood, GamKeepsGood, SgamKeepsGood, PfsKeepsGood, PageKeepsGood, CatalogKeepsGood};
-ghost use Rattle.law_net.specs.Statements.{InsertIsGood, TablePagesLeaveView, CountLeavesView};
+ghost use Rattle.law_net.specs.Statements.{StatementsAreGood, StatementsAreNumbered, StatementsKeepBeginning, StatementsReplyPlainly, TablePagesLeaveView, CountLeavesView, SelectLeavesView};
 
 /// The net changes of two images of a file that differ only under what was taken make the one from the other,
 /// find their bytes, have the form of a log's changes, are covered by what is held or taken, and are few; the takes
@@ -35,19 +34,17 @@ pub fn word_laws()
     ensures catalog { CatalogKeepsGood }
 {}
 
-/// A table's pages are read without the view's being moved. Where INSERT gives a reply, its changes and takes are
-/// good, and nobody else holds what it takes. COUNT leaves the view as it was.
+/// A table's pages are read without the view's being moved. Where a planned statement gives a reply, its changes and
+/// takes are good, and nobody else holds what it takes; where it is refused, the number is neither 0 nor that of want
+/// of memory or of a fault. COUNT and SELECT leave the view as it was.
 pub fn statement_laws()
     ensures pages { TablePagesLeaveView }
-    ensures insert { InsertIsGood }
+    ensures good { StatementsAreGood }
+    ensures numbered { StatementsAreNumbered }
+    ensures keep { StatementsKeepBeginning }
+    ensures plain { StatementsReplyPlainly }
     ensures count { CountLeavesView }
-{}
-
-/// INSERT and COUNT in words end as their outcomes over a sight say: with the same refusal, the same number of rows,
-/// or the same takes and changes.
-pub fn agreement_laws()
-    ensures insert { InsertIsPlanned }
-    ensures count { CountIsPlanned }
+    ensures select { SelectLeavesView }
 {}
 
 /// Small files, worked by hand: how runs of PFS bytes, cells of a page and slots are cut, which page becomes

@@ -1,4 +1,3 @@
 pub mod Sessions
-pub mod Pages
 pub mod Agreement
 pub mod Bytes

@@ -6,22 +6,13 @@ use Rattle.spec_file.specs.declared.geometry.Geometry.{Geometry}
 use Rattle.spec_file.specs.Image.{page, maps_start}
 use Rattle.spec_log.specs.declared.item.Record.{Record}
 use Rattle.spec_log.specs.Log.{is_unfinished, holds, holder_of}
-use Rattle.spec_log.specs.Cells.{HasWholePages}
 use Rattle.spec_log.specs.Cover.{byte_guard}
 use Rattle.spec_log.specs.Images.{view_of, final_image}
 use Rattle.spec_log.specs.Rules.{KeepsRules}
 use Rattle.spec_log.specs.Sound.{IsSound}
 use Rattle.law_undo.specs.Laws.{IsOngoing}
-use Rattle.spec_plan.specs.Shown.{IsShown}
 use Rattle.law_net.specs.Files.{IsGuardedBy}
 use Rattle.spec_run.specs.Begun.{Setting, shape_of}
-use Rattle.spec_run.specs.Sights.{sight_of}
-
--- the file as it stands shows a transaction that hasn't ended its view, page by page
-abbrev pub FileIsShown : Type 0
-FileIsShown = (run : Setting) (log : List Record) (t : ℕ) → IsSound run.geometry (length run.image) run.opened run.image log →
-    HasWholePages run.image → 16 ≤ length run.image → IsOngoing run.opened log t →
-    IsShown (sight_of run log t) (final_image run.opened log run.image)
 
 -- a resource that nobody else holds: the file has each bit that it guards as the transaction sees it
 abbrev pub FileAgreesUnder : Type 0

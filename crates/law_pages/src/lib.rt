@@ -2,13 +2,7 @@
 #![tactic(auto)]
 
 ghost use Rattle.law_pages.specs.Bytes.{ImagesAreOfBytes};
-ghost use Rattle.law_pages.specs.Laws.{FileIsShown, FileAgreesUnder, HeadersAreShown, HolderIsExact, HolderIsSession, FirstIsAmong};
-
-/// Wherever nobody else holds what guards a page or a PFS byte, the file has there what a transaction that
-/// hasn't ended sees.
-pub fn shown_law()
-    ensures { FileIsShown }
-{}
+ghost use Rattle.law_pages.specs.Laws.{FileAgreesUnder, HeadersAreShown, HolderIsExact, HolderIsSession, FirstIsAmong};
 
 /// In all that a resource guards which nobody else holds, the file has what a transaction that hasn't ended
 /// sees; and in the header of a page that nothing else guards.

@@ -117,6 +117,7 @@ single_steps run log s i u number w hs hi begins due =
       own = st.own;
       follows = st.follows;
       fits = st.fits;
+      puts = tt;
       after = elim (cases_Bool (is_short x)) [
         | inl e ↦ subst (IsDoing run (x ∷ log) s) (sym (moved_short w x e)) (Idle refl refl st.opens)
         | inr e ↦ elim due [
@@ -138,10 +139,11 @@ committing_steps run log s i t w hs hi owns still due =
       own = st.own;
       follows = st.follows;
       fits = st.fits;
+      puts = tt;
       after = subst (IsDoing run (x ∷ log) s) (sym (moved_whole w x (change_items t [] true) refl due))
           (elim st.opens [
             | inl none ↦ absurd (both_ways (ltb 0 t) (ap (ltb 0) none) (unfinished_parts (log ++ run.opened) t owns.unfinished).above)
-            | inr o ↦ Changing [] true refl refl o.0 o.1 (record { cells = tt; covered = tt; find = tt })
+            | inr o ↦ Changing [] true refl refl o.0 o.1 (record { cells = tt; bytes = tt; covered = tt; find = tt })
           ]);
     }
 
@@ -158,6 +160,7 @@ rolling_steps run log s i t w hs hi owns still due =
       own = st.own;
       follows = st.follows;
       fits = st.fits;
+      puts = tt;
       after = subst (IsDoing run (x ∷ log) s) (sym (moved_whole w x rest refl due))
           (elim st.opens [
             | inl none ↦ absurd (both_ways (ltb 0 t) (ap (ltb 0) none) (unfinished_parts (log ++ run.opened) t owns.unfinished).above)
@@ -187,6 +190,7 @@ writing_steps run log s i u size takes changes own w st above form planned due =
       own = st.own;
       follows = st.follows;
       fits = st.fits;
+      puts = tt;
       after = subst (IsDoing run (x ∷ log) s) (sym (moved_whole w x rest refl due))
           (elim st.opens [
             | inl none ↦ absurd (omega (arith, none, above))
@@ -220,6 +224,7 @@ snap_steps run log s i outcome w hs hi few opens due =
       own = inl refl;
       follows = tt;
       fits = tt;
+      puts = tt;
       after = subst (IsDoing run (x ∷ log) s) (sym (moved_whole w x (CheckEnd s i outcome ∷ []) refl due))
           (Checking i outcome refl refl (end_form s i outcome hs hi few, end_form s i 3 hs hi (omega arith))
           (elim opens [ inl e ↦ inl e | inr o ↦ inr (record { unfinished = o.0.unfinished; is_new = o.0.is_new; owner = o.0.owner }, o.1) ]));

@@ -10,6 +10,7 @@ use Rattle.spec_log.specs.Sound.{Fits, is_old}
 use Rattle.spec_plan.specs.declared.plan.Planned.{Planned}
 use Rattle.spec_run.specs.Sessions.{starter_of, session_of}
 use Rattle.spec_run.specs.Begun.{Setting}
+use Rattle.spec_run.specs.OfBytes.{PutsBytes}
 use Rattle.spec_run.specs.Progress.{Progress, moved}
 use Rattle.law_run.proofs.Plans.{ArePlanned}
 use Rattle.law_run.specs.Doing.{change_items, abort_items}
@@ -48,4 +49,5 @@ pub record StepsTo (run : Setting) (log : List Record) (s : ℕ) (w : Progress) 
   pub own : IsOwn run log s x
   pub follows : Follows run.geometry (length run.image) (log ++ run.opened) x
   pub fits : Fits run.opened log run.image x
+  pub puts : PutsBytes x
   pub after : IsDoing run (x ∷ log) s (moved w x)

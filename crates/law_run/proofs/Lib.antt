@@ -1,4 +1,7 @@
-pub mod Agreed
+pub mod KeptByPuts
+pub mod OfBytes
+pub mod FirstPage
+pub mod Planned
 pub mod Bounds
 pub mod Left
 pub mod Shows

@@ -9,7 +9,6 @@ use Rattle.spec_log.specs.Log.{has_started, has_ended, is_unfinished, greatest_o
 use Rattle.spec_log.specs.Limits.{passes_limit}
 use Rattle.spec_log.specs.Images.{damaged_page}
 use Rattle.spec_script.specs.declared.statement.Statement.{Statement}
-use Rattle.spec_script.specs.declared.statement.Statement.TheVariants as statement
 use Rattle.spec_script.specs.declared.reply.Reply.TheVariants.{Done, Refused}
 use Rattle.spec_file.specs.declared.data.Resource.{Resource}
 use Rattle.spec_script.specs.declared.reply.Reply.{Reply}
@@ -20,8 +19,8 @@ use Rattle.spec_run.specs.Shapes.{Refused as Refusing, Opening, Writing, Committ
 use Rattle.spec_run.specs.Sessions.{session_of, open_after}
 use Rattle.spec_words.specs.Takes.{changes_at, takes_at}
 use Rattle.spec_words.specs.Views.{End, Gives, Stops}
-use Rattle.spec_words.specs.Heaps.{insert_plan, count_plan}
-use Rattle.spec_run.specs.Begun.{Setting, Begun, Becoming, shape_of, view_at, surely, with_memory, refused, by_changes, by_taken, by_end, by_damage, begun_by, begun}
+use Rattle.spec_words.specs.Statements.{TransactionWord, Begins, Commits, RollsBack, StatementKind, Transacts, Plans, Checks, kind_of}
+use Rattle.spec_run.specs.Begun.{Setting, Begun, Becoming, shape_of, view_at, surely, with_memory, refused, by_changes, by_taken, by_end, by_word, by_damage, by_kind, begun_by, begun}
 use Rattle.spec_run.specs.Progress.{Progress, progress_of, is_short, at_work, with_statement, script_of, cut_short, moved_to, moved, first_of, MayCome}
 use Rattle.law_undo.proofs.Holders.{unfinished_parts}
 use Rattle.law_run.specs.Laws.{UnfinishedIsOpen}
@@ -91,25 +90,29 @@ damage_stays : (run : Setting) (log : List Record) (s i t : ℕ) (damage : Optio
 damage_stays run log s i t None = first_stays t _ None (Snap s i) (CheckEnd s i 0 ∷ []) refl (inr (inl refl)) (no_want t)
 damage_stays run log s i t (Some p) = first_stays t _ None (Snap s i) (CheckEnd s i 2 ∷ []) refl (inr (inl refl)) (no_want t)
 
-begun_stays : (run : Setting) (log : List Record) (s i t : ℕ) (st : Statement) → BegunStays t (begun run log s i t st)
-begun_stays run log s i t statement.Begin =
-    let fresh = greatest_of (log ++ run.opened) + 1 in
+word_stays : (log : List Record) (s i t : ℕ) (word : TransactionWord) → BecomingStays s i t (by_word log t word)
+word_stays log s i t Begins =
+    let fresh = greatest_of log + 1 in
     cond_both (eqb t 0) (surely (Opening fresh) Done) (surely (Refusing t 60001) (Refused is_open)) (BecomingStays s i t)
     (λ e. first_stays t _ None (plain_start s i fresh 0) [] refl (inl (eqb-true t 0 e)) (no_want t))
     (λ e. first_stays t _ None (plain_start s i t 60001) [] refl (inr (inr refl)) (no_want t))
-begun_stays run log s i t statement.Commit =
+word_stays log s i t Commits =
     cond_both (eqb t 0) (surely (Refusing t 3902) (Refused nothing_to_commit)) (surely (Committing t) Done) (BecomingStays s i t)
     (λ e. first_stays t _ None (plain_start s i t 3902) [] refl (inr (inr refl)) (no_want t))
     (λ e. first_stays t _ None (plain_start s i t 0) (change_items t [] true) refl (inr (inr refl)) (no_want t))
-begun_stays run log s i t statement.Rollback =
-    let left = left_of t (log ++ run.opened) in
+word_stays log s i t RollsBack =
+    let left = left_of t log in
     cond_both (eqb t 0) (surely (Refusing t 3903) (Refused nothing_to_undo)) (surely (RollingBack t left) Done) (BecomingStays s i t)
     (λ e. first_stays t _ None (plain_start s i t 3903) [] refl (inr (inr refl)) (no_want t))
     (λ e. first_stays t _ None (plain_start s i t 0) (abort_items t left) refl (inr (inr refl)) (no_want t))
-begun_stays run log s i t (statement.Insert table key payload) =
-    end_stays (log ++ run.opened) s i t (insert_plan (shape_of run) table key payload (view_at run log t)).ending
-begun_stays run log s i t (statement.Count table) = end_stays (log ++ run.opened) s i t (count_plan (shape_of run) table (view_at run log t)).ending
-begun_stays run log s i t (statement.Check workers) = damage_stays run log s i t (damaged_page run.opened run.image)
+
+kind_stays : (run : Setting) (log : List Record) (s i t : ℕ) (kind : StatementKind) → BecomingStays s i t (by_kind run log t kind)
+kind_stays run log s i t (Transacts word) = word_stays (log ++ run.opened) s i t word
+kind_stays run log s i t (Plans plan) = end_stays (log ++ run.opened) s i t (plan (view_at run log t)).ending
+kind_stays run log s i t Checks = damage_stays run log s i t (damaged_page run.opened run.image)
+
+begun_stays : (run : Setting) (log : List Record) (s i t : ℕ) (st : Statement) → BegunStays t (begun run log s i t st)
+begun_stays run log s i t st = kind_stays run log s i t (kind_of (shape_of run) st)
 
 idle_stays : (run : Setting) (log : List Record) (s : ℕ) (p : Progress) → p.due ≡ [] → p.want ≡ None → (x : Record) → MayCome (at_work run log s p p.due) x → Stays p.tran x
 idle_stays run log s p due want x may =
@@ -229,6 +232,6 @@ unfinished_is_open run (x ∷ log) start legal none u h =
     let s = legal.0.0 in
     let right = legal_right run log start legal.1 in
     let p = progress_of run s log in
-    let st = comes_steps run log s p start right.sound legal.0.1.0 (right.doing s) x legal.0.2 in
+    let st = comes_steps run log s p start right.sound right.puts legal.0.1.0 (right.doing s) x legal.0.2 in
     open_behind run log s u x legal.0.1.0 legal.0.1.1 st.belongs (comes_stays run log s p (right.doing s) x legal.0.2)
     (unfinished_is_open run log start legal.1 none u) h

@@ -23,13 +23,15 @@ use Rattle.law_undo.proofs.CellAtoms.{same_cell}
 use Rattle.law_undo.proofs.Views.{writer_holds}
 use Rattle.law_undo.proofs.Shapes.{shape_sym}
 use Rattle.spec_plan.specs.declared.plan.Planned.{Planned}
-use Rattle.law_plan.specs.Good.{Find, HaveCells}
-use Rattle.law_plan.proofs.Good.{AreCovered}
+use Rattle.law_net.specs.Plans.{Find, HaveCells}
+use Rattle.law_net.specs.NetLaw.{HaveBytes}
+use Rattle.law_net.proofs.PlannedCells.{AreCovered}
 use Rattle.law_run.proofs.Others.{holds_other}
 
 -- changes of transaction t that are planned over an image after a log
 pub record ArePlanned (g : Geometry) (pages : ℕ) (log : List Record) (t : ℕ) (image : Image) (changes : List Planned) : Type 0 where
   pub cells : HaveCells changes
+  pub bytes : HaveBytes changes
   pub covered : AreCovered g pages log t changes
   pub find : Find image changes
 
@@ -101,6 +103,7 @@ pub planned_other : (g : Geometry) (pages : ℕ) (log : List Record) (t : ℕ) (
     Follows g pages log x → (tran_of x ≡ t → ⊥) → ArePlanned g pages log t image changes → ArePlanned g pages (x ∷ log) t (apply log x image) changes
 planned_other g pages log t x image changes rules forms follows differ p = record {
   cells = p.cells;
+  bytes = p.bytes;
   covered = all_covered_more g pages log (x ∷ log) t t changes (λ guard. guard_other log t x guard differ) p.covered;
   find = find_same g pages log t image (apply log x image) changes p.cells p.covered (shape_apply log x image)
       (others_write g pages log t x image rules forms follows differ) p.find;

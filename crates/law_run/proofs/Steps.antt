@@ -35,6 +35,7 @@ change_steps run log s w c changes own sound due owns still planned =
     let long = (cell_form c.cell c.before c.after planned.cells.0).as_long in
     let rest_planned : ArePlannedIn run (x ∷ log) w.tran changes = record {
       cells = planned.cells.1;
+      bytes = planned.bytes.1;
       covered = all_covered_more run.geometry (length run.image) (log ++ run.opened) (x ∷ (log ++ run.opened)) w.tran w.tran changes
           same_holds planned.covered.1;
       find = planned.find.1;
@@ -52,6 +53,7 @@ change_steps run log s w c changes own sound due owns still planned =
             (subst (IsCovered run.geometry (length run.image) (log ++ run.opened) w.tran c.cell) (sym long) planned.covered.0)
             ∙ planned.find.0,
       );
+      puts = planned.bytes.0;
       after = subst (IsDoing run (x ∷ log) s) (sym (moved_whole w x rest refl due))
           (Changing changes own (moved_due w x rest ∙ ap (λ t. change_items t changes own) tran_is) (moved_want w x rest refl)
           (subst (Owns run (x ∷ log) s) tran_is owns_after) (subst (λ t. has_undone (x ∷ log) t ≡ false) tran_is still)
@@ -72,6 +74,7 @@ commit_steps run log s w due owns still =
       own = inr (inr owns.owner);
       follows = owns.unfinished;
       fits = (owns.is_new, still);
+      puts = tt;
       after = subst (IsDoing run (x ∷ log) s) (sym (moved_whole w x [] refl due)) (Idle refl refl (inl refl));
     }
 
@@ -85,6 +88,7 @@ abort_steps run log s w due owns none_left =
       own = inr (inr owns.owner);
       follows = (owns.unfinished, none_left);
       fits = owns.is_new;
+      puts = tt;
       after = subst (IsDoing run (x ∷ log) s) (sym (moved_whole w x [] refl due)) (Idle refl refl (inl refl));
     }
 
@@ -105,6 +109,7 @@ undo_steps run log s w p others due owns left =
       own = inr (inr owns.owner);
       follows = (owns.unfinished, record { change = p.1; others = others; is_last = left; is_named = named.0 });
       fits = owns.is_new;
+      puts = tt;
       after = subst (IsDoing run (x ∷ log) s) (sym (moved_whole w x rest refl due))
           (Undoing (moved_due w x rest ∙ subst (λ t. rest ≡ abort_items t (left_of t (x ∷ g))) tran_is (ap (abort_items w.tran) (sym left_after)))
           (moved_want w x rest refl) (subst (Owns run (x ∷ log) s) tran_is owns_after));
@@ -121,6 +126,7 @@ end_steps run log s w index outcome form due opens =
       own = inl refl;
       follows = tt;
       fits = tt;
+      puts = tt;
       after = elim (cases_Bool (is_short x)) [
         | inl e ↦ subst (IsDoing run (x ∷ log) s) (sym (moved_short w x e)) (Idle refl refl opens_after)
         | inr e ↦ elim due [

@@ -1,12 +1,12 @@
 -- The record of a writing statement, from its plan.
-use Rattle.std.proofs.Common.{◌≡◌, ℕ, ◌+◌, ◌<◌, ◌≤◌, true, false, eqb, ltb, not, ◌||◌, List, ◌∷◌, ◌++◌, length, ◌⊎◌, inl, inr, refl, sym, ap, ◌∙◌, subst, arith}
+use Rattle.std.proofs.Common.{◌≡◌, ℕ, suc, ◌+◌, ◌<◌, ◌≤◌, All, true, false, eqb, ltb, not, ◌||◌, List, [], ◌∷◌, ◌++◌, length, Option, None, ◌⊎◌, inl, inr, refl, sym, ap, ◌∙◌, subst, arith}
 use Rattle.std.specs.List.{list_any}
-use Rattle.std.proofs.lemmas.Bool.{cases_Bool, and_parts, and_from, or_left, or_right, eq-eqb, eqb-true, eqb-false, both_ways, ltb-true, ltb-false, cond_both}
+use Rattle.std.proofs.lemmas.Bool.{false≢true, cases_Bool, and_parts, and_from, or_cases, or_left, or_right, eq-eqb, eqb-true, eqb-false, both_ways, ltb-true, ltb-false, cond_both}
 use Rattle.spec_file.specs.declared.data.Resource.{Resource}
 use Rattle.spec_log.specs.declared.item.Record.{Record}
 use Rattle.spec_log.specs.declared.item.Record.TheVariants.{Start}
 use Rattle.spec_log.specs.Items.{has_form, is_same}
-use Rattle.spec_log.specs.Log.{takes_it, has_started, has_ended, has_taken, has_undone, is_unfinished, holds, IsFreeFor, greatest_of}
+use Rattle.spec_log.specs.Log.{takes_it, has_started, has_ended, has_taken, has_undone, is_unfinished, holds, IsFreeFor, greatest_of, holder_of}
 use Rattle.spec_log.specs.Limits.{passes_limit, changes_of}
 use Rattle.spec_log.specs.Images.{view_of, final_image}
 use Rattle.spec_log.specs.Sound.{is_old}
@@ -15,14 +15,19 @@ use Rattle.law_undo.proofs.HolderLaws.{none_other, holders_are_one}
 use Rattle.law_undo.proofs.LawAtAtom.{not_true}
 use Rattle.law_undo.specs.Laws.{IsOngoing}
 use Rattle.law_undo.proofs.Views.{sound_rules}
-use Rattle.law_undo.proofs.Shapes.{view_shape, view_final_shape}
-use Rattle.law_plan.specs.Good.{IsGoodPlan, IsOwnOrTaken, AreCoveredBy}
-use Rattle.law_plan.proofs.Good.{AreCovered, all_covered_by, size_bound}
+use Rattle.law_undo.proofs.Shapes.{view_final_shape}
+use Rattle.law_net.specs.Plans.{Find, HaveCells, AreCoveredBy}
+use Rattle.law_net.specs.NetLaw.{HaveBytes, IsHeldOrTaken}
+use Rattle.law_net.specs.Statements.{IsGoodEnd, HasSameBeginning}
+use Rattle.law_net.proofs.Takes.{same_resource}
+use Rattle.spec_words.specs.NetChanges.{FileShape}
+use Rattle.spec_words.specs.Takes.{takes_at, changes_at}
+use Rattle.spec_words.specs.Views.{View}
+use Rattle.law_net.proofs.PlannedCells.{AreCovered, all_covered_by, size_bound}
 use Rattle.spec_plan.specs.declared.plan.Planned.{Planned}
 use Rattle.spec_plan.specs.Planned.{planned_size}
 use Rattle.spec_run.specs.Shapes.{tran_to_write}
-use Rattle.spec_run.specs.Begun.{Setting}
-use Rattle.spec_run.specs.Sights.{sight_of}
+use Rattle.spec_run.specs.Begun.{Setting, view_at}
 use Rattle.law_undo.proofs.Law.{zero_open}
 use Rattle.law_run.proofs.Fresh.{not_started_above}
 use Rattle.law_run.proofs.Plans.{find_same}
@@ -86,7 +91,7 @@ held_was_free run log s i t u n size takes sound w free r held =
 
 now_held : (run : Setting) (log : List Record) (s i t u n size : ℕ) (takes : List Resource) → WritesFor (log ++ run.opened) t u →
     is_unfinished (Start s i (record { 0 = u }) 0 n size takes ∷ (log ++ run.opened)) u ≡ true →
-    (r : Resource) → IsOwnOrTaken (sight_of run log t) takes r → holds (Start s i (record { 0 = u }) 0 n size takes ∷ (log ++ run.opened)) u r ≡ true
+    (r : Resource) → IsHeldOrTaken (λ s. holds (log ++ run.opened) t s) takes r → holds (Start s i (record { 0 = u }) 0 n size takes ∷ (log ++ run.opened)) u r ≡ true
 now_held run log s i t u n size takes w unfinished r (inl own) =
     let g = log ++ run.opened in
     let x = Start s i (record { 0 = u }) 0 n size takes in
@@ -111,6 +116,41 @@ few_changes g u n bytes h = elim (cases_Bool (eqb n 0)) [
   ]
 ]
 
+-- what a statement takes and changes, after these items, for a session whose open transaction is t: nobody else holds what it
+-- takes, which an item can name; and its changes have their form, put bytes, find what the transaction sees, and are
+-- covered by what it holds or takes
+pub record IsWritable (run : Setting) (log : List Record) (t : ℕ) (takes : List Resource) (changes : List Planned) : Type 0 where
+  pub free : (r : Resource) → list_any (is_same r) takes ≡ true → holder_of (log ++ run.opened) r t ≡ None
+  pub few : length takes < 4294967296
+  pub cells : HaveCells changes
+  pub bytes : HaveBytes changes
+  pub covered : AreCoveredBy (IsHeldOrTaken (λ r. holds (log ++ run.opened) t r) takes) run.geometry (length run.image) changes
+  pub find : Find (view_of t run.opened log run.image) changes
+
+among_holds : (P : Resource → Type 0) (rs : List Resource) (r : Resource) → All P rs → list_any (is_same r) rs ≡ true → P r
+among_holds P [] r all h = absurd (false≢true h)
+among_holds P (s ∷ rs) r all h = elim (or_cases (is_same r s) (list_any (is_same r) rs) h) [
+  | inl e ↦ subst P (sym (same_resource r s e)) (all 0 s (omega arith))
+  | inr e ↦ among_holds P rs r (λ k d lt. all (suc k) d (omega (arith, lt))) e
+]
+
+-- so is a plan's good end
+pub end_is_writable : (run : Setting) (log : List Record) (t : ℕ) (view : View) → HasSameBeginning (view_at run log t) view → IsGoodEnd view →
+    IsWritable run log t (takes_at view) (changes_at view)
+end_is_writable run log t view same good =
+    let takes = takes_at view in
+    let changes = changes_at view in
+    let net = good.net in
+    record {
+      free = λ r h. ap (λ (other : Resource → Option ℕ). other r) (sym same.other) ∙ among_holds (λ s. view.other s ≡ None) takes r good.free h;
+      few = good.few_takes;
+      cells = net.cells;
+      bytes = net.bytes;
+      covered = subst (λ (shape : FileShape). AreCoveredBy (IsHeldOrTaken (λ r. holds (log ++ run.opened) t r) takes) shape.geometry shape.pages changes) same.shape
+          (subst (λ own. AreCoveredBy (IsHeldOrTaken own takes) view.shape.geometry view.shape.pages changes) same.own net.covered);
+      find = subst (λ image. Find image changes) same.start net.find;
+    }
+
 pub record IsWritten (run : Setting) (log : List Record) (s i u : ℕ) (takes : List Resource) (changes : List Planned) : Type 0 where
   pub started : Started run log s u (Start s i (record { 0 = u }) 0 (length changes) (planned_size changes) takes)
   pub above : 0 < u
@@ -118,7 +158,7 @@ pub record IsWritten (run : Setting) (log : List Record) (s i u : ℕ) (takes : 
   pub planned : ArePlannedIn run (Start s i (record { 0 = u }) 0 (length changes) (planned_size changes) takes ∷ log) u changes
 
 pub is_written : (run : Setting) (log : List Record) (s i t u : ℕ) (takes : List Resource) (changes : List Planned) → IsSoundIn run log → Opens run log s t →
-    WritesFor (log ++ run.opened) t u → 0 < s → 0 < i → length changes ≤ 8192 → IsGoodPlan (sight_of run log t) takes changes →
+    WritesFor (log ++ run.opened) t u → 0 < s → 0 < i → length changes ≤ 8192 → IsWritable run log t takes changes →
     IsWritten run log s i u takes changes
 is_written run log s i t u takes changes sound opens w hs hi few good =
     let g = log ++ run.opened in
@@ -129,18 +169,17 @@ is_written run log s i t u takes changes sound opens w hs hi few good =
     (λ r h. writer_free g t u r w (free r h)) (λ none. absurd (omega (arith, none, above))) in
     let size = size_bound changes good.cells in
     let few_takes = good.few in
-    let shape = view_shape run.geometry run.opened log run.image t sound in
     let unfinished : is_unfinished (x ∷ g) u ≡ true = elim st.opens [ inl none ↦ absurd (omega (arith, none, above)) | inr o ↦ o.0.unfinished ] in
     let covered : AreCovered run.geometry (length run.image) (x ∷ g) u changes =
-    all_covered_by (IsOwnOrTaken (sight_of run log t) takes) run.geometry (length run.image) (x ∷ g) u changes
-    (now_held run log s i t u (length changes) (planned_size changes) takes w unfinished)
-    (subst (λ n. AreCoveredBy (IsOwnOrTaken (sight_of run log t) takes) run.geometry n changes) shape.pages good.covered) in
+    all_covered_by (IsHeldOrTaken (λ r. holds g t r) takes) run.geometry (length run.image) (x ∷ g) u changes
+    (now_held run log s i t u (length changes) (planned_size changes) takes w unfinished) good.covered in
     record {
       started = st;
       above = above;
       form = start_form s i u 0 (length changes) (planned_size changes) takes hs hi few (omega (arith, size, few)) (omega (arith, few_takes));
       planned = record {
         cells = good.cells;
+        bytes = good.bytes;
         covered = covered;
         find = find_same run.geometry (length run.image) (x ∷ g) u (view_of t run.opened log run.image) (final_image run.opened log run.image) changes good.cells covered
             (view_final_shape run.geometry run.opened log run.image t sound)

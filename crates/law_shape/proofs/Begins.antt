@@ -8,17 +8,17 @@ use Rattle.spec_log.specs.Images.{damaged_page}
 use Rattle.spec_script.specs.declared.reply.Reply.{Reply}
 use Rattle.spec_script.specs.declared.reply.Reply.TheVariants.{Done, Refused}
 use Rattle.spec_script.specs.declared.statement.Statement.{Statement}
-use Rattle.spec_script.specs.declared.statement.Statement.TheVariants as statement
 use Rattle.spec_file.specs.declared.data.Resource.{Resource}
 use Rattle.spec_plan.specs.declared.plan.Planned.{Planned}
 use Rattle.spec_plan.specs.Planned.{planned_size}
 use Rattle.spec_plan.specs.Refusals.{is_open, nothing_to_commit, nothing_to_undo, log_full}
 use Rattle.spec_words.specs.Takes.{changes_at, takes_at}
-use Rattle.spec_words.specs.Views.{End, Gives, Stops}
-use Rattle.spec_words.specs.Heaps.{count_plan, insert_plan}
+use Rattle.spec_words.specs.Views.{View, End, Gives, Stops}
+use Rattle.spec_words.specs.Statements.{TransactionWord, Begins, Commits, RollsBack, StatementKind, Transacts, Plans, Checks, kind_of}
 use Rattle.spec_run.specs.Shapes.{Shape, Refused as Refusing, Opening, Reading, Writing, Committing, RollingBack, Checking, plain_start, items_by, tran_to_write, FitsRecord}
-use Rattle.spec_run.specs.Begun.{Setting, Begun, Becoming, shape_of, view_at, surely, with_memory, refused, by_changes, by_taken, by_end, by_damage, begun_by, begun}
-use Rattle.law_shape.proofs.Numbered.{EndsNumbered, count_numbered, insert_numbered}
+use Rattle.spec_run.specs.Begun.{Setting, Begun, Becoming, shape_of, view_at, surely, with_memory, refused, by_word, by_changes, by_taken, by_end, by_damage, by_kind, begun_by, begun}
+use Rattle.law_net.specs.Statements.{IfPlanned}
+use Rattle.law_net.proofs.Endings.{EndsWell, EndsAlways, statement_ends}
 use Rattle.law_shape.proofs.Shaped.{NoneShort, long_changes, long_undos}
 
 -- what begins after log g, with open transaction t, owes the items of a shape, none of them for want of memory; for
@@ -57,10 +57,10 @@ changes_shaped g s i t reply takes changes =
     (λ e. memory_shaped g s i t (Refusing t 9002) (Refused log_full) (refuses_with t 9002 (omega arith)) (refl, tt))
     (λ e. memory_shaped g s i t (Writing u takes changes (eqb t 0)) reply (refl, refl) (refl, long_changes u changes (eqb t 0)))
 
-end_shaped : (g : List Record) (s i t : ℕ) (end : End Reply) → EndsNumbered end → BecomesShaped g s i t (by_end g t end)
-end_shaped g s i t (Stops refusal) numbered =
+end_shaped : (g : List Record) (s i t : ℕ) (first : View) (end : End Reply) → EndsWell first end → BecomesShaped g s i t (by_end g t end)
+end_shaped g s i t first (Stops refusal) numbered =
     memory_shaped g s i t (Refusing t refusal.number) (Refused refusal) (refl, numbered.0, numbered.2) (ne_eqb refusal.number 701 numbered.1, tt)
-end_shaped g s i t (Gives reply view) numbered = by_takes view.taken
+end_shaped g s i t first (Gives reply view) kept = by_takes view.taken
   where
     by_takes : (taken : List Resource) → BecomesShaped g s i t (by_taken g t reply view taken)
     by_takes [] = memory_shaped g s i t (Reading t) reply refl (refl, tt)
@@ -77,26 +77,25 @@ some_open t e = let above = eqb-false t 0 e in positive t above
     positive zero n = absurd (n refl)
     positive (suc m) n = omega arith
 
-pub begun_is_shaped : (run : Setting) (log : List Record) (s i t : ℕ) (st : Statement) → IsShaped (log ++ run.opened) s i t (begun run log s i t st)
-begun_is_shaped run log s i t statement.Begin =
-    let g = log ++ run.opened in
+word_shaped : (g : List Record) (s i t : ℕ) (word : TransactionWord) → BecomesShaped g s i t (by_word g t word)
+word_shaped g s i t Begins =
     let fresh = greatest_of g + 1 in
     cond_both (eqb t 0) (surely (Opening fresh) Done) (surely (Refusing t 60001) (Refused is_open)) (BecomesShaped g s i t)
     (λ e. surely_shaped g s i t (Opening fresh) Done (eqb-true t 0 e, refl) (refl, tt))
     (λ e. surely_shaped g s i t (Refusing t 60001) (Refused is_open) (refuses_with t 60001 (omega arith)) (refl, tt))
-begun_is_shaped run log s i t statement.Commit =
-    let g = log ++ run.opened in
+word_shaped g s i t Commits =
     cond_both (eqb t 0) (surely (Refusing t 3902) (Refused nothing_to_commit)) (surely (Committing t) Done) (BecomesShaped g s i t)
     (λ e. surely_shaped g s i t (Refusing t 3902) (Refused nothing_to_commit) (refuses_with t 3902 (omega arith)) (refl, tt))
     (λ e. surely_shaped g s i t (Committing t) Done (refl, some_open t e) (refl, (refl, tt)))
-begun_is_shaped run log s i t statement.Rollback =
-    let g = log ++ run.opened in
+word_shaped g s i t RollsBack =
     cond_both (eqb t 0) (surely (Refusing t 3903) (Refused nothing_to_undo)) (surely (RollingBack t (left_of t g)) Done) (BecomesShaped g s i t)
     (λ e. surely_shaped g s i t (Refusing t 3903) (Refused nothing_to_undo) (refuses_with t 3903 (omega arith)) (refl, tt))
     (λ e. surely_shaped g s i t (RollingBack t (left_of t g)) Done (refl, some_open t e, refl) (refl, long_undos t (left_of t g)))
-begun_is_shaped run log s i t (statement.Insert table key payload) =
-    end_shaped (log ++ run.opened) s i t (insert_plan (shape_of run) table key payload (view_at run log t)).ending
-    (insert_numbered (shape_of run) table key payload (view_at run log t))
-begun_is_shaped run log s i t (statement.Count table) =
-    end_shaped (log ++ run.opened) s i t (count_plan (shape_of run) table (view_at run log t)).ending (count_numbered (shape_of run) table (view_at run log t))
-begun_is_shaped run log s i t (statement.Check workers) = damage_shaped run log (log ++ run.opened) s i t (damaged_page run.opened run.image)
+
+kind_shaped : (run : Setting) (log : List Record) (s i t : ℕ) (kind : StatementKind) → IfPlanned EndsAlways kind → BecomesShaped (log ++ run.opened) s i t (by_kind run log t kind)
+kind_shaped run log s i t (Transacts word) ends = word_shaped (log ++ run.opened) s i t word
+kind_shaped run log s i t (Plans plan) ends = end_shaped (log ++ run.opened) s i t (view_at run log t) (plan (view_at run log t)).ending (ends (view_at run log t))
+kind_shaped run log s i t Checks ends = damage_shaped run log (log ++ run.opened) s i t (damaged_page run.opened run.image)
+
+pub begun_is_shaped : (run : Setting) (log : List Record) (s i t : ℕ) (st : Statement) → IsShaped (log ++ run.opened) s i t (begun run log s i t st)
+begun_is_shaped run log s i t st = kind_shaped run log s i t (kind_of (shape_of run) st) (statement_ends (shape_of run) st)

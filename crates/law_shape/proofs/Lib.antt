@@ -3,7 +3,6 @@ pub mod Begins
 pub mod Ends
 pub mod Items
 pub mod Marking
-pub mod Numbered
 pub mod Owed
 pub mod Parts
 pub mod Shaped

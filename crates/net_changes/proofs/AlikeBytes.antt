@@ -11,7 +11,7 @@ use Rattle.spec_log.specs.Cells.{map_bit}
 use Rattle.spec_plan.specs.declared.plan.Planned.{Planned}
 use Rattle.law_cover.proofs.Places.{extents_guard_bits, pages_guard_bytes}
 use Rattle.law_cover.proofs.Pages.{pfs_inside}
-use Rattle.law_plan.proofs.PageChanges.{slice_same}
+use Rattle.law_net.proofs.PageChanges.{slice_same}
 use Rattle.spec_words.specs.NetChanges.{FileShape, is_turned, bit_change, bit_changes, is_byte_changed, run_length, begins_run, run_change, run_changes}
 use Rattle.law_net.proofs.Fits.{bit_inside, low_bit, low_byte}
 use Rattle.law_net.proofs.Images.{whole_page}

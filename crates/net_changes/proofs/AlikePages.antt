@@ -16,9 +16,9 @@ use Rattle.spec_log.specs.declared.item.Cell.TheVariants.{Bytes}
 use Rattle.spec_plan.specs.declared.plan.Planned.{Planned}
 use Rattle.spec_plan.specs.Changes as plan
 use Rattle.law_cover.proofs.Pages.{pages_guard_themselves, catalog_guards_boot}
-use Rattle.law_plan.proofs.PageChanges.{Within, differing_within}
+use Rattle.law_net.proofs.PageChanges.{Within, differing_within}
 use Rattle.spec_words.specs.NetChanges.{FileShape, differing, cell_over, part_changes, is_iam, becomes_allocated, slots_start, page_changes, is_page_changed, bit_changes, run_changes, changes_of}
-use Rattle.law_net.proofs.RowChanges.{part_none}
+use Rattle.law_net.proofs.Covered.{part_none}
 use Rattle.net_changes.proofs.Alike.{Alike, AreBoth, page_alike, rises_alike, falls_alike}
 use Rattle.net_changes.proofs.AlikeBytes.{gam_alike, sgam_alike, bits_same, pfs_alike, runs_same}
 use Rattle.net_changes.proofs.Ranges.{flat_range}

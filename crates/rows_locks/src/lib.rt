@@ -1,7 +1,9 @@
 //! The tests of what a statement is planned over: the lock table, and on a view in memory a heap whose rows are
-//! counted, and that gets one more, what a statement changes and takes, and how it is planned.
+//! counted and found by their key, and that gets one more, what a statement changes and takes, and how it is planned.
 #![tactic(auto)]
 
+#[cfg(test)]
+mod alloc_tests;
 #[cfg(test)]
 mod changes;
 #[cfg(test)]
@@ -16,3 +18,5 @@ mod made;
 mod net_tests;
 #[cfg(test)]
 mod plan_tests;
+#[cfg(test)]
+mod select_tests;

@@ -8,7 +8,7 @@ use crate::made::{HEAP, locks_on, pages_of};
 use db_locks::MemView;
 use db_plan::{Plan, PlanAt, plan};
 use pg_base::{Geometry, ObjId, PageNo, Resource, Tran};
-use rows_files::pieces::Piece::{Bytes, Chain, Heap, HeapPage, Pfs, Slots};
+use rows_files::pieces::Piece::{Bytes, Chain, Heap, HeapPage, Pfs, Rows, Slots};
 use rows_files::pieces::{ONLY, Piece};
 use spec_log::Values;
 use spec_script::{Name, Refusal, Reply, Statement};
@@ -37,6 +37,16 @@ fn counting(alloc: Global) -> Result<Statement, Fail>
     ensures planned { IfOk result (λ s. is_planned s ≡ true) }
 {
     Ok(Statement::Count(Name::copied(alloc, "t")?))
+}
+
+fn selecting(alloc: Global) -> Result<Statement, Fail>
+    ensures proper { IfOk result (λ s. is_statement s ≡ true) }
+    ensures planned { IfOk result (λ s. is_planned s ≡ true) }
+{
+    Ok(Statement::Select {
+        table: Name::copied(alloc, "t")?,
+        key: 7,
+    })
 }
 
 fn inserting(alloc: Global) -> Result<Statement, Fail>
@@ -102,6 +112,35 @@ fn a_count_only_reads(rt: HostRuntime) -> Result<(), Fail> {
     for (parts, rows) in COUNTS.iter() {
         let found = planned(alloc, &counting(alloc)?, parts, &[], NOTHING)?;
         assert!(rt; is_count(&found, *rows));
+    }
+    Ok(())
+}
+
+// Page 10 has two rows of 11 bytes; these two of key 7 stand behind them.
+const TWO_SEVENS: &[Piece] = &[
+    Rows(10, &[(7, 12), (7, 12)]),
+    Bytes(10, 129, b"b"),
+    Bytes(10, 141, b"a"),
+];
+
+// A file, and how many rows of key 7 its heap has.
+static SELECTS: [(&[&[Piece]], u64); 2] = [(&[HEAP], 0), (&[HEAP, TWO_SEVENS], 2)];
+
+fn is_select(found: &Result<Plan, Refusal>, rows: u64) -> bool {
+    match found {
+        Ok(Plan::Read(Reply::Rows { count, payloads })) => {
+            *count == rows && payloads.count() as u64 == rows
+        }
+        _ => false,
+    }
+}
+
+#[test]
+fn a_select_only_reads(rt: HostRuntime) -> Result<(), Fail> {
+    let alloc = rt.alloc();
+    for (parts, rows) in SELECTS.iter() {
+        let found = planned(alloc, &selecting(alloc)?, parts, &[], NOTHING)?;
+        assert!(rt; is_select(&found, *rows));
     }
     Ok(())
 }

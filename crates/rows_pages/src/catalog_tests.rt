@@ -2,7 +2,10 @@
 ghost use Rattle.std.specs.Prelude.{◌<◌};
 
 use crate::made::{expect, expect_bytes, expect_case};
-use db_cat::{CatRow, CatStop, catalog_passes, read_catalog};
+use db_cat::{
+    CatRow, CatStop, add, catalog_passes, entry_of, free_entry, free_id, may_enter, read_catalog,
+    remove,
+};
 use pg_base::{Geometry, Kind, ObjId, Page, PageNo, put_u32};
 use pg_iam::{IamView, make_iam, set_mark, set_slot, test_iam};
 use std::alloc::Global;
@@ -79,6 +82,141 @@ fn a_bad_catalog_is_not_read(rt: HostRuntime) -> Result<(), Fail> {
     let mut page = Page::zeroed(rt.alloc())?;
     page.bytes[136] = 1;
     expect(&rt, is_bad(rt.alloc(), &page));
+    Ok(())
+}
+
+fn heap(alloc: Global, id: u32, name: &str) -> Result<CatRow, Fail> {
+    Ok(CatRow {
+        id: ObjId(id),
+        kind: Kind::Heap,
+        name: String::from_str(alloc, name)?,
+        first_iam: PageNo(8),
+        root: PageNo(0),
+    })
+}
+
+// Whether the row is added; none where it may not be.
+fn adds(page: &mut Page, row: &CatRow) -> Option<bool> {
+    if !may_enter(page, row) {
+        return None;
+    }
+    Some(add(page, row).is_ok())
+}
+
+// Whether an entry is emptied; none in a bad catalog.
+fn removes(page: &mut Page, id: u32) -> Option<bool> {
+    if !catalog_passes(page) {
+        return None;
+    }
+    Some(remove(page, ObjId(id)))
+}
+
+fn smallest_id(alloc: Global, page: &Page) -> Result<u32, Fail> {
+    let rows = read_catalog(alloc, page)?;
+    if rows.len() > 128 {
+        return Ok(0);
+    }
+    Ok(free_id(&rows).0)
+}
+
+static HEAP_T: [u8; 40] = [
+    1, 0, 0, 0, 1, 1, b't', 0, 0, 0, 0, 0, 0, 0, 0, 0, 0, 0, 0, 0, 0, 0, 0, 0, 8, 0, 0, 0, 0, 0, 0,
+    0, 0, 0, 0, 0, 0, 0, 0, 0,
+];
+
+#[test]
+fn an_entry_is_put_and_emptied(rt: HostRuntime) -> Result<(), Fail> {
+    let mut page = Page::zeroed(rt.alloc())?;
+    let t = heap(rt.alloc(), 1, "t")?;
+    expect(&rt, adds(&mut page, &t) == Some(true));
+    expect_bytes(&rt, &page.bytes[96..136], &HEAP_T);
+    expect(&rt, adds(&mut page, &t) == None);
+    expect(
+        &rt,
+        adds(&mut page, &heap(rt.alloc(), 2, "a_9")?) == Some(true),
+    );
+    expect_bytes(
+        &rt,
+        &page.bytes[136..146],
+        &[2, 0, 0, 0, 1, 3, b'a', b'_', b'9', 0],
+    );
+    expect(
+        &rt,
+        removes(&mut page, 1) == Some(true) && removes(&mut page, 1) == Some(false),
+    );
+    expect_bytes(&rt, &page.bytes[96..136], &[0; 40]);
+    Ok(())
+}
+
+#[test]
+fn the_lowest_entry_and_the_smallest_id_are_free(rt: HostRuntime) -> Result<(), Fail> {
+    let mut page = Page::zeroed(rt.alloc())?;
+    expect(&rt, smallest_id(rt.alloc(), &page)? == 1);
+    put_entry(&mut page, 96, 1, b't');
+    put_entry(&mut page, 176, 3, b's');
+    expect(
+        &rt,
+        free_entry(&page) == Some(1) && smallest_id(rt.alloc(), &page)? == 2,
+    );
+    expect(
+        &rt,
+        entry_of(&page, ObjId(3)) == Some(2) && entry_of(&page, ObjId(2)) == None,
+    );
+    Ok(())
+}
+
+static FORM_CASES: [(u32, &str, Option<bool>); 5] = [
+    (1, "a123456789012345", Some(true)),
+    (1, "a1234567890123456", None),
+    (0, "t", None),
+    (1, "", None),
+    (1, "T", None),
+];
+
+#[test]
+fn only_rows_may_enter(rt: HostRuntime) -> Result<(), Fail> {
+    for (id, name, wanted) in FORM_CASES.iter() {
+        let mut page = Page::zeroed(rt.alloc())?;
+        let row = heap(rt.alloc(), *id, name)?;
+        expect_case(
+            &rt,
+            *id,
+            name.len() as u32,
+            adds(&mut page, &row) == *wanted,
+        );
+    }
+    Ok(())
+}
+
+// 128 objects, with ids from 1 and names of two letters.
+fn fill_catalog(page: &mut Page) {
+    for i in 0..128 {
+        put_entry(page, 96 + 40 * i, i as u32 + 1, b'a' + (i / 16) as u8);
+        page.bytes[96 + 40 * i + 5] = 2;
+        page.bytes[96 + 40 * i + 7] = b'a' + (i % 16) as u8;
+    }
+}
+
+#[test]
+fn a_full_catalog_gets_no_more(rt: HostRuntime) -> Result<(), Fail> {
+    let mut page = Page::zeroed(rt.alloc())?;
+    fill_catalog(&mut page);
+    expect(
+        &rt,
+        free_entry(&page) == None && smallest_id(rt.alloc(), &page)? == 129,
+    );
+    expect(
+        &rt,
+        adds(&mut page, &heap(rt.alloc(), 129, "t")?) == Some(false),
+    );
+    expect(
+        &rt,
+        catalog_passes(&page) && removes(&mut page, 128) == Some(true),
+    );
+    expect(
+        &rt,
+        adds(&mut page, &heap(rt.alloc(), 129, "t")?) == Some(true),
+    );
     Ok(())
 }
 

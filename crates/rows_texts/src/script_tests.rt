@@ -33,6 +33,13 @@ fn kind_of(statement: &Statement) -> u32 {
             }
         }
         Statement::Count(_) => 102,
+        Statement::Select { table, key } => {
+            if is_name(table, "t") && *key == 18_446_744_073_709_551_615 {
+                105
+            } else {
+                106
+            }
+        }
         Statement::Check { workers } => u32::from(*workers),
         _ => 103,
     }
@@ -45,9 +52,9 @@ fn is_the_row(table: &Name, key: u64, payload: &Values<u8>) -> bool {
 
 // A script, and the kinds of its statements.
 static SCRIPT: &str =
-    "BEGIN\r\n\n-- a note\nINSERT t 0 'it is'\nDBCC CHECKDB\nDBCC CHECKDB WITH MAXDOP = 16\nCOUNT t_1";
+    "BEGIN\r\n\n-- a note\nINSERT t 0 'it is'\nDBCC CHECKDB\nDBCC CHECKDB WITH MAXDOP = 16\nCOUNT t_1\nSELECT t 18446744073709551615";
 
-static KINDS: [u32; 5] = [100, 101, 4, 16, 102];
+static KINDS: [u32; 6] = [100, 101, 4, 16, 102, 105];
 
 fn expect_kinds(rt: &impl Abort, alloc: Global, text: &str, wanted: &[u32]) {
     let found = read_script(alloc, text.as_bytes()).expect(rt, "the script is right");
@@ -65,7 +72,7 @@ fn a_script_is_read_line_by_line(rt: HostRuntime) {
     expect_kinds(&rt, rt.alloc(), "", &[]);
 }
 
-static WRONG_SCRIPTS: [(&str, u32); 11] = [
+static WRONG_SCRIPTS: [(&str, u32); 17] = [
     ("BEGIN\nCOMMIT\nSELEC t 1\nCOUNT\n", 3),
     ("INSERT t 01 'a'", 1),
     ("INSERT t 18446744073709551616 'a'", 1),
@@ -74,6 +81,12 @@ static WRONG_SCRIPTS: [(&str, u32); 11] = [
     ("COUNT  t", 1),
     ("COUNT t ", 1),
     ("count t", 1),
+    ("SELECT t", 1),
+    ("SELECT t 01", 1),
+    ("SELECT t 1 ", 1),
+    ("SELECT  t 1", 1),
+    ("SELECT T 1", 1),
+    ("SELECT t 18446744073709551616", 1),
     ("BEGIN\r", 1),
     ("DBCC CHECKDB WITH MAXDOP = 0", 1),
     ("DBCC CHECKDB WITH MAXDOP = 17", 1),
@@ -123,13 +136,21 @@ fn print_row(rt: &impl Abort, alloc: Global, into: &mut Vec<u8>) {
     print_statement(&row, into).expect(rt, "memory");
 }
 
+fn print_select(rt: &impl Abort, alloc: Global, into: &mut Vec<u8>) {
+    let select = Statement::Select {
+        table: Name::copied(alloc, "abcdefghijklmnop").expect(rt, "memory"),
+        key: 18_446_744_073_709_551_615,
+    };
+    print_statement(&select, into).expect(rt, "memory");
+}
+
 fn print_count(rt: &impl Abort, alloc: Global, into: &mut Vec<u8>) {
     let count = Statement::Count(Name::copied(alloc, "v").expect(rt, "memory"));
     print_statement(&count, into).expect(rt, "memory");
 }
 
 static PRINTED: &str =
-    "ROLLBACK\nINSERT t 18446744073709551615 'a b'\nCOUNT v\nDBCC CHECKDB WITH MAXDOP = 4\n";
+    "ROLLBACK\nINSERT t 18446744073709551615 'a b'\nCOUNT v\nSELECT abcdefghijklmnop 18446744073709551615\nDBCC CHECKDB WITH MAXDOP = 4\n";
 
 #[test]
 fn a_statement_is_printed_with_its_end(rt: HostRuntime) {
@@ -137,6 +158,7 @@ fn a_statement_is_printed_with_its_end(rt: HostRuntime) {
     print_statement(&Statement::Rollback, &mut text).expect(&rt, "memory");
     print_row(&rt, rt.alloc(), &mut text);
     print_count(&rt, rt.alloc(), &mut text);
+    print_select(&rt, rt.alloc(), &mut text);
     print_statement(&Statement::Check { workers: 4 }, &mut text).expect(&rt, "memory");
     let is_same = text.as_slice() == PRINTED.as_bytes();
     assert!(rt; is_same);

@@ -1,3 +1,5 @@
 pub mod NameLaws
 pub mod ImageLaws
 pub mod PlacesLaws
+pub mod EntryLaws
+pub mod CatalogLaws

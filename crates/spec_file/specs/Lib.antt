@@ -6,6 +6,7 @@ pub mod Roles
 pub mod Catalog
 pub mod FileForm
 pub mod CatalogRows
+pub mod CatalogBytes
 pub mod Iam
 pub mod Pfs
 pub mod Kinds

@@ -1,11 +1,11 @@
 -- What a statement asks of a heap page, and the page with one row more (this project's own).
-use Rattle.std.specs.Prelude.{ℕ, ◌+◌, ◌-◌, ◌*◌, ◌==◌, ◌&&◌, ◌||◌, Bool, nat_le, if◌then◌else◌, is_none, List, ◌++◌, length, take, drop, replicate, flat_map, reverse, slice_range}
-use Rattle.std.specs.List.{list_all, range_with_len}
+use Rattle.std.specs.Prelude.{ℕ, ◌+◌, ◌-◌, ◌*◌, ◌%◌, ◌==◌, ◌&&◌, ◌||◌, Bool, nat_le, if◌then◌else◌, is_none, Option, Some, None, List, ◌++◌, length, take, drop, replicate, flat_map, reverse, slice_range}
+use Rattle.std.specs.List.{list_all, filter_map, range_with_len}
 use Rattle.byteorder.specs.Endian.{little_bytes}
 use Rattle.spec_file.specs.declared.data.Kind.TheVariants.{Heap}
 use Rattle.spec_file.specs.Header.{header_of, header_version}
-use Rattle.spec_rows.specs.Rows.{DataRow, row_bytes}
-use Rattle.spec_rows.specs.Slots.{slot_count, rows_end, slot_at, row_end, rows_size, page_row}
+use Rattle.spec_rows.specs.Rows.{PageRow, DataRow, row_bytes, row_of}
+use Rattle.spec_rows.specs.Slots.{slot_count, rows_end, slot_at, row_end, rows_size, page_row, page_rows}
 use Rattle.spec_rows.specs.PageTest.{owner_fault, form_fault, slot_fault, has_free_count}
 
 -- the rows of two slots don't overlap
@@ -27,9 +27,22 @@ free_count bytes = (header_of bytes).free_count
 abbrev pub has_room_for : List ℕ → ℕ → Bool
 has_room_for bytes size = nat_le (size + 2) (free_count bytes)
 
+-- a PFS byte with another fullness
+abbrev pub with_fullness : ℕ → ℕ → ℕ
+with_fullness byte fullness = byte - byte % 8 + fullness
+
 -- the bytes of a heap's row
 abbrev pub heap_row : ℕ → List ℕ → List ℕ
 heap_row key payload = row_bytes (DataRow key payload)
+
+-- the payload of a row that has this key
+abbrev pub payload_with : ℕ → Option PageRow → Option (List ℕ)
+payload_with key (Some (DataRow own payload)) = if own == key then Some payload else None
+payload_with key other = None
+
+-- the payloads of a page's rows that have this key, in the order of their slots
+unfoldable pub payloads_of : ℕ → List ℕ → List (List ℕ)
+payloads_of key bytes = filter_map (λ row. payload_with key (row_of row)) (page_rows bytes)
 
 -- the header with these numbers of slots and of free bytes, and this end of the rows
 abbrev pub counted_header : List ℕ → ℕ → ℕ → ℕ → List ℕ

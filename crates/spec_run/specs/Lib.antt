@@ -3,10 +3,11 @@ pub mod Shapes
 pub mod Sessions
 pub mod Marks
 pub mod Begun
-pub mod Sights
 pub mod Answers
 pub mod Progress
+pub mod OfBytes
 pub mod Turns
 pub mod Bounds
 pub mod Schedules
+pub mod Openings
 pub mod ChangedPages

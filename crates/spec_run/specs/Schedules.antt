@@ -1,9 +1,5 @@
 -- The turns of a whole run (the order is this project's own).
 use Rattle.std.specs.Prelude.{ℕ, ◌+◌, List, [], ◌∷◌, ◌++◌, replicate, flat_map}
-use Rattle.spec_file.specs.Image.{Image}
-use Rattle.spec_file.specs.declared.geometry.Geometry.TheVariants.{Small}
-use Rattle.spec_script.specs.declared.statement.Statement.{Statement}
-use Rattle.spec_run.specs.Begun.{Setting}
 
 -- the turns of a schedule: of each session so many
 abbrev pub turns_of : List (ℕ × ℕ) → List ℕ
@@ -13,7 +9,3 @@ turns_of schedule = flat_map (λ (p : ℕ × ℕ). replicate p.1 p.0) schedule
 abbrev pub rest_from : ℕ → List ℕ → List ℕ
 rest_from s [] = []
 rest_from s (n ∷ counts) = replicate n s ++ rest_from (s + 1) counts
-
--- what a run over these pages and scripts begins with, where its log is empty
-abbrev pub setting_of : Image → List (List Statement) → Setting
-setting_of image scripts = record { geometry = Small; opened = []; image = image; scripts = scripts }

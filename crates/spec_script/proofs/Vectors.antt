@@ -4,7 +4,7 @@ use Rattle.std.specs.Str.Lines.{lines}
 use Rattle.std.proofs.Common.{arith, inl, inr}
 use Rattle.std.proofs.lemmas.Fmt.{decimal_digit}
 use Rattle.spec_file.specs.declared.data.Resource.TheVariants.{Extent}
-use Rattle.spec_script.specs.declared.statement.Statement.TheVariants.{Begin, Commit, Insert, Check}
+use Rattle.spec_script.specs.declared.statement.Statement.TheVariants.{Begin, Commit, Insert, Select, Check}
 use Rattle.spec_script.specs.declared.reply.Reply.TheVariants.{Done}
 use Rattle.spec_script.specs.Lines.{IsStatementLine}
 use Rattle.spec_script.specs.Texts.{IsScript, kept}
@@ -12,6 +12,9 @@ use Rattle.spec_script.specs.Replies.{payload_line, place_of_reply, holder_text,
 
 insert_vector : IsStatementLine (codes "INSERT t 1 'it is'") (Insert (codes "t") 1 (codes "it is"))
 insert_vector = record { allowed = refl; spelled = inl (rw (decimal_digit 1 (omega arith)) refl) }
+
+select_vector : IsStatementLine (codes "SELECT t 1") (Select (codes "t") 1)
+select_vector = record { allowed = refl; spelled = inl (rw (decimal_digit 1 (omega arith)) refl) }
 
 check_vector : IsStatementLine (codes "DBCC CHECKDB") (Check 4)
 check_vector = record { allowed = refl; spelled = inr (refl, refl) }

@@ -5,7 +5,7 @@ use Rattle.spec_file.specs.Catalog.{is_name}
 use Rattle.spec_file.specs.declared.sizes.TheConstants.{PAYLOAD_LIMIT}
 use Rattle.spec_script.specs.declared.limits.TheConstants.{MOST_WORKERS, USUAL_WORKERS, MOST_TURNS}
 use Rattle.spec_script.specs.declared.statement.Statement.{Statement}
-use Rattle.spec_script.specs.declared.statement.Statement.TheVariants.{Begin, Commit, Rollback, Insert, Count, Check}
+use Rattle.spec_script.specs.declared.statement.Statement.TheVariants.{Begin, Commit, Rollback, Insert, Count, Select, Check}
 
 -- a byte from 0x20 to 0x7E
 abbrev pub is_printable : ℕ → Bool
@@ -26,6 +26,7 @@ is_statement Commit = true
 is_statement Rollback = true
 is_statement (Insert table key payload) = is_name table && nat_lt key (2 ^ 64) && is_payload payload
 is_statement (Count table) = is_name table
+is_statement (Select table key) = is_name table && nat_lt key (2 ^ 64)
 is_statement (Check workers) = nat_le 1 workers && nat_le workers MOST_WORKERS
 
 -- the line of a statement; numbers are decimal without leading zeros
@@ -36,6 +37,7 @@ statement_line Rollback = codes "ROLLBACK"
 statement_line (Insert table key payload) =
     codes "INSERT " ++ (table ++ (codes " " ++ (decimal key ++ (codes " '" ++ (payload ++ codes "'")))))
 statement_line (Count table) = codes "COUNT " ++ table
+statement_line (Select table key) = codes "SELECT " ++ (table ++ (codes " " ++ decimal key))
 statement_line (Check workers) = codes "DBCC CHECKDB WITH MAXDOP = " ++ decimal workers
 
 -- the line is that of the statement; a check whose workers aren't named has the usual number

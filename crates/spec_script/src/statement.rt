@@ -15,6 +15,11 @@ pub enum Statement {
     },
     /// How many rows a table has.
     Count(Name),
+    /// The rows of a table that have this key.
+    Select {
+        table: Name,
+        key: u64,
+    },
     /// DBCC CHECKDB.
     Check {
         workers: u8,

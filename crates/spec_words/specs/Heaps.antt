@@ -1,5 +1,5 @@
 -- The statements on heaps, in the words of plans (this project's own).
-use Rattle.std.specs.Prelude.{ℕ, ◌+◌, ◌-◌, ◌%◌, ◌==◌, ◌&&◌, Bool, if◌then◌else◌, List, [], length, sum_by, Option, Some, None}
+use Rattle.std.specs.Prelude.{ℕ, ◌+◌, ◌-◌, ◌%◌, ◌==◌, ◌&&◌, if◌then◌else◌, List, [], length, sum_by, flat_map, Option, Some, None}
 use Rattle.spec_file.specs.declared.data.Resource.TheVariants as resource
 use Rattle.spec_file.specs.Image.{page}
 use Rattle.spec_file.specs.Pfs.{fullness_of}
@@ -10,11 +10,11 @@ use Rattle.spec_rows.specs.Slots.{slot_count}
 use Rattle.spec_script.specs.declared.reply.Reply.{Reply}
 use Rattle.spec_script.specs.declared.reply.Reply.TheVariants.{Rows}
 use Rattle.spec_plan.specs.Refusals.{no_room}
-use Rattle.spec_plan.specs.Rows.{passes_page, has_room_for, heap_row, with_row, free_count}
-use Rattle.spec_plan.specs.Statements.{with_fullness}
+use Rattle.spec_plan.specs.Rows.{passes_page, has_room_for, heap_row, with_row, free_count, payloads_of, with_fullness}
 use Rattle.spec_words.specs.NetChanges.{FileShape}
 use Rattle.spec_words.specs.Views.{Plan}
 use Rattle.spec_words.specs.Words.{◌then◌, give, refuse, sees, where_good, look, take, put_pfs, put_page, found_or, first_of, all_of}
+use Rattle.spec_words.specs.Orders.{in_rising_order}
 use Rattle.spec_words.specs.Tables.{table_of, table_pages}
 
 -- page p of the object: 1222, and 824 where it isn't an ordinary page that passes its test as one of a heap
@@ -31,6 +31,18 @@ count_plan shape name =
     table_pages shape row then (λ pages.
     all_of (heap_page shape row) pages then (λ found.
     give (Rows (sum_by slot_count found) []))))
+
+-- so many rows were found, with these payloads
+abbrev pub rows_found : List (List ℕ) → Reply
+rows_found payloads = Rows (length payloads) payloads
+
+-- SELECT reads all pages of the object, rising, and answers the payloads of the rows that have this key, in rising order
+abbrev pub select_plan : FileShape → List ℕ → ℕ → Plan Reply
+select_plan shape name key =
+    table_of name then (λ row.
+    table_pages shape row then (λ pages.
+    all_of (heap_page shape row) pages then (λ found.
+    give (rows_found (in_rising_order (flat_map (payloads_of key) found))))))
 
 -- page p, where it has room for so many bytes. One that is full by its PFS byte isn't read; one that isn't ordinary is
 -- 824 whatever its PFS byte says

@@ -3,5 +3,6 @@ pub mod Takes
 pub mod Views
 pub mod Words
 pub mod Tables
+pub mod Orders
 pub mod Heaps
 pub mod Statements

@@ -4,7 +4,7 @@ use Rattle.spec_script.specs.declared.statement.Statement.{Statement}
 use Rattle.spec_script.specs.declared.statement.Statement.TheVariants as statement
 use Rattle.spec_words.specs.NetChanges.{FileShape}
 use Rattle.spec_words.specs.Views.{Plan}
-use Rattle.spec_words.specs.Heaps.{count_plan, insert_plan}
+use Rattle.spec_words.specs.Heaps.{count_plan, insert_plan, select_plan}
 
 -- a statement about transactions, which reads no page
 pub data TransactionWord : Type 0 where
@@ -25,4 +25,5 @@ kind_of shape statement.Commit = Transacts Commits
 kind_of shape statement.Rollback = Transacts RollsBack
 kind_of shape (statement.Insert table key payload) = Plans (insert_plan shape table key payload)
 kind_of shape (statement.Count table) = Plans (count_plan shape table)
+kind_of shape (statement.Select table key) = Plans (select_plan shape table key)
 kind_of shape (statement.Check workers) = Checks

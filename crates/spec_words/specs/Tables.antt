@@ -1,6 +1,6 @@
 -- What every statement on a table reads, in the words of plans: page 9, the chain of IAM pages, the PFS bytes (the order
 -- is this project's own).
-use Rattle.std.specs.Prelude.{ℕ, zero, suc, ◌==◌, ◌&&◌, ◌||◌, not, is_none, Bool, if◌then◌else◌, List, [], ◌∷◌, ◌++◌, length, filter, Option, Some, None}
+use Rattle.std.specs.Prelude.{ℕ, zero, suc, ◌==◌, ◌&&◌, ◌||◌, not, is_none, Bool, if◌then◌else◌, List, [], ◌∷◌, ◌++◌, length, filter}
 use Rattle.std.specs.List.{list_any}
 use Rattle.spec_file.specs.declared.data.Resource.TheVariants as resource
 use Rattle.spec_file.specs.declared.page_type.TheConstants.{PFS_TYPE}

@@ -12,7 +12,7 @@ use Rattle.spec_file.specs.Catalog.{is_name, is_name_byte}
 use Rattle.spec_script.specs.Lines.{is_printable, is_payload, is_payload_byte, is_statement, statement_line, IsStatementLine}
 use Rattle.spec_script.specs.Texts.{AreLines, kept, is_skipped}
 use Rattle.spec_script.specs.declared.statement.Statement.{Statement}
-use Rattle.spec_script.specs.declared.statement.Statement.TheVariants.{Begin, Commit, Rollback, Insert, Count, Check}
+use Rattle.spec_script.specs.declared.statement.Statement.TheVariants.{Begin, Commit, Rollback, Insert, Count, Select, Check}
 use Rattle.sql_script.specs.Laws.{IsReadAgain, printed}
 use Rattle.spec_file.proofs.NameLaws.{name_bytes}
 use Rattle.sql_script.proofs.Numbers.{own}
@@ -59,6 +59,9 @@ plain_line (Insert table key payload) h =
     let numbered = plain_both (decimal key) (codes " '" ++ (payload ++ codes "'")) (plain_decimal key (ltb-true key (2 ^ 64) front.1)) quoted in
     plain_both table (codes " " ++ (decimal key ++ (codes " '" ++ (payload ++ codes "'")))) (plain_name table front.0) numbered
 plain_line (Count table) h = plain_name table h
+plain_line (Select table key) h =
+    let parts = and_parts (is_name table) (nat_lt key (2 ^ 64)) h in
+    plain_both table (codes " " ++ decimal key) (plain_name table parts.0) (plain_decimal key (ltb-true key (2 ^ 64) parts.1))
 plain_line (Check workers) h = plain_decimal workers (omega (arith, leb-true workers 16 (and_parts (nat_le 1 workers) (nat_le workers 16) h).1))
 
 -- a line that begins with a letter is not skipped
@@ -71,6 +74,7 @@ shown_line Commit = refl
 shown_line Rollback = refl
 shown_line (Insert table key payload) = ap (λ (t : Bool). not (t || false)) (begins_shown 73 (drop 1 (statement_line (Insert table key payload))))
 shown_line (Count table) = ap (λ (t : Bool). not (t || false)) (begins_shown 67 (drop 1 (statement_line (Count table))))
+shown_line (Select table key) = ap (λ (t : Bool). not (t || false)) (begins_shown 83 (drop 1 (statement_line (Select table key))))
 shown_line (Check workers) = ap (λ (t : Bool). not (t || false)) (begins_shown 68 (drop 1 (statement_line (Check workers))))
 
 prints_no_end : (b : ℕ) → is_printable b ≡ true → ((b == 10) ≡ false) × ((b == 13) ≡ false)

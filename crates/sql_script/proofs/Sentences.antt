@@ -7,8 +7,8 @@ use Rattle.std.proofs.lemmas.Slice.Eq.{bytes_eq-Decides}
 use Rattle.spec_file.specs.Catalog.{is_name}
 use Rattle.spec_script.specs.Lines.{is_payload, is_statement, statement_line, IsStatementLine, IsTurnsLine, turns_line}
 use Rattle.spec_script.specs.declared.statement.Statement.{Statement}
-use Rattle.spec_script.specs.declared.statement.Statement.TheVariants.{Begin, Commit, Rollback, Insert, Count, Check}
-use Rattle.sql_script.specs.Reading.{◌>>=◌, after, cut_at_space, number_of, number_within, name_of, payload_of, row_of, insert_of, count_of, check_of, keyword_of, said, statement_of, turns_of}
+use Rattle.spec_script.specs.declared.statement.Statement.TheVariants.{Begin, Commit, Rollback, Insert, Count, Select, Check}
+use Rattle.sql_script.specs.Reading.{◌>>=◌, after, cut_at_space, number_of, number_within, name_of, payload_of, row_of, insert_of, count_of, select_of, check_of, keyword_of, said, statement_of, turns_of}
 use Rattle.sql_script.specs.Stops.{Tells}
 use Rattle.sql_script.proofs.Spelling.{bind_ok, map_ok, after_parts, cut_spelled, cut_parts}
 use Rattle.sql_script.proofs.Figures.{decimal_no_space, name_no_space, number_spelled, number_parts, within_spelled, within_parts, name_spelled, name_parts, payload_spelled, payload_parts}
@@ -58,6 +58,17 @@ row_parts words row e =
       plain = quoted.1;
     })
 
+-- a record of what a select's words are
+record IsSelect (words table : List ℕ) (key : ℕ) : Type 0 where
+  spelled : words ≡ table ++ (codes " " ++ decimal key)
+  named : IsTrue (is_name table)
+  small : key < 2 ^ 64
+
+select_spelled : (table : List ℕ) (key : ℕ) → IsTrue (is_name table) → key < 2 ^ 64 → select_of (table ++ (codes " " ++ decimal key)) ≡ Some (Select table key)
+unfolding select_of
+select_spelled table key named small =
+    rw (cut_spelled table (decimal key) (name_no_space table named), name_spelled table named, number_spelled key small) refl
+
 -- the line of a statement is read into it
 pub spelled : (s : Statement) → IsTrue (is_statement s) → statement_of (statement_line s) ≡ Some s
 unfolding statement_of keyword_of after insert_of count_of check_of
@@ -69,6 +80,9 @@ spelled (Insert table key payload) h =
     let front = and_parts (is_name table) (nat_lt key (2 ^ 64)) parts.0 in
     ap (option_map (λ row. Insert row.0 row.1 row.2)) (row_spelled table key payload front.0 (ltb-true key (2 ^ 64) front.1) parts.1)
 spelled (Count table) h = ap (option_map (λ name. Count name)) (name_spelled table h)
+spelled (Select table key) h =
+    let parts = and_parts (is_name table) (nat_lt key (2 ^ 64)) h in
+    select_spelled table key parts.0 (ltb-true key (2 ^ 64) parts.1)
 spelled (Check workers) h =
     let parts = and_parts (nat_le 1 workers) (nat_le workers 16) h in
     ap (option_map (λ n. Check n)) (within_spelled 1 16 workers (omega (arith, leb-true workers 16 parts.1)) h)
@@ -103,6 +117,33 @@ count_parts line rest s spelling e =
     let name = map_ok (λ (table : List ℕ). Count table) (name_of rest) s e in
     let is = name_parts rest name.0 name.1 in
     subst (IsStatementLine line) name.2 (record { allowed = is.1; spelled = inl (spelling ∙ ap (λ l. codes "COUNT " ++ l) is.0) })
+
+select_words : (words : List ℕ) (s : Statement) → select_of words ≡ Some s → (table : List ℕ) × (key : ℕ) × IsSelect words table key × (Select table key ≡ s)
+unfolding select_of
+select_words words s e =
+    let from_name = λ (parts : List ℕ × List ℕ) (table : List ℕ). number_of parts.1 >>= λ key. Some (Select table key) in
+    let parts = bind_ok (cut_at_space words) (λ parts. name_of parts.0 >>= λ table. from_name parts table) s e in
+    let table = bind_ok (name_of parts.0.0) (λ table. from_name parts.0 table) s parts.2 in
+    let key = bind_ok (number_of parts.0.1) (λ key. Some (Select table.0 key)) s table.2 in
+    let name = name_parts parts.0.0 table.0 table.1 in
+    let number = number_parts parts.0.1 key.0 key.1 in (
+      table.0,
+      key.0,
+      record {
+        spelled = cut_parts words parts.0 parts.1 ∙ ap (λ l. l ++ (codes " " ++ parts.0.1)) name.0 ∙ ap (λ l. table.0 ++ (codes " " ++ l)) number.0;
+        named = name.1;
+        small = number.1;
+      },
+      same_Some (Select table.0 key.0) s key.2,
+    )
+
+select_parts : (line rest : List ℕ) (s : Statement) → line ≡ codes "SELECT " ++ rest → select_of rest ≡ Some s → IsStatementLine line s
+select_parts line rest s spelling e =
+    let w = select_words rest s e in
+    subst (IsStatementLine line) w.3 (record {
+      allowed = and_from (is_name w.0) (nat_lt w.1 (2 ^ 64)) w.2.named (lt-ltb w.1 (2 ^ 64) w.2.small);
+      spelled = inl (spelling ∙ ap (λ l. codes "SELECT " ++ l) w.2.spelled);
+    })
 
 check_parts : (line rest : List ℕ) (s : Statement) → line ≡ codes "DBCC CHECKDB WITH MAXDOP = " ++ rest → check_of rest ≡ Some s → IsStatementLine line s
 unfolding check_of
@@ -140,9 +181,11 @@ unfolding statement_of
 sound line s e =
     ⊎_elim (λ p. insert_parts line p.0 s (after_parts (codes "INSERT ") line p.0 p.1) p.2)
     (λ e1. ⊎_elim (λ p. count_parts line p.0 s (after_parts (codes "COUNT ") line p.0 p.1) p.2)
-    (λ e2. ⊎_elim (λ p. check_parts line p.0 s (after_parts (codes "DBCC CHECKDB WITH MAXDOP = ") line p.0 p.1) p.2)
-    (λ e3. keyword_parts line s e3)
-    (said_ok (after (codes "DBCC CHECKDB WITH MAXDOP = ") line) check_of (keyword_of line) s e2))
+    (λ e2. ⊎_elim (λ p. select_parts line p.0 s (after_parts (codes "SELECT ") line p.0 p.1) p.2)
+    (λ e3. ⊎_elim (λ p. check_parts line p.0 s (after_parts (codes "DBCC CHECKDB WITH MAXDOP = ") line p.0 p.1) p.2)
+    (λ e4. keyword_parts line s e4)
+    (said_ok (after (codes "DBCC CHECKDB WITH MAXDOP = ") line) check_of (keyword_of line) s e3))
+    (said_ok (after (codes "SELECT ") line) select_of _ s e2))
     (said_ok (after (codes "COUNT ") line) count_of _ s e1))
     (said_ok (after (codes "INSERT ") line) insert_of _ s e)
 

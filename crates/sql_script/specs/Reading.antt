@@ -6,7 +6,7 @@ use Rattle.spec_file.specs.Catalog.{is_name}
 use Rattle.spec_script.specs.Lines.{is_payload}
 use Rattle.spec_script.specs.declared.limits.TheConstants.{MOST_WORKERS, USUAL_WORKERS, MOST_TURNS}
 use Rattle.spec_script.specs.declared.statement.Statement.{Statement}
-use Rattle.spec_script.specs.declared.statement.Statement.TheVariants.{Begin, Commit, Rollback, Insert, Count, Check}
+use Rattle.spec_script.specs.declared.statement.Statement.TheVariants.{Begin, Commit, Rollback, Insert, Count, Select, Check}
 
 infixl 10 ◌>>=◌
 abbrev pub ◌>>=◌ : {A B : Type 0} → Option A → (A → Option B) → Option B
@@ -78,6 +78,11 @@ insert_of words = option_map (λ row. Insert row.0 row.1 row.2) (row_of words)
 unfoldable pub count_of : List ℕ → Option Statement
 count_of word = option_map (λ table. Count table) (name_of word)
 
+-- table and key
+unfoldable pub select_of : List ℕ → Option Statement
+select_of words =
+    cut_at_space words >>= λ parts. name_of parts.0 >>= λ table. number_of parts.1 >>= λ key. Some (Select table key)
+
 unfoldable pub check_of : List ℕ → Option Statement
 check_of digits = option_map (λ workers. Check workers) (number_within 1 MOST_WORKERS digits)
 
@@ -91,4 +96,5 @@ unfoldable pub statement_of : List ℕ → Option Statement
 statement_of line =
     said (after (codes "INSERT ") line) insert_of
     (said (after (codes "COUNT ") line) count_of
-    (said (after (codes "DBCC CHECKDB WITH MAXDOP = ") line) check_of (keyword_of line)))
+    (said (after (codes "SELECT ") line) select_of
+    (said (after (codes "DBCC CHECKDB WITH MAXDOP = ") line) check_of (keyword_of line))))

@@ -48,6 +48,19 @@ fn count_line(table: &str) -> Head
     line
 }
 
+fn select_line(table: &str, key: u64) -> Head
+    requires { length table.now ≤ 16 }
+    ensures { result.bytes ≡ (codes "SELECT " ++ (table.now ++ (codes " " ++ decimal key))) ++ codes "\n" }
+{
+    let mut line = Head::new();
+    line.push_str("SELECT ");
+    line.push_str(table);
+    line.push_str(" ");
+    push_number(&mut line, key);
+    line.push_str("\n");
+    line
+}
+
 fn check_line(workers: u8) -> Head
     ensures { result.bytes ≡ (codes "DBCC CHECKDB WITH MAXDOP = " ++ decimal workers) ++ codes "\n" }
 {
@@ -77,6 +90,9 @@ pub fn print_statement(statement: &Statement, into: &mut Vec<u8>) -> Result<(), 
             append_three(into, head.as_str().as_bytes(), payload.as_slice(), b"'\n")
         }
         Statement::Count(table) => append(into, count_line(table.as_str()).as_str().as_bytes()),
+        Statement::Select { table, key } => {
+            append(into, select_line(table.as_str(), *key).as_str().as_bytes())
+        }
         Statement::Check { workers } => append(into, check_line(*workers).as_str().as_bytes()),
     }
 }

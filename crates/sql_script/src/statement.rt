@@ -1,6 +1,7 @@
 // The statement of a line.
 ghost use Rattle.std.specs.Prelude.{◌≡◌, option_map, IfOk, IfSome, IsTrue, bytes_eq};
 ghost use Rattle.spec_file.specs.Catalog.{is_name};
+ghost use Rattle.spec_script.specs.declared.statement.Statement.TheVariants.{Select};
 ghost use Rattle.sql_script.specs.Reading as spec;
 
 use crate::words::{after, cut_at_space, name_of, number_of, number_within, payload_of};
@@ -69,6 +70,36 @@ fn count_of(alloc: Global, word: &[u8]) -> Result<Option<Statement>, NoMemory>
     Ok(Some(Statement::Count(name_from(alloc, word)?)))
 }
 
+// What a SELECT names.
+#[derive(Clone, Copy)]
+struct Place<'a> {
+    table: &'a [u8],
+    key: u64,
+}
+
+#[tactic(auto, unfolding(crate::specs::Reading::select_of))]
+fn place_of(words: &[u8]) -> Option<Place<'_>>
+    ensures place { option_map (λ place. Select place.table.now place.key) result ≡ spec.select_of words.now }
+    ensures named { IfSome result (λ place. IsTrue (is_name place.table.now)) }
+{
+    let (table, digits) = cut_at_space(words)?;
+    let table = name_of(table)?;
+    let key = number_of(digits)?;
+    Some(Place { table, key })
+}
+
+fn select_of(alloc: Global, words: &[u8]) -> Result<Option<Statement>, NoMemory>
+    ensures { IfOk result (λ statement. statement ≡ spec.select_of words.now) }
+{
+    let Some(place) = place_of(words) else {
+        return Ok(None);
+    };
+    Ok(Some(Statement::Select {
+        table: name_from(alloc, place.table)?,
+        key: place.key,
+    }))
+}
+
 #[tactic(auto, unfolding(crate::specs::Reading::check_of))]
 fn check_of(digits: &[u8]) -> Option<Statement>
     ensures { result ≡ spec.check_of digits.now }
@@ -116,6 +147,9 @@ pub(crate) fn statement_of(alloc: Global, line: &[u8]) -> Result<Option<Statemen
     }
     if let Some(word) = after(line, b"COUNT ") {
         return count_of(alloc, word);
+    }
+    if let Some(words) = after(line, b"SELECT ") {
+        return select_of(alloc, words);
     }
     if let Some(digits) = after(line, b"DBCC CHECKDB WITH MAXDOP = ") {
         return Ok(check_of(digits));

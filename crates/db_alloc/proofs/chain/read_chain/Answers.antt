@@ -1,5 +1,6 @@
-use Rattle.std.proofs.Common.{ℕ, ◌+◌, ◌-◌, List, [], ◌∷◌, ◌++◌, refl, sym, ap, ◌∙◌, subst, Ok, Err}
+use Rattle.std.proofs.Common.{ℕ, ◌+◌, ◌-◌, List, [], ◌∷◌, ◌++◌, refl, sym, ap, ◌∙◌, subst, All, Ok, Err}
 use Rattle.std.proofs.lemmas.List.{length-map}
+use Rattle.std.proofs.lemmas.List.Elements.{All-nil, All-push}
 use Rattle.spec_file.specs.declared.data.PageNo.{PageNo}
 use Rattle.spec_file.specs.Image.{page}
 use Rattle.spec_chain.specs.Chains.{is_last}
@@ -11,6 +12,7 @@ use Rattle.db_locks.specs.declared.plan_pages.PageStop.TheVariants.{Bad}
 use Rattle.db_locks.specs.Does.{stop_of}
 use Rattle.db_locks.proofs.PlanLaws.{does_give, does_refuse}
 use Rattle.db_locks.proofs.LoopLaws.{Leads, leads_none, leads_then}
+use Rattle.db_alloc.specs.Maps.{IsOwnable}
 use Rattle.db_alloc.specs.Tables.{numbers, bytes_of, chain_link}
 use Rattle.db_alloc.proofs.Steps.{does_plan, leads_exit_as}
 use Rattle.db_alloc.proofs.Chains.{rest_of, chain_last, chain_more, chain_full, chain_starts, leads_plan, bytes_more}
@@ -23,6 +25,7 @@ loop-count-init g c =
     rw (c.new.ensures.items, c.new-2.ensures.items) (record {
       leads = leads_plan (chain_starts a.view.shape row c.args.table.now.pages c.requires.pages) (leads_none stop_of [] a (chain_of a.view.shape row));
       told = λ told. refl;
+      own = All-nil (IsOwnable a.view.shape);
       view = refl;
     })
 
@@ -61,6 +64,8 @@ loop-count-preserved g c =
           (does_plan (ap (λ (v : View). chain_link v.shape row met c.loop-count.from.0 c.loop-count.p.0) c.loop-count.invariant.view) c.in_ok-next.ensures.does));
       told = λ told. bytes_more (page a.view.now) met _ c.loop-count.p.0 _ _ c.in_ok-next.ensures.numbers (c.loop-count.invariant.told told)
           (c.in_ok-next.ensures.told (c.loop-count.invariant.leads.stays.told ∙ told) ∙ ap (λ (v : View). bytes_of c.loop-count.chain.pages.items ++ page v.now c.loop-count.p.0 ∷ []) c.loop-count.invariant.view);
+      own = subst (All (IsOwnable a.view.shape)) (sym c.in_ok-next.ensures.numbers)
+          (All-push (IsOwnable a.view.shape) met c.loop-count.p.0 c.loop-count.invariant.own (subst (λ (v : View). IsOwnable v.shape c.loop-count.p.0) c.loop-count.invariant.view c.in_ok-next.ensures.ownable));
       view = c.add_link.ensures.view ∙ c.loop-count.invariant.view;
     }
 

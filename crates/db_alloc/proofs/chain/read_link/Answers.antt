@@ -7,7 +7,7 @@ use Rattle.db_cat.specs.Rows.{row_of}
 use Rattle.db_locks.proofs.PlanLaws.{does_then, does_good}
 use Rattle.db_alloc.specs.Tables.{numbers}
 use Rattle.db_alloc.proofs.Steps.{does_exit_as}
-use Rattle.db_alloc.proofs.Links.{inside_limit, asked_as, ordinary_link, slots_as, link_outside, link_other, link_slots, link_good}
+use Rattle.db_alloc.proofs.Links.{inside_limit, asked_as, ordinary_link, slots_as, link_outside, link_other, link_slots, link_good, ownable_link}
 use Rattle.db_alloc.proofs.chain.read_link.Goals as goal
 
 pub returns-then-not-is_inside-clause-does : goal.returns-then-not-is_inside-clause-does
@@ -77,3 +77,9 @@ returns-clause-told g c =
     λ told. c.in_ok-look_page.ensures.told told (ordinary_link a.view.shape row met c.args.p.0 (page a.view.now c.args.p.0) (
     asked_as a.view.shape c.args.table.now.geometry c.args.table.now.pages row met c.args.p.0 c.look_page.new.into.bytes (page a.view.now c.args.p.0) c.is_chain_page.result c.requires.geometry c.requires.pages (c.in_ok-look_page.ensures.told told) c.is_chain_page.ensures
     ∙ c.if-not-is_chain_page.false))
+
+pub returns-clause-ownable : goal.returns-clause-ownable
+returns-clause-ownable g c =
+    let a = g.P.PlanPages.state c.args.v.now in
+    ownable_link a.view.shape c.args.table.now.geometry c.args.table.now.pages (row_of c.args.table.now.row) (numbers c.args.met.now) c.args.p.0 c.look_page.new.into.bytes c.is_inside.result c.is_chain_page.result
+    c.requires.geometry c.requires.pages c.is_inside.ensures c.if-not-is_inside.false c.is_chain_page.ensures c.if-not-is_chain_page.false

@@ -14,6 +14,9 @@ use Rattle.db_core.proofs.Advances.{next_is, proper_next}
 use Rattle.db_core.proofs.Planned.{planned_words, planned}
 use Rattle.db_core.proofs.advance.plan_next.Goals as goal
 
+pub plan-requires-clause-geometry : goal.plan-requires-clause-geometry
+plan-requires-clause-geometry c = c.sums_of.ensures.geometry ∙ sym (ap (λ (v : View). v.shape.geometry) c.of-view.ensures.begins)
+
 pub plan-requires-clause-pages : goal.plan-requires-clause-pages
 plan-requires-clause-pages c =
     let st = c.args.state.now in

@@ -7,3 +7,6 @@ returns-in-Insert c = (c.args.statement.now, refl, ap is_planned c.in-Insert.is)
 
 pub returns-in-Count : goal.returns-in-Count
 returns-in-Count c = (c.args.statement.now, refl, ap is_planned c.in-Count.is)
+
+pub returns-in-Select : goal.returns-in-Select
+returns-in-Select c = (c.args.statement.now, refl, ap is_planned c.in-Select.is)

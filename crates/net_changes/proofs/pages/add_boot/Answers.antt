@@ -1,6 +1,6 @@
 use Rattle.std.proofs.Common.{ap, ◌++◌, ◌∙◌}
 use Rattle.std.proofs.lemmas.Result.{on_ok_weaker}
-use Rattle.law_net.proofs.RowChanges.{part_none}
+use Rattle.law_net.proofs.Covered.{part_none}
 use Rattle.net_changes.proofs.BitLaws.{nothing}
 use Rattle.net_changes.proofs.PageLaws.{boot_shown}
 use Rattle.net_changes.proofs.pages.add_boot.Goals as goal

@@ -28,13 +28,13 @@ returns-clause-look c =
     look_free (state_of c.args.self.now) c.args.r c.args.p.0 (sym c.holder.ensures ∙ ap (option_map (λ (t : Tran). t.0)) c.in_default.is)
 
 pub returns-clause-guarded : goal.returns-clause-guarded
-returns-clause-guarded c = λ told i j here low guarded.
+returns-clause-guarded c = λ told s free i j here low guarded.
     let view = c.args.self.now in
     let st = view.state.now in
     let images = images_of view refl in
     ap (λ bytes. bit_at (slice_index bytes i) j) c.show.ensures
-    ∙ seen_agrees (shape_of (run_is st)) c.args.r st.frames (shown_of view) (began_at st view.at).start c.args.p.0 images.shown images.start
-    (agrees_by st view.at c.args.r view.good (sym c.holder.ensures ∙ ap (option_map (λ (t : Tran). t.0)) c.in_default.is) c.args.p.0) i j here low guarded
+    ∙ seen_agrees (shape_of (run_is st)) s st.frames (shown_of view) (began_at st view.at).start c.args.p.0 images.shown images.start
+    (agrees_by st view.at s view.good free c.args.p.0) i j here low guarded
 
 pub returns-clause-header : goal.returns-clause-header
 returns-clause-header c = λ told tells.

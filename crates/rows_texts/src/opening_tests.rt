@@ -43,12 +43,17 @@ static A_HEAP: [Piece; 4] = [
     (8 * PAGE + 104, &[10]),
 ];
 
+// Its entry of the catalog as a clustered table, whose root is page 10.
+static ITS_ROOT: [Piece; 2] = [(9 * PAGE + 100, &[2]), (9 * PAGE + 124, &[10])];
+
 // A file, as the tests name it.
 enum Made {
     /// An empty small file of so many pages.
     Empty(u8),
     /// The same of 16 pages with a heap `t`, object 1, IAM page 8, whose slot 0 holds page 10.
     WithHeap,
+    /// The same with a clustered table in place of the heap.
+    Clustered,
     /// Five bytes.
     Short,
 }
@@ -70,10 +75,17 @@ fn with_heap(rt: &impl Abort, alloc: Global) -> Vec<u8> {
     file
 }
 
+fn with_tree(rt: &impl Abort, alloc: Global) -> Vec<u8> {
+    let mut file = with_heap(rt, alloc);
+    put_each(&mut file, &ITS_ROOT);
+    file
+}
+
 fn file_of(rt: &impl Abort, alloc: Global, made: &Made) -> Vec<u8> {
     match made {
         Made::Empty(pages) => base(rt, alloc, *pages),
         Made::WithHeap => with_heap(rt, alloc),
+        Made::Clustered => with_tree(rt, alloc),
         Made::Short => zeros(rt, alloc, 5),
     }
 }
@@ -91,23 +103,63 @@ const GEOMETRY: Option<FileStop> = Some(FileStop::Refused(FileWhy::Geometry));
 
 const COUNT: Option<FileStop> = Some(FileStop::Refused(FileWhy::Count));
 
-static CASES: [Case; 16] = [
+const ENTRIES: usize = 9 * PAGE + 96;
+
+static CASES: [Case; 26] = [
     (Made::Empty(16), 0, &[], None),
     (Made::Empty(88), 0, &[], None),
+    (Made::Empty(96), 0, &[], None),
     (Made::WithHeap, 0, &[], None),
     (Made::Short, 0, &[], Some(FileStop::Refused(FileWhy::Size))),
     (Made::WithHeap, 1, &[14], HEADER),
     (Made::WithHeap, 104, &[9], VERSION),
     (Made::WithHeap, 106, &[3], GEOMETRY),
     (Made::WithHeap, 108, &[24], COUNT),
-    (Made::WithHeap, 106, &[1], LATER),
-    (Made::WithHeap, PAGE + 1, &[12], LATER),
-    (Made::WithHeap, 9 * PAGE + 96 + 4, &[2], LATER),
-    (Made::WithHeap, 8 * PAGE + 136, &[8], LATER),
-    (Made::WithHeap, 8 * PAGE + 108, &[10], LATER),
-    (Made::WithHeap, 8 * PAGE + 108, &[9], LATER),
-    (Made::Empty(96), 0, &[], LATER),
     (Made::Empty(96), 104, &[9], VERSION),
+    // The standard geometry, a wrong PFS page, a marked extent, one page in two slots, page 9 in a slot, a heap more.
+    (Made::WithHeap, 106, &[1], None),
+    (Made::WithHeap, PAGE + 1, &[12], None),
+    (Made::WithHeap, 8 * PAGE + 136, &[8], None),
+    (Made::WithHeap, 8 * PAGE + 108, &[10], None),
+    (Made::WithHeap, 8 * PAGE + 108, &[9], None),
+    (
+        Made::WithHeap,
+        ENTRIES + 40,
+        &[2, 0, 0, 0, 1, 1, b'u'],
+        None,
+    ),
+    // A clustered table in the first entry, in both geometries, beside a heap, and in the last entry.
+    (Made::Clustered, 0, &[], LATER),
+    (Made::Clustered, 106, &[1], LATER),
+    (
+        Made::Clustered,
+        ENTRIES + 40,
+        &[2, 0, 0, 0, 1, 1, b'u'],
+        LATER,
+    ),
+    (
+        Made::WithHeap,
+        ENTRIES + 127 * 40,
+        &[2, 0, 0, 0, 2, 1, b'u'],
+        LATER,
+    ),
+    (Made::Clustered, 104, &[9], VERSION),
+    // Page 9 says another type or number, or its catalog fails: a kind that there isn't, an id twice, a name twice.
+    (Made::Clustered, 9 * PAGE + 1, &[12], None),
+    (Made::Clustered, 9 * PAGE + 4, &[8], None),
+    (Made::Clustered, ENTRIES + 4, &[3], None),
+    (
+        Made::Clustered,
+        ENTRIES + 40,
+        &[1, 0, 0, 0, 1, 1, b'u'],
+        None,
+    ),
+    (
+        Made::Clustered,
+        ENTRIES + 40,
+        &[2, 0, 0, 0, 1, 1, b't'],
+        None,
+    ),
 ];
 
 // Opens a file whose reads fail so.
@@ -129,7 +181,7 @@ fn expect_opening(rt: &impl Abort, alloc: Global, case: &Case) {
 }
 
 #[test]
-fn a_file_is_opened_where_it_has_the_form(rt: HostRuntime) {
+fn a_file_is_opened_where_it_passes_and_has_no_clustered_table(rt: HostRuntime) {
     for case in &CASES {
         expect_opening(&rt, rt.alloc(), case);
     }
@@ -161,7 +213,7 @@ static PAGE_0_CASES: [(usize, &[u8], Option<FileStop>); 6] = [
     (104, &[9], VERSION),
     (106, &[3], GEOMETRY),
     (108, &[24], COUNT),
-    (106, &[1], LATER),
+    (106, &[1], Some(FileStop::Failed)),
     (0, &[], Some(FileStop::Failed)),
 ];
 

@@ -1,9 +1,9 @@
 pub mod Told
-pub mod Sound
-pub mod Slots
 pub mod ScriptsRead
+pub mod CatalogLaws
 pub mod Refusals
 pub mod Turns
 pub mod Statements
 pub mod OpeningLaws
+pub mod Shapes
 pub mod SourcesLaws

@@ -1,13 +1,11 @@
 -- What the tests of a file say of its bytes.
-use Rattle.std.proofs.Common.{◌≡◌, ℕ, ◌/◌, Bool, true, IsTrue, List, Option, Some, None, IfSome, length, sym, ap, subst, ◌∙◌, refl, ⊎_elim, not, if◌then◌else◌}
-use Rattle.spec_file.specs.declared.geometry.Geometry.TheVariants.{Small}
+use Rattle.std.proofs.Common.{◌≡◌, ℕ, ◌/◌, Bool, true, false, IsTrue, List, Option, Some, None, IfSome, length, sym, ap, subst, ◌∙◌, refl, ⊎_elim, not, if◌then◌else◌}
 use Rattle.spec_file.specs.Image.{Image, page_size, pages_of, page}
 use Rattle.spec_file.proofs.ImageLaws.{length-pages_of}
-use Rattle.spec_file.specs.FileForm.{size_passes, header_passes, version_passes, geometry_of, count_passes}
-use Rattle.spec_plan.specs.ReplayForm.{IsReplayForm}
+use Rattle.spec_file.specs.FileForm.{size_passes}
 use Rattle.spec_start.specs.declared.why.FileWhy.{FileWhy}
 use Rattle.spec_start.specs.declared.why.FileWhy.TheVariants as why
-use Rattle.spec_start.specs.Files.{count_fault, opening_fault, file_fault, AreAllPages, IsRefusedForRun, IsRunFile}
+use Rattle.spec_start.specs.Files.{opening_fault, file_fault, has_clustered_table, AreAllPages, IsRefusedForRun, IsRunFile, IsRunImage, PassesTests}
 
 first_of : (size : Bool) (fault : Option FileWhy) → size ≡ true → (if not size then Some why.Size else fault) ≡ fault
 first_of size fault passes = rw passes refl
@@ -25,29 +23,17 @@ pub told_passes : (told : Option (List ℕ)) (size : ℕ) (passed : Bool) → If
 told_passes None size passed is tested yes_ = tt
 told_passes (Some bytes) size passed is tested yes_ = rw (← is) (sym tested ∙ yes_)
 
--- pages in memory that have the form are those of a file that sessions may run over
-pub run_file : (image : Image) (told : Option (List ℕ)) → IsReplayForm Small image → IfSome told (AreAllPages image) → IfSome told IsRunFile
-run_file image None form pages = tt
-run_file image (Some bytes) form pages = (ap size_passes pages.0 ∙ form.size, subst (IsReplayForm Small) pages.1 form)
+-- a file passes its tests where its pages in memory do
+pub no_fault : (image : Image) (bytes : List ℕ) → IsTrue (size_passes (length bytes)) → PassesTests image → image ≡ pages_of bytes → file_fault bytes ≡ None
+no_fault image bytes size tested same = sym (after_size bytes size) ∙ subst (λ i. opening_fault (length i) (page i 0) ≡ None) same tested.first
 
-header_first : (header version : Bool) (fault : Option FileWhy) → header ≡ true → version ≡ true
-    → (if not header then Some why.Header else (if not version then Some why.Version else fault)) ≡ fault
-header_first header version fault passes right = rw (passes, right) refl
-
--- page 0 that passes each test fails none
-pub passes_first : (pages : ℕ) (first : List ℕ) → IsTrue (header_passes first) → IsTrue (version_passes first) → geometry_of first ≡ Some Small
-    → IsTrue (count_passes Small pages first) → opening_fault pages first ≡ None
-passes_first pages first header version geometry count =
-    header_first (header_passes first) (version_passes first) (count_fault (geometry_of first) pages first) header version
-    ∙ ap (λ g. count_fault g pages first) geometry
-    ∙ ap (λ (b : Bool). if b then None else Some why.Count) count
-
--- such a file passes all tests
-passes_all : (bytes : List ℕ) → IsRunFile bytes → file_fault bytes ≡ None
-passes_all bytes file =
-    let image = pages_of bytes in
-    let form = file.1 in
-    sym (after_size bytes file.0) ∙ passes_first (length image) (page image 0) form.header form.version form.geometry form.count
+-- pages in memory that a run takes are those of a file that it takes
+pub run_file : (image : Image) (told : Option (List ℕ)) → IsRunImage image → IfSome told (AreAllPages image) → IfSome told IsRunFile
+run_file image None run pages = tt
+run_file image (Some bytes) run pages = (
+  no_fault image bytes (ap size_passes pages.0 ∙ run.0.size) run.0 pages.1,
+  subst (λ i. has_clustered_table (page i 9) ≡ false) pages.1 run.1,
+)
 
 same_why : (fault : Option FileWhy) (w v : FileWhy) → fault ≡ Some w → fault ≡ Some v → w ≡ v
 same_why fault w v a b = let same : Some w ≡ Some v = sym a ∙ b in cc
@@ -61,7 +47,10 @@ one_refusal bytes w v a b =
     ⊎_elim (λ first. ⊎_elim (λ other. same_why (file_fault bytes) w v first other) (λ later. absurd (no_why (file_fault bytes) w first later.1)) b)
     (λ later. ⊎_elim (λ other. absurd (no_why (file_fault bytes) v other later.1)) (λ again. later.0 ∙ sym again.0) b) a
 
--- and none that sessions may run over is refused
+never_both : (has : Bool) → has ≡ true → has ≡ false → ⊥
+never_both has a b = let same : true ≡ false = sym a ∙ b in cc
+
+-- and none that a run takes is refused
 pub not_refused : (bytes : List ℕ) (w : FileWhy) → IsRunFile bytes → IsRefusedForRun w bytes → ⊥
 not_refused bytes w file refused =
-    ⊎_elim (λ first. no_why (file_fault bytes) w first (passes_all bytes file)) (λ later. later.2 Small file.1) refused
+    ⊎_elim (λ first. no_why (file_fault bytes) w first file.0) (λ later. never_both (has_clustered_table (page (pages_of bytes) 9)) later.2 file.1) refused

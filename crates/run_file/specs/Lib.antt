@@ -1,4 +1,3 @@
-pub mod Form
 pub mod Stops
 pub mod Sources
 pub mod Opening

@@ -1,10 +1,9 @@
-//! The files of a run: its scripts and their schedule, read to their ends, and the form that a data
-//! file must have for sessions over it.
+//! The files of a run: its scripts and their schedule, read to their ends, and its data file, which passes its
+//! tests and has no clustered table.
 #![tactic(auto)]
 
+mod clustered;
 mod first_page;
-mod form;
-mod iam;
 mod log;
 mod opening;
 mod source;
@@ -14,7 +13,6 @@ mod text;
 mod why;
 
 pub use first_page::{passes_size, tested_geometry};
-pub use form::has_replay_form;
 pub use log::{LogWhy, open_log};
 pub use opening::open_file;
 pub use sources::{Texts, read_sources};

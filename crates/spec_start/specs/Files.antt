@@ -1,10 +1,13 @@
 -- Which test a file fails first, and which files a run takes.
-use Rattle.std.specs.Prelude.{◌≡◌, ◌⊎◌, ℕ, ◌*◌, ◌/◌, IsTrue, not, List, length, Option, Some, None, if◌then◌else◌}
+use Rattle.std.specs.Prelude.{◌≡◌, ◌⊎◌, ℕ, ◌*◌, ◌/◌, ◌&&◌, Bool, true, false, IsTrue, not, List, length, Option, Some, None, if◌then◌else◌}
+use Rattle.std.specs.List.{list_any}
 use Rattle.spec_file.specs.declared.geometry.Geometry.{Geometry}
-use Rattle.spec_file.specs.declared.geometry.Geometry.TheVariants.{Small}
 use Rattle.spec_file.specs.Image.{Image, page_size, pages_of, page}
 use Rattle.spec_file.specs.FileForm.{size_passes, header_passes, version_passes, geometry_of, count_passes}
-use Rattle.spec_plan.specs.ReplayForm.{IsReplayForm}
+use Rattle.spec_file.specs.Kinds.{is_clustered}
+use Rattle.spec_file.specs.CatalogRows.{rows_of}
+use Rattle.spec_log.specs.Cells.{HasWholePages}
+use Rattle.spec_plan.specs.Reading.{is_catalog}
 use Rattle.spec_start.specs.declared.why.FileWhy.{FileWhy}
 use Rattle.spec_start.specs.declared.why.FileWhy.TheVariants as why
 
@@ -25,16 +28,30 @@ file_fault bytes =
     if not (size_passes (length bytes)) then Some why.Size
     else opening_fault (length bytes / page_size) (page (pages_of bytes) 0)
 
--- the file of a run is refused for the first of its tests that fails; where none fails, it is one for later
--- if it hasn't the form that sessions over it need
+-- page 9 passes its tests, and its catalog has a clustered table
+abbrev pub has_clustered_table : List ℕ → Bool
+has_clustered_table boot = is_catalog boot && list_any (λ row. is_clustered row.kind) (rows_of boot)
+
+-- the file of a run is refused for the first of its tests that fails; where none fails, it is one for later if it has
+-- a clustered table
 abbrev pub IsRefusedForRun : FileWhy → List ℕ → Type 0
 IsRefusedForRun w bytes =
     (file_fault bytes ≡ Some w)
-    ⊎ ((w ≡ why.Later) × (file_fault bytes ≡ None) × ((g : Geometry) → IsReplayForm g (pages_of bytes) → ⊥))
+    ⊎ ((w ≡ why.Later) × (file_fault bytes ≡ None) × (has_clustered_table (page (pages_of bytes) 9) ≡ true))
 
--- a file of whole pages that has the form which sessions over it need
+-- a run takes a file that passes its tests and has no clustered table
 abbrev pub IsRunFile : List ℕ → Type 0
-IsRunFile bytes = IsTrue (size_passes (length bytes)) × IsReplayForm Small (pages_of bytes)
+IsRunFile bytes = (file_fault bytes ≡ None) × (has_clustered_table (page (pages_of bytes) 9) ≡ false)
+
+-- pages in memory of a file that passes its tests
+pub record PassesTests (image : Image) : Type 0 where
+  pub whole : HasWholePages image
+  pub size : IsTrue (size_passes (page_size * length image))
+  pub first : opening_fault (length image) (page image 0) ≡ None
+
+-- pages in memory of a file that a run takes
+abbrev pub IsRunImage : Image → Type 0
+IsRunImage image = PassesTests image × (has_clustered_table (page image 9) ≡ false)
 
 -- the pages in memory are those of the file, and it has no other bytes
 abbrev pub AreAllPages : Image → List ℕ → Type 0

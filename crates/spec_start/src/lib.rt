@@ -1,4 +1,4 @@
-//! What a run of sessions starts with: the texts of its sources, and its file in the form that it needs; and why it
+//! What a run of sessions starts with: the texts of its sources, and a file without a clustered table; and why it
 //! doesn't start (the order of the tests is this project's own).
 #![tactic(auto)]
 

@@ -25,7 +25,7 @@ use Rattle.law_net.proofs.WordLaws.{leads_then, leads_give, leads_write, leads_w
 abbrev pub HasTaken : View → Type 0
 HasTaken view = view.taken ≡ [] → ⊥
 
-taking_takes : (r : Resource) (v : View) → HasTaken (with_taken r v)
+pub taking_takes : (r : Resource) (v : View) → HasTaken (with_taken r v)
 taking_takes r v none = false≢true (subst (λ taken. is_among taken r ≡ true) none (taken_mine r v))
 
 -- what holds of whatever is given

@@ -5,7 +5,7 @@ ghost use Rattle.spec_file.specs.declared.sizes.TheConstants.{PAYLOAD_LIMIT};
 ghost use Rattle.spec_script.specs.Lines.{is_statement};
 ghost use Rattle.spec_script.specs.declared.reply.Reply.{Reply as AnyReply};
 ghost use Rattle.spec_words.specs.Heaps as spec;
-ghost use Rattle.spec_words.specs.Statements.{Plans, kind_of};
+ghost use Rattle.spec_statements.specs.Statements.{Plans, kind_of};
 ghost use Rattle.spec_words.specs.Views.{Plan as Words};
 ghost use Rattle.spec_words.specs.Takes.{takes_at, changes_at};
 ghost use Rattle.db_plan.specs.Plans.{IsPlannedAs, IsLimited, WritesBy, is_planned};

@@ -16,10 +16,10 @@ use Rattle.spec_run.specs.Shapes.{Refused as Refusing, Opening, Writing, Committ
 use Rattle.spec_run.specs.Begun.{Setting, Becoming, Answers, shape_of, view_at, surely, with_memory, refused, by_word, by_changes, by_taken, by_end, by_damage, by_kind, begun_by}
 use Rattle.spec_words.specs.Takes.{takes_at, changes_at}
 use Rattle.spec_words.specs.Views.{End, Gives, Stops}
-use Rattle.spec_words.specs.Statements.{TransactionWord, Begins, Commits, RollsBack, StatementKind, Transacts, Plans, Checks, kind_of}
+use Rattle.spec_statements.specs.Statements.{TransactionWord, Begins, Commits, RollsBack, StatementKind, Transacts, Plans, Checks, kind_of}
 use Rattle.law_net.specs.Plans.{HaveCells}
 use Rattle.law_net.specs.GoodViews.{IfGives}
-use Rattle.law_net.specs.Statements.{IsGoodEnd}
+use Rattle.law_statements.specs.Statements.{IsGoodEnd}
 use Rattle.law_run.proofs.Legal.{legal_right}
 use Rattle.law_run.proofs.Planned.{EndsGood, KindEndsGood, statement_ends_good}
 use Rattle.law_run.proofs.Written.{few_changes}

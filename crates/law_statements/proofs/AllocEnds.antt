@@ -1,6 +1,6 @@
 -- How CREATE and DROP end, and the words of allocation that they use, whatever their view.
-use Rattle.std.proofs.Common.{ℕ, ◌*◌, ◌/◌, Bool, true, false, not, ◌&&◌, List, [], Option, Some, None, arith}
-use Rattle.std.specs.Prelude.{if◌then◌else◌, is_some}
+use Rattle.std.proofs.Common.{ℕ, ◌/◌, Bool, List, [], Option, Some, None, arith}
+use Rattle.std.specs.Prelude.{is_some}
 use Rattle.std.specs.List.{list_any}
 use Rattle.spec_file.specs.declared.data.Resource.TheVariants as resource
 use Rattle.spec_file.specs.declared.pfs.PfsKind.TheVariants as kinds
@@ -14,9 +14,9 @@ use Rattle.spec_plan.specs.Refusals.{same_name, too_many_tables, no_room}
 use Rattle.spec_plan.specs.Reading.{is_catalog, named_among}
 use Rattle.spec_words.specs.NetChanges.{FileShape, extents_of}
 use Rattle.spec_words.specs.Views.{View, Plan}
-use Rattle.spec_words.specs.Words.{◌then◌, give, refuse, sees, where_good, unless_held, reach, take, put_gam, put_sgam, put_pfs, found_or, or_later, for_each}
-use Rattle.spec_words.specs.Tables.{chain_of, bytes_read, byte_pages, object_pages}
-use Rattle.spec_alloc.specs.Search.{map_read, gam_read, sgam_read, pfs_read, is_held, search_at, search, where_found, either, is_spare, pages_in}
+use Rattle.spec_words.specs.Words.{give, refuse, where_good, unless_held, put_gam, put_sgam, put_pfs, or_later}
+use Rattle.spec_words.specs.Tables.{byte_pages, object_pages}
+use Rattle.spec_alloc.specs.Search.{map_read, is_held, search_at, search, where_found, either, is_spare, pages_in}
 use Rattle.spec_alloc.specs.SinglePages.{is_shared, is_unused, spare_page, first_page_of, lower_sgam, of_mixed, of_free, single_page, no_page}
 use Rattle.spec_alloc.specs.Chains.{chain_now, page_taken}
 use Rattle.spec_alloc.specs.Freeing.{is_in_use, put_bits, shared_freed, extent_freed, marked_freed, is_shared_page}

@@ -1,6 +1,6 @@
 -- CREATE and DROP leave a good view good.
-use Rattle.std.proofs.Common.{◌≡◌, ℕ, suc, ◌+◌, ◌-◌, ◌*◌, ◌<◌, ◌≤◌, Bool, true, List, [], ◌∷◌, ◌++◌, length, Option, Some, None, replicate, ◌∙◌, arith}
-use Rattle.std.specs.Prelude.{if◌then◌else◌, is_some}
+use Rattle.std.proofs.Common.{◌≡◌, ℕ, ◌+◌, ◌-◌, ◌*◌, ◌<◌, ◌≤◌, true, List, [], ◌∷◌, ◌++◌, length, Option, Some, None, replicate, ◌∙◌, arith}
+use Rattle.std.specs.Prelude.{is_some, nat_le, ◌&&◌}
 use Rattle.std.specs.List.{list_all}
 use Rattle.std.proofs.lemmas.Bool.{cond_both, and_parts, leb-true}
 use Rattle.std.proofs.lemmas.Bool.Decides.{nat_tests}
@@ -8,7 +8,7 @@ use Rattle.byteorder.specs.Endian.{little_bytes}
 use Rattle.spec_file.specs.declared.data.Kind.{Kind}
 use Rattle.spec_file.specs.declared.data.Kind.TheVariants.{Heap, Clustered}
 use Rattle.spec_file.specs.declared.data.Resource.TheVariants as resource
-use Rattle.spec_file.specs.Catalog.{is_name, is_name_byte}
+use Rattle.spec_file.specs.Catalog.{is_name, is_letter, is_name_byte}
 use Rattle.spec_file.specs.CatalogBytes.{kind_byte, entry_bytes}
 use Rattle.spec_file.specs.CatalogRows.{CatalogRow, rows_of}
 use Rattle.spec_file.specs.Image.{AreBytes, page}
@@ -51,7 +51,7 @@ kind_low Clustered = omega arith
 name_short : (name : List ℕ) → is_name name ≡ true → length name ≤ 16
 name_short [] h = omega arith
 name_short (b ∷ rest) h =
-    let le = leb-true (length rest) 15 (and_parts _ _ h).1 in omega (arith, le)
+    let le = leb-true (length rest) 15 (and_parts (is_letter b && list_all is_name_byte rest) (nat_le (length rest) 15) h).1 in omega (arith, le)
 
 entry_low : (row : CatalogRow) → is_name row.name ≡ true → AreBytes (entry_bytes row)
 unfolding entry_bytes

@@ -13,7 +13,7 @@ use Rattle.spec_alloc.specs.Objects.{entry_of, entry_emptied}
 use Rattle.spec_statements.specs.Objects.{new_heap, entry_put, create_plan, drop_plan}
 use Rattle.law_net.specs.GoodViews.{Leads}
 use Rattle.law_net.proofs.WordLaws.{leads_then, leads_give, leads_sees, leads_take, leads_write, leads_weaker}
-use Rattle.law_net.proofs.InsertTakes.{HasTaken, taking_takes, always}
+use Rattle.law_net.proofs.InsertTakes.{HasTaken, taking_takes, behind}
 
 abbrev Took : {A : Type 0} → A → View → Type 0
 Took x w = HasTaken w
@@ -21,15 +21,15 @@ Took x w = HasTaken w
 -- where CREATE gives a reply it has taken something
 pub create_takes : (shape : FileShape) (name : List ℕ) (v : View) → Leads (create_plan shape name) v (λ reply w. HasTaken w)
 create_takes shape name v =
-    leads_then _ _ v Took (always _ v _ (λ boot a.
-    leads_then _ _ a Took (always _ a _ (λ x b.
-    leads_then _ _ b Took (always _ b _ (λ y c.
-    leads_then _ _ c Took (always _ c _ (λ id d.
-    leads_then _ _ d Took (always _ d _ (λ i e.
-    leads_then _ _ e Took (always _ e _ (λ z f.
-    leads_then _ _ f Took (always _ f _ (λ q g.
+    behind _ _ v Took (λ boot a.
+    behind _ _ a Took (λ x b.
+    behind _ _ b Took (λ y c.
+    behind _ _ c Took (λ id d.
+    behind _ _ d Took (λ i e.
+    behind _ _ e Took (λ z f.
+    behind _ _ f Took (λ q g.
     leads_then (entry_put i (new_heap id name q)) (λ _. give Done) g Took
-    (leads_write resource.Catalog (Bytes (record { 0 = 9 }) (96 + 40 * i)) (entry_bytes (new_heap id name q)) g _ (λ free. leads_give Done _ Took (taking_takes resource.Catalog g))))))))))))))))))
+    (leads_write resource.Catalog (Bytes (record { 0 = 9 }) (96 + 40 * i)) (entry_bytes (new_heap id name q)) g _ (λ free. leads_give Done _ Took (taking_takes resource.Catalog g))))))))))
 
 emptied_took : (entry : Option ℕ) (v : View) → HasTaken v → Leads (where_found entry entry_emptied) v Took
 emptied_took None v h = leads_give None v Took h
@@ -47,8 +47,8 @@ entry_took id v h =
 -- and where DROP does
 pub drop_takes : (shape : FileShape) (name : List ℕ) (v : View) → Leads (drop_plan shape name) v (λ reply w. HasTaken w)
 drop_takes shape name v =
-    leads_then _ _ v Took (always _ v _ (λ row a.
-    leads_then _ _ a Took (always _ a _ (λ x b.
-    leads_then _ _ b Took (always _ b _ (λ y c.
+    behind _ _ v Took (λ row a.
+    behind _ _ a Took (λ x b.
+    behind _ _ b Took (λ y c.
     leads_then (take resource.Catalog) _ c Took
-    (leads_take resource.Catalog c _ (λ free. entry_took row.id (with_taken resource.Catalog c) (taking_takes resource.Catalog c)))))))))
+    (leads_take resource.Catalog c _ (λ free. entry_took row.id (with_taken resource.Catalog c) (taking_takes resource.Catalog c))))))

@@ -1,11 +1,10 @@
 -- What planned statements reply.
-use Rattle.std.proofs.Common.{ℕ, List, [], ◌∷◌, length}
+use Rattle.std.proofs.Common.{ℕ, List, [], length}
 use Rattle.std.specs.Prelude.{sum_by, flat_map}
 use Rattle.spec_file.specs.declared.data.Resource.TheVariants as resource
 use Rattle.spec_rows.specs.Slots.{slot_count}
 use Rattle.spec_script.specs.declared.reply.Reply.{Reply}
 use Rattle.spec_script.specs.declared.reply.Reply.TheVariants.{Done, Rows}
-use Rattle.spec_script.specs.declared.statement.Statement.{Statement}
 use Rattle.spec_script.specs.declared.statement.Statement.TheVariants as statement
 use Rattle.spec_plan.specs.Refusals.{no_room}
 use Rattle.spec_plan.specs.Rows.{heap_row, payloads_of}
@@ -19,7 +18,7 @@ use Rattle.spec_statements.specs.Objects.{create_plan, drop_plan}
 use Rattle.law_net.specs.GoodViews.{Leads}
 use Rattle.law_statements.specs.Statements.{IsPlain, StatementsReplyPlainly}
 use Rattle.law_net.proofs.WordLaws.{leads_then, leads_give}
-use Rattle.law_net.proofs.InsertTakes.{always}
+use Rattle.law_net.proofs.InsertTakes.{always, behind}
 
 abbrev Plain : Reply → View → Type 0
 Plain reply view = IsPlain reply
@@ -50,23 +49,23 @@ select_replies shape name key v =
 
 create_replies : (shape : FileShape) (name : List ℕ) (v : View) → Leads (create_plan shape name) v Plain
 create_replies shape name v =
-    leads_then _ _ v Plain (always _ v _ (λ boot a.
-    leads_then _ _ a Plain (always _ a _ (λ x b.
-    leads_then _ _ b Plain (always _ b _ (λ y c.
-    leads_then _ _ c Plain (always _ c _ (λ id d.
-    leads_then _ _ d Plain (always _ d _ (λ i e.
-    leads_then _ _ e Plain (always _ e _ (λ z f.
-    leads_then _ _ f Plain (always _ f _ (λ q g.
-    leads_then _ _ g Plain (always _ g _ (λ u h. leads_give Done h Plain tt))))))))))))))))
+    behind _ _ v Plain (λ boot a.
+    behind _ _ a Plain (λ x b.
+    behind _ _ b Plain (λ y c.
+    behind _ _ c Plain (λ id d.
+    behind _ _ d Plain (λ i e.
+    behind _ _ e Plain (λ z f.
+    behind _ _ f Plain (λ q g.
+    behind _ _ g Plain (λ u h. leads_give Done h Plain tt))))))))
 
 drop_replies : (shape : FileShape) (name : List ℕ) (v : View) → Leads (drop_plan shape name) v Plain
 drop_replies shape name v =
-    leads_then _ _ v Plain (always _ v _ (λ row a.
-    leads_then _ _ a Plain (always _ a _ (λ x b.
-    leads_then _ _ b Plain (always _ b _ (λ y c.
-    leads_then _ _ c Plain (always _ c _ (λ z d.
-    leads_then _ _ d Plain (always _ d _ (λ entry e.
-    leads_then _ _ e Plain (always _ e _ (λ u f. leads_give Done f Plain tt))))))))))))
+    behind _ _ v Plain (λ row a.
+    behind _ _ a Plain (λ x b.
+    behind _ _ b Plain (λ y c.
+    behind _ _ c Plain (λ z d.
+    behind _ _ d Plain (λ entry e.
+    behind _ _ e Plain (λ u f. leads_give Done f Plain tt))))))
 
 pub statements_reply_plainly : StatementsReplyPlainly
 statements_reply_plainly shape statement.Begin = tt

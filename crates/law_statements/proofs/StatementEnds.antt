@@ -1,5 +1,4 @@
 -- How planned statements end, whatever their view.
-use Rattle.std.proofs.Common.{◌≡◌}
 use Rattle.spec_script.specs.declared.reply.Reply.{Reply}
 use Rattle.spec_script.specs.declared.statement.Statement.{Statement}
 use Rattle.spec_script.specs.declared.statement.Statement.TheVariants as statement

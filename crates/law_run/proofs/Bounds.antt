@@ -1,5 +1,5 @@
 -- What a statement owes has the form of the log's items, and is little.
-use Rattle.std.proofs.Common.{◌≡◌, ℕ, ◌+◌, ◌<◌, ◌≤◌, Bool, true, false, eqb, List, [], ◌∷◌, ◌++◌, length, Option, Some, None, refl, sym, subst, arith}
+use Rattle.std.proofs.Common.{◌≡◌, ℕ, ◌+◌, ◌<◌, ◌≤◌, Bool, true, false, eqb, List, [], ◌∷◌, ◌++◌, length, Option, Some, None, refl, arith}
 use Rattle.std.proofs.lemmas.Bool.{cond_both}
 use Rattle.spec_log.specs.declared.item.Record.{Record}
 use Rattle.spec_log.specs.Log.{greatest_of, left_of}
@@ -24,7 +24,7 @@ use Rattle.law_run.proofs.Legal.{legal_right}
 use Rattle.law_run.proofs.Planned.{EndsGood, KindEndsGood, statement_ends_good}
 use Rattle.law_run.proofs.Written.{few_changes}
 use Rattle.law_net.proofs.PlannedCells.{size_bound}
-use Rattle.law_run.specs.Laws.{IsStart, IsBounded, BegunIsBounded}
+use Rattle.law_run.specs.Laws.{IsBounded, BegunIsBounded}
 use Rattle.law_run.specs.Doing.{change_items, abort_items}
 use Rattle.law_run.proofs.Begins.{start_form, plain_form, snap_form, end_form}
 

@@ -1,9 +1,8 @@
 -- How the plan of a statement ends on what its transaction sees.
-use Rattle.std.proofs.Common.{◌≡◌, ℕ, zero, suc, ◌+◌, ◌<◌, ◌≤◌, ◌&&◌, ltb, leb, not, eqb, Bool, true, List, [], ◌∷◌, ◌++◌, length, refl, sym, subst, arith}
+use Rattle.std.proofs.Common.{◌≡◌, ℕ, ◌<◌, ◌&&◌, ltb, leb, not, eqb, true, List, [], ◌∷◌, ◌++◌, length, arith}
 use Rattle.std.specs.List.{list_all}
 use Rattle.std.proofs.lemmas.Bool.{and_parts, leb-true}
 use Rattle.spec_file.specs.Catalog.{is_name}
-use Rattle.spec_file.specs.Image.{AreBytes}
 use Rattle.spec_log.specs.declared.item.Record.{Record}
 use Rattle.spec_log.specs.Images.{view_of}
 use Rattle.spec_log.specs.Log.{holds, holder_of}

@@ -109,8 +109,8 @@ pub reach_at : (looked : List ℕ) (view : View) (chain : List ℕ) (iams : List
     → e < view.shape.pages / 8 → list_any (marks g (8 * e)) iams ≡ true → Contains looked (pfs_page view.shape.geometry (8 * e))
 reach_at looked view chain iams g e h same same_g lt marked =
     h.pfs e lt (
-        sym (marked_as view.shape.geometry view.now chain (8 * e)) ∙ ap (list_any (marks view.shape.geometry (8 * e))) (sym same)
-        ∙ ap (λ k. list_any (marks k (8 * e)) iams) (sym same_g) ∙ marked
+    sym (marked_as view.shape.geometry view.now chain (8 * e)) ∙ ap (list_any (marks view.shape.geometry (8 * e))) (sym same)
+    ∙ ap (λ k. list_any (marks k (8 * e)) iams) (sym same_g) ∙ marked
     )
 
 pub left_unseen : {C : Type 0} {a b : PlanState} (looked : List ℕ) (f : View → List ℕ) (F : C → List ℕ) {stop : PageStop} (r : Result C PageStop) → DoesAfter {A = Unit {0}} looked a b (give tt) (Err stop)

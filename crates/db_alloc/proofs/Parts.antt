@@ -88,11 +88,10 @@ same_written r p at bytes after view is =
     (ap (slice_set view.now p) (ap (with_bytes (page view.now p) 0) is ∙ with_bytes_whole (page view.now p) at bytes ∙ refl)))
 
 -- the page was put with these bytes
-pub part_written : {a b : PlanState} (looked : List ℕ) (p at : ℕ) (bytes after : List ℕ) {result : Result (Unit {0}) PageStop} → (IsTrue a.told → after ≡ with_bytes (page a.view.now p) at bytes)
-    → DoesAfter looked a b (put_page p after) result → DoesAfter looked a b (write (resource.Page (record { 0 = p })) (Bytes (record { 0 = p }) at) bytes) result
+pub part_written : {a b : PlanState} (looked : List ℕ) (r : Resource) (p at : ℕ) (bytes after : List ℕ) {result : Result (Unit {0}) PageStop} → (IsTrue a.told → after ≡ with_bytes (page a.view.now p) at bytes)
+    → DoesAfter looked a b (write r (Bytes (record { 0 = p }) 0) after) result → DoesAfter looked a b (write r (Bytes (record { 0 = p }) at) bytes) result
 unfolding write
-part_written {a} looked p at bytes after is d =
-    let r = resource.Page (record { 0 = p }) in
+part_written {a} looked r p at bytes after is d =
     does_as (write r (Bytes (record { 0 = p }) at) bytes)
     (λ told. ap (λ (v : View). (by_holder r (a.view.other r) (ended [] (Gives tt v))).ending) (same_written r p at bytes after a.view (is told)))
     (λ told q h. subst (λ (v : View). Contains (looked ++ (by_holder r (a.view.other r) (ended [] (Gives tt v))).reached) q) (same_written r p at bytes after a.view (is told)) h)

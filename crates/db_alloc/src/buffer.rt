@@ -7,7 +7,7 @@ use pg_base::Page;
 use std::alloc::Global;
 
 /// Room for a page.
-pub(crate) fn page_room(alloc: Global) -> Result<Box<Page>, PageStop>
+pub fn page_room(alloc: Global) -> Result<Box<Page>, PageStop>
     ensures { IfErr result (λ e. e ≡ stop.NoMemory) }
 {
     match Page::zeroed(alloc) {

@@ -1,6 +1,7 @@
 // Page 9 and the table of a name.
-ghost use Rattle.std.specs.Prelude.{◌≡◌, [], map, bytes_eq, string_bytes};
+ghost use Rattle.std.specs.Prelude.{◌≡◌, [], IfOk, map, bytes_eq, string_bytes};
 ghost use Rattle.std.specs.Option.{option_map};
+ghost use Rattle.spec_file.specs.CatalogRows.{rows_of};
 ghost use Rattle.spec_plan.specs.Reading as spec;
 ghost use Rattle.spec_words.specs.Tables.{table_of};
 ghost use Rattle.db_cat.specs.Rows.{row_of};
@@ -54,9 +55,10 @@ fn take_named(mut rows: Vec<CatRow>, name: &str) -> Option<CatRow>
     None
 }
 
-// The objects of a page that is to be the catalog.
-fn read_rows(alloc: Global, boot: &Page) -> Result<Vec<CatRow>, PageStop>
-    ensures { (a : PlanState) → Does a a (catalog_rows boot.now.bytes) (value_as (λ rows. map row_of rows.items) result) }
+/// The objects of a page that is to be the catalog.
+pub fn read_rows(alloc: Global, boot: &Page) -> Result<Vec<CatRow>, PageStop>
+    ensures does { (a : PlanState) → Does a a (catalog_rows boot.now.bytes) (value_as (λ rows. map row_of rows.items) result) }
+    ensures rows { IfOk result (λ rows. map row_of rows.items ≡ rows_of boot.now.bytes) }
 {
     row_laws();
     if !is_page_of(boot, BOOT_TYPE, PageNo(9)) {

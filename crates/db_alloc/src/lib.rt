@@ -19,8 +19,9 @@ mod search;
 mod single;
 mod table;
 
+pub use buffer::page_room;
 pub use drop::free_chain;
-pub use find::{FindStop, find_table};
+pub use find::{FindStop, find_table, read_rows};
 pub use object::new_chain;
 pub use pages::pages_of;
 pub use single::AllocStop;

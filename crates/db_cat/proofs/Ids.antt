@@ -4,7 +4,10 @@ use Rattle.std.specs.Prelude.{Option, Some, slice_get}
 use Rattle.std.specs.List.{list_any, range_with_len}
 use Rattle.std.proofs.lemmas.Bool.{cases_eq, ne_eqb, eq-eqb, eqb-true, false≢true}
 use Rattle.std.proofs.lemmas.List.{length-map}
-use Rattle.spec_file.specs.CatalogRows.{CatalogRow}
+use Rattle.std.proofs.lemmas.List.FromFn.{length-map-range_with_len}
+use Rattle.std.proofs.lemmas.List.Sums.{length-filter, count_by-le-length}
+use Rattle.spec_file.specs.Catalog.{entry_count, entry_at}
+use Rattle.spec_file.specs.CatalogRows.{CatalogRow, row_of_entry, is_used, rows_before, rows_of}
 use Rattle.db_cat.specs.Changes.{free_ids}
 use Rattle.db_cat.proofs.Places.{lowest_is}
 
@@ -71,3 +74,14 @@ pub free_is : (rows : List CatalogRow) (id : ℕ) → 1 ≤ id → id < length r
 unfolding free_ids
 free_is rows id low high here before =
     lowest_is (λ k. not (list_any (λ (row : CatalogRow). row.id == k) rows)) 1 (length rows + 1) id low (omega (arith, high)) (ap not here) (λ k from to. ap not (before k from to))
+
+-- a catalog has no more rows than entries
+few_before : (boot : List ℕ) (n : ℕ) → length (rows_before boot n) ≤ n
+few_before boot n =
+    let entries = map (entry_at boot) (range_with_len 0 n) in
+    let rows = length-map (filter is_used entries) row_of_entry in
+    omega (arith, rows, length-filter is_used entries, count_by-le-length is_used entries, length-map-range_with_len (entry_at boot) 0 n)
+
+pub few_of : (boot : List ℕ) → length (rows_of boot) ≤ 128
+unfolding rows_of
+few_of boot = few_before boot entry_count

@@ -27,6 +27,23 @@ fn put_entry(page: &mut Page, i: usize, entry: &[u8])
     page.bytes[at..at + ENTRY_SIZE].copy_from_slice(entry);
 }
 
+/// Makes entry i that of an object, whose name fits there.
+pub fn put_row(page: &mut Page, i: usize, row: &CatRow)
+    requires within { i < ENTRY_COUNT }
+    requires name { length (string_bytes row.now.name) ≤ 18 }
+    ensures { page.new.bytes ≡ with_entry i (entry_bytes (row_of row.now)) page.old.bytes }
+{
+    put_entry(page, i, &bytes_of(row));
+}
+
+/// Empties entry i.
+pub fn empty_entry(page: &mut Page, i: usize)
+    requires { i < ENTRY_COUNT }
+    ensures { page.new.bytes ≡ with_entry i (replicate 40 0) page.old.bytes }
+{
+    put_entry(page, i, &[0; ENTRY_SIZE]);
+}
+
 /// Puts a new object, as `may_enter` tests it, into the lowest empty entry. Where no entry is empty nothing
 /// changes.
 pub fn add(page: &mut Page, row: &CatRow) -> Result<(), CatFull>

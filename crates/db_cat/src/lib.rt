@@ -9,7 +9,7 @@ mod free;
 mod passes;
 mod rows;
 
-pub use change::{CatFull, add, remove};
+pub use change::{CatFull, add, empty_entry, put_row, remove};
 pub use enter::may_enter;
 pub use free::{entry_of, free_entry, free_id};
 pub use passes::catalog_passes;

@@ -101,13 +101,13 @@ pub record Takes (b c : PlanState) (r : Resource) : Type 0 where
 taken_keeps : {X : Type 0} (f : View → X) (r : Resource) (view : View) → f (record view { taken = r ∷ view.taken }) ≡ f view → f (with_taken r view) ≡ f view
 taken_keeps f r view same = cond_both (is_among view.taken r) view (record view { taken = r ∷ view.taken }) (λ v. f v ≡ f view) (λ e. refl) (λ e. same)
 
-mine : {b c : PlanState} (r : Resource) → Takes b c r → is_among c.view.taken r ≡ true
+pub mine : {b c : PlanState} (r : Resource) → Takes b c r → is_among c.view.taken r ≡ true
 mine {b} r t = subst (λ (v : View). is_among v.taken r ≡ true) (sym t.taken) (taken_mine r b.view)
 
 now_kept : {b c : PlanState} (r : Resource) → Takes b c r → c.view.now ≡ b.view.now
 now_kept {b} r t = ap (λ (v : View). v.now) t.taken ∙ taken_keeps (λ v. v.now) r b.view refl
 
-shape_kept : {b c : PlanState} (r : Resource) → Takes b c r → c.view.shape ≡ b.view.shape
+pub shape_kept : {b c : PlanState} (r : Resource) → Takes b c r → c.view.shape ≡ b.view.shape
 shape_kept {b} r t = ap (λ (v : View). v.shape) t.taken ∙ taken_keeps (λ v. v.shape) r b.view refl
 
 -- the page that was looked at is still shown, and seen, once the resource is taken

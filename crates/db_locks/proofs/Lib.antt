@@ -6,6 +6,7 @@ pub mod LoopLaws
 pub mod PageLaws
 pub mod BitLaws
 pub mod CellSteps
+pub mod CatalogSteps
 pub mod Headers
 pub mod ViewLaws
 pub mod Differing

@@ -1,9 +1,9 @@
-//! PFS bytes and whole pages, read and written as the words of plans say.
+//! PFS bytes and whole pages, page 9 among them, read and written as the words of plans say.
 ghost use Rattle.std.specs.Prelude.{◌≡◌, ◌<◌, ℕ, List, IsTrue, Contains, All, map, true};
 ghost use Rattle.spec_file.specs.declared.data.Resource.TheVariants as resource;
 ghost use Rattle.spec_file.specs.Places.{pfs_page};
 ghost use Rattle.spec_file.specs.Roles.{is_ordinary};
-ghost use Rattle.spec_words.specs.Words.{look, unless_held, put_pfs, put_page as page_put};
+ghost use Rattle.spec_words.specs.Words.{look, unless_held, put_pfs, put_page as page_put, put_catalog as catalog_put};
 ghost use Rattle.spec_words.specs.Tables.{bytes_read};
 ghost use Rattle.db_locks.specs.Cells.{pfs_byte_read, pfs_page_read};
 ghost use Rattle.db_locks.specs.Does.{Does, DoesAfter, filled};
@@ -137,4 +137,13 @@ pub fn put_page<P: PlanPages>(view: &mut P, p: PageNo, from: &Page) -> Result<()
     view.take(Resource::Page(p))?;
     is_whole(from);
     view.put(p, from)
+}
+
+/// Takes the catalog and replaces page 9, which the statement has reached.
+pub fn put_catalog<P: PlanPages>(view: &mut P, from: &Page) -> Result<(), PageStop>
+    ensures { (looked : List ℕ) → (IsTrue (P.state view.old).told → Contains looked 9) → DoesAfter looked (P.state view.old) (P.state view.new) (catalog_put 0 from.now.bytes) result }
+{
+    view.take(Resource::Catalog)?;
+    is_whole(from);
+    view.put(PageNo(9), from)
 }

@@ -10,8 +10,8 @@ mod table;
 
 pub use bits::{set_gam_bit, set_sgam_bit};
 pub use cells::{
-    check_free, check_pfs_page, check_pfs_pages, look_catalog, look_page, put_page, read_pfs_byte,
-    set_pfs_byte,
+    check_free, check_pfs_page, check_pfs_pages, look_catalog, look_page, put_catalog, put_page,
+    read_pfs_byte, set_pfs_byte,
 };
 pub use memory::MemView;
 pub use plan_pages::{PageStop, PlanPages};

@@ -9,9 +9,14 @@ use Rattle.db_locks.specs.States.{PlanState}
 use Rattle.db_locks.specs.Does.{Stop, WasHeld, WasRefused, HasFailed, WasShort, stop_of, MayStop, HasCause, Stays, DoesAs}
 use Rattle.db_locks.specs.declared.plan_pages.PageStop.{PageStop}
 use Rattle.db_locks.specs.declared.plan_pages.PageStop.TheVariants.{Held, Fault, Bad, NoMemory}
-use Rattle.db_alloc.specs.Results.{find_stop}
+use Rattle.db_alloc.specs.Results.{find_stop, alloc_stop}
 use Rattle.db_alloc.specs.declared.find.FindStop.{FindStop}
 use Rattle.db_alloc.specs.declared.find.FindStop.TheVariants.{Page, NoTable}
+use Rattle.db_alloc.specs.declared.single.AllocStop.{AllocStop}
+use Rattle.db_alloc.specs.declared.single.AllocStop.TheVariants as alloc
+use Rattle.db_table.specs.Creates.{create_stop}
+use Rattle.db_table.specs.declared.place.CreateStop.{CreateStop}
+use Rattle.db_table.specs.declared.place.CreateStop.TheVariants as create
 use Rattle.db_heap.specs.InsertPlans.{insert_stop}
 use Rattle.db_heap.specs.declared.insert.InsertStop.{InsertStop}
 use Rattle.db_heap.specs.declared.insert.InsertStop.TheVariants.{Find, NoRoom}
@@ -37,6 +42,15 @@ find_other name NoTable = (λ e. omega (arith, e), λ e. omega (arith, e))
 pub insert_other : (name : List ℕ) (stop : InsertStop) → IsOther (insert_stop name stop)
 insert_other name (Find stop) = find_other name stop
 insert_other name NoRoom = (λ e. omega (arith, e), λ e. omega (arith, e))
+
+alloc_other : (stop : AllocStop) → IsOther (alloc_stop stop)
+alloc_other (alloc.Page stop) = page_other stop
+alloc_other alloc.Full = (λ e. omega (arith, e), λ e. omega (arith, e))
+
+pub create_other : (name : List ℕ) (stop : CreateStop) → IsOther (create_stop name stop)
+create_other name (create.Alloc stop) = alloc_other stop
+create_other name create.SameName = (λ e. omega (arith, e), λ e. omega (arith, e))
+create_other name create.TooMany = (λ e. omega (arith, e), λ e. omega (arith, e))
 
 short_causes : (old new : PlanState) → HasCauses old new out_of_memory
 short_causes old new = record { fault = λ e. absurd (omega (arith, e)); held = λ e. absurd (omega (arith, e)) }

@@ -22,6 +22,8 @@ use Rattle.db_plan.specs.Limits.{passes}
 
 -- all but BEGIN, COMMIT, ROLLBACK and a check
 abbrev pub is_planned : Statement → Bool
+is_planned (statement.CreateHeap table) = true
+is_planned (statement.Drop table) = true
 is_planned (statement.Insert table key payload) = true
 is_planned (statement.Count table) = true
 is_planned (statement.Select table key) = true

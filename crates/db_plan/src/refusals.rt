@@ -2,14 +2,19 @@
 ghost use Rattle.std.specs.Prelude.{◌≡◌, ◌⊎◌};
 ghost use Rattle.spec_plan.specs.Refusals as spec;
 ghost use Rattle.db_locks.specs.Does.{stop_of};
-ghost use Rattle.db_alloc.specs.Results.{find_stop};
+ghost use Rattle.db_alloc.specs.Results.{find_stop, alloc_stop};
 ghost use Rattle.db_heap.specs.InsertPlans.{insert_stop};
+ghost use Rattle.db_table.specs.Creates.{create_stop};
 ghost use Rattle.db_plan.specs.Refusals.{Tells};
 
-use db_alloc::FindStop;
+use db_alloc::{AllocStop, FindStop};
 use db_heap::InsertStop;
 use db_locks::PageStop;
-use spec_script::{BAD_PAGE, HELD, NO_MEMORY, NO_ROOM, NO_TABLE, Name, READ_FAULT, Refusal};
+use db_table::CreateStop;
+use spec_script::{
+    BAD_PAGE, HELD, NO_MEMORY, NO_ROOM, NO_TABLE, Name, READ_FAULT, Refusal, SAME_NAME,
+    TOO_MANY_TABLES,
+};
 use std::alloc::Global;
 
 /// Memory is short.
@@ -71,5 +76,39 @@ pub(crate) fn of_insert(alloc: Global, stop: InsertStop, name: &Name) -> Refusal
     match stop {
         InsertStop::Find(stop) => of_find(alloc, stop, name),
         InsertStop::NoRoom => Refusal::plain(alloc, NO_ROOM),
+    }
+}
+
+// An object has the name already, unless memory is short to tell so.
+fn same_name(alloc: Global, name: &Name) -> Refusal
+    ensures { (result ≡ spec.same_name name.now) ⊎ (result ≡ spec.out_of_memory) }
+{
+    match Name::copied(alloc, name.as_str()) {
+        Ok(name) => Refusal {
+            name,
+            ..Refusal::plain(alloc, SAME_NAME)
+        },
+        Err(_) => out_of_memory(alloc),
+    }
+}
+
+// What is told of a statement that gets no page.
+fn of_alloc(alloc: Global, stop: AllocStop) -> Refusal
+    ensures { Tells (alloc_stop stop) result }
+{
+    match stop {
+        AllocStop::Page(stop) => of_page(alloc, stop),
+        AllocStop::Full => Refusal::plain(alloc, NO_ROOM),
+    }
+}
+
+/// What is told of a CREATE HEAP of this name.
+pub(crate) fn of_create(alloc: Global, stop: CreateStop, name: &Name) -> Refusal
+    ensures { Tells (create_stop name.now stop) result }
+{
+    match stop {
+        CreateStop::Alloc(stop) => of_alloc(alloc, stop),
+        CreateStop::SameName => same_name(alloc, name),
+        CreateStop::TooMany => Refusal::plain(alloc, TOO_MANY_TABLES),
     }
 }

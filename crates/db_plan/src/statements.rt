@@ -5,16 +5,18 @@ ghost use Rattle.spec_file.specs.declared.sizes.TheConstants.{PAYLOAD_LIMIT};
 ghost use Rattle.spec_script.specs.Lines.{is_statement};
 ghost use Rattle.spec_script.specs.declared.reply.Reply.{Reply as AnyReply};
 ghost use Rattle.spec_words.specs.Heaps as spec;
-ghost use Rattle.spec_words.specs.Statements.{Plans, kind_of};
+ghost use Rattle.spec_statements.specs.Objects as objects;
+ghost use Rattle.spec_statements.specs.Statements.{Plans, kind_of};
 ghost use Rattle.spec_words.specs.Views.{Plan as Words};
 ghost use Rattle.spec_words.specs.Takes.{takes_at, changes_at};
 ghost use Rattle.db_plan.specs.Plans.{IsPlannedAs, IsLimited, WritesBy, is_planned};
 
 use crate::limits::{exceeds, planned_bytes};
-use crate::refusals::{of_find, of_insert, out_of_memory};
+use crate::refusals::{of_create, of_find, of_insert, out_of_memory};
 use crate::{Plan, PlanAt};
 use db_heap::{heap_count, heap_insert, heap_select};
 use db_locks::PlanPages;
+use db_table::{create_heap, drop_table};
 use net_changes::{net_changes, net_takes};
 use spec_file::{NoMemory, Resource};
 use spec_log::Values;
@@ -87,6 +89,41 @@ fn written<P: PlanPages>(alloc: Global, v: &P, at: &PlanAt, reply: Reply) -> Res
     match found(alloc, v, at) {
         Ok((takes, changes)) => limited(alloc, at, reply, takes, changes),
         Err(NoMemory) => Err(out_of_memory(alloc)),
+    }
+}
+
+// CREATE HEAP.
+fn plan_create<P: PlanPages>(
+    alloc: Global,
+    v: &mut P,
+    at: &PlanAt,
+    table: &Name,
+) -> Result<Plan, Refusal>
+    requires geometry { at.now.geometry ≡ (P.state v.old).view.shape.geometry }
+    requires pages { at.now.pages ≡ (P.state v.old).view.shape.pages }
+    requires name { length table.now ≤ 16 }
+    ensures { IsPlannedAs at.now (P.state v.old) (P.state v.new) (objects.create_plan (P.state v.old).view.shape table.now) result }
+{
+    match create_heap(alloc, v, at.geometry, at.pages, table) {
+        Ok(()) => written(alloc, v, at, Reply::Done),
+        Err(stop) => Err(of_create(alloc, stop, table)),
+    }
+}
+
+// DROP.
+fn plan_drop<P: PlanPages>(
+    alloc: Global,
+    v: &mut P,
+    at: &PlanAt,
+    table: &Name,
+) -> Result<Plan, Refusal>
+    requires geometry { at.now.geometry ≡ (P.state v.old).view.shape.geometry }
+    requires pages { at.now.pages ≡ (P.state v.old).view.shape.pages }
+    ensures { IsPlannedAs at.now (P.state v.old) (P.state v.new) (objects.drop_plan (P.state v.old).view.shape table.now) result }
+{
+    match drop_table(alloc, v, at.geometry, at.pages, table) {
+        Ok(()) => written(alloc, v, at, Reply::Done),
+        Err(stop) => Err(of_find(alloc, stop, table)),
     }
 }
 
@@ -164,6 +201,8 @@ pub fn plan<P: PlanPages>(
     ensures { (words : Words AnyReply) → kind_of (P.state v.old).view.shape s.now ≡ Plans words → IsPlannedAs at.now (P.state v.old) (P.state v.new) words result }
 {
     match s {
+        Statement::CreateHeap(table) => plan_create(alloc, v, at, table),
+        Statement::Drop(table) => plan_drop(alloc, v, at, table),
         Statement::Insert {
             table,
             key,

@@ -25,7 +25,7 @@ use Rattle.law_net.specs.GoodViews.{Leads}
 use Rattle.law_net.proofs.Bytes.{bit_low}
 use Rattle.law_net.proofs.GoodViews.{page_guards}
 use Rattle.law_net.proofs.WordLaws.{leads_then, leads_give, leads_refuse, leads_good, leads_look, leads_each, leads_weaker}
-use Rattle.law_net.proofs.RowBytes.{Low, low_bytes, low_number}
+use Rattle.law_net.proofs.RowBytes.{Low, low_append, low_bytes, low_number}
 use Rattle.law_net.proofs.ReadingLeaves.{Reads}
 use Rattle.law_net.proofs.InsertKeeps.{IsGoodOf, write_keeps}
 use Rattle.law_alloc.specs.Keeps.{IsOwn}
@@ -128,10 +128,6 @@ mark_keeps shape e value q v own g =
   where
     small : (n : ℕ) → n % 8 < 8
     small n = omega arith
-
-low_append : (xs ys : List ℕ) → Low xs → Low ys → Low (xs ++ ys)
-low_append [] ys a b = b
-low_append (x ∷ xs) ys a b = (a.0, low_append xs ys a.1 b)
 
 pub low_zeros : (n : ℕ) → Low (replicate n 0)
 low_zeros zero = tt

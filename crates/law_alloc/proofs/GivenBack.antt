@@ -87,7 +87,7 @@ object_freed shape row p v g =
     leads_from (sees (is_shared_page chain p)) (page_freed shape chain p) v Any (Good shape) (sees_reads (is_shared_page chain p) v Any tt) (λ shared t.
     freed_keeps shape chain p shared v own (among (λ q. q < shape.pages) p (object_pages shape chain v) (pages_inside shape chain v) (subst (λ c. c ≡ true) is e)) g)))))
 
-chain_gives : (shape : FileShape) (id : ℕ) (v : View) → IsGoodOf shape v → Leads (new_chain shape id) v (Given shape)
+pub chain_gives : (shape : FileShape) (id : ℕ) (v : View) → IsGoodOf shape v → Leads (new_chain shape id) v (Given shape)
 chain_gives shape id v g =
     let written : ℕ → Plan ℕ = λ q. put_page q (new_iam_page id q 0 0 0) then (λ _. give q) in
     let taken : ℕ → Plan ℕ = λ q. page_taken [] q then (λ _. written q) in
@@ -115,8 +115,8 @@ left_keeps shape e v lt g =
     good_then shape (take (resource.Extent (record { 0 = e }))) (λ _. gam_read shape e then (λ _. put_gam shape e 1)) v (Good shape) (extent_taken shape e v lt g) (λ u w h.
     leads_from (gam_read shape e) (λ _. put_gam shape e 1) w Any (Good shape) (map_reads _ _ w) (λ a b. gam_keeps shape e 1 w lt (omega arith) h))
 
-drop_keeps : (shape : FileShape) (row : CatalogRow) (v : View) → IsGoodOf shape v → Leads (pages_dropped shape row) v (Good shape)
-drop_keeps shape row v g =
+pub dropped_all : (shape : FileShape) (row : CatalogRow) (v : View) → IsGoodOf shape v → Leads (pages_dropped shape row) v (Good shape)
+dropped_all shape row v g =
     let Inside : List ℕ → Type 0 = AllIn (λ p. p < shape.pages) in
     leads_from (chain_now shape row) _ v (IsChainOf shape) (Good shape) (chain_reads_now shape row v) (λ chain own.
     let left : Plan (Unit {0}) = sees (left_extents shape chain) then for_each (left_freed shape) in
@@ -144,7 +144,7 @@ new_chain_keeps_good v id good =
 
 pub drop_keeps_good : DropKeepsGood
 drop_keeps_good v row good =
-    leads_weaker (pages_dropped v.shape row) v (Good v.shape) _ (λ u w g. (g.good, g.same)) (drop_keeps v.shape row v (record { same = refl; good = good }))
+    leads_weaker (pages_dropped v.shape row) v (Good v.shape) _ (λ u w g. (g.good, g.same)) (dropped_all v.shape row v (record { same = refl; good = good }))
 
 pub entry_keeps_good : EntryKeepsGood
 entry_keeps_good v i = catalog_keeps_good v (96 + 40 * i) (replicate 40 0) (low_bytes (replicate 40 0) (low_zeros 40))

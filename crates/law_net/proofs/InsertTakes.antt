@@ -14,7 +14,7 @@ use Rattle.spec_plan.specs.Rows.{heap_row, with_row, free_count, with_fullness}
 use Rattle.spec_words.specs.NetChanges.{FileShape}
 use Rattle.spec_words.specs.Takes.{is_among}
 use Rattle.spec_words.specs.Views.{View, End, Gives, Stops, Plan}
-use Rattle.spec_words.specs.Words.{sees, refuse, take, put_pfs, found_or, first_of, with_taken}
+use Rattle.spec_words.specs.Words.{◌then◌, sees, refuse, take, put_pfs, found_or, first_of, with_taken}
 use Rattle.spec_words.specs.Tables.{table_of, table_pages}
 use Rattle.spec_words.specs.Heaps.{room_on, row_put, insert_plan}
 use Rattle.law_net.specs.GoodViews.{IfGives, Leads}
@@ -25,7 +25,7 @@ use Rattle.law_net.proofs.WordLaws.{leads_then, leads_give, leads_write, leads_w
 abbrev pub HasTaken : View → Type 0
 HasTaken view = view.taken ≡ [] → ⊥
 
-taking_takes : (r : Resource) (v : View) → HasTaken (with_taken r v)
+pub taking_takes : (r : Resource) (v : View) → HasTaken (with_taken r v)
 taking_takes r v none = false≢true (subst (λ taken. is_among taken r ≡ true) none (taken_mine r v))
 
 -- what holds of whatever is given
@@ -35,6 +35,10 @@ always {A = A} plan v K all = by_end (plan v).ending
     by_end : (e : End A) → IfGives K e
     by_end (Gives x w) = all x w
     by_end (Stops refusal) = tt
+
+-- a plan, and then what leads somewhere whatever it gives
+pub behind : {A B : Type 0} (plan : Plan A) (next : A → Plan B) (v : View) (K : B → View → Type 0) → ((x : A) (w : View) → Leads (next x) w K) → Leads (plan then next) v K
+behind plan next v K h = leads_then plan next v K (always plan v _ h)
 
 row_takes : (shape : FileShape) (p : ℕ) (row : List ℕ) (v : View) → Leads (row_put shape p row) v (λ u w. HasTaken w)
 row_takes shape p row v =

@@ -23,8 +23,5 @@ pub mod ReadingLeaves
 pub mod InsertKeeps
 pub mod WordsKeep
 pub mod FewTakes
-pub mod Endings
-pub mod Statements
 pub mod Computed
 pub mod InsertTakes
-pub mod Replies

@@ -11,7 +11,7 @@ use Rattle.spec_file.specs.CatalogRows.{CatalogRow, rows_of}
 use Rattle.spec_file.specs.Roles.{is_ordinary}
 use Rattle.spec_rows.specs.Slots.{slot_count}
 use Rattle.std.specs.Prelude.{sum_by, flat_map}
-use Rattle.law_net.specs.Statements.{TablePagesLeaveView, CountLeavesView, SelectLeavesView}
+use Rattle.law_net.specs.Reading.{TablePagesLeaveView, CountLeavesView, SelectLeavesView}
 use Rattle.spec_chain.specs.Chains.{is_last, next_of}
 use Rattle.spec_chain.specs.Uses.{pfs_byte, is_allocated}
 use Rattle.spec_plan.specs.Refusals.{bad_page, no_table}

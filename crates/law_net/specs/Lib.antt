@@ -3,5 +3,5 @@ pub mod Plans
 pub mod NetLaw
 pub mod Touched
 pub mod GoodViews
-pub mod Statements
+pub mod Reading
 pub mod Examples

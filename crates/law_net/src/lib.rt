@@ -6,7 +6,7 @@ ghost use Rattle.law_net.specs.Examples.{RunsStayInExtents, CellsGoToTheLast, Sl
 ghost use Rattle.law_net.specs.NetLaw.{NetChangesAreGood};
 ghost use Rattle.law_net.specs.Touched.{ChangesAreUnder};
 ghost use Rattle.law_net.specs.GoodViews.{LookLeavesView, ReachLeavesView, HeldLeavesView, GoodLeavesView, TakeKeepsGood, GamKeepsGood, SgamKeepsGood, PfsKeepsGood, PageKeepsGood, CatalogKeepsGood};
-ghost use Rattle.law_net.specs.Statements.{StatementsAreGood, StatementsAreNumbered, StatementsKeepBeginning, StatementsReplyPlainly, TablePagesLeaveView, CountLeavesView, SelectLeavesView};
+ghost use Rattle.law_net.specs.Reading.{TablePagesLeaveView, CountLeavesView, SelectLeavesView};
 
 /// The net changes of two images of a file that differ only under what was taken make the one from the other,
 /// find their bytes, have the form of a log's changes, are covered by what is held or taken, and are few; the takes
@@ -34,15 +34,9 @@ pub fn word_laws()
     ensures catalog { CatalogKeepsGood }
 {}
 
-/// A table's pages are read without the view's being moved. Where a planned statement gives a reply, its changes and
-/// takes are good, and nobody else holds what it takes; where it is refused, the number is neither 0 nor that of want
-/// of memory or of a fault. COUNT and SELECT leave the view as it was.
-pub fn statement_laws()
+/// A table's pages are read without the view's being moved. COUNT and SELECT leave the view as it was.
+pub fn reading_laws()
     ensures pages { TablePagesLeaveView }
-    ensures good { StatementsAreGood }
-    ensures numbered { StatementsAreNumbered }
-    ensures keep { StatementsKeepBeginning }
-    ensures plain { StatementsReplyPlainly }
     ensures count { CountLeavesView }
     ensures select { SelectLeavesView }
 {}

@@ -1,5 +1,5 @@
 -- What a statement owes has the form of the log's items, and is little.
-use Rattle.std.proofs.Common.{◌≡◌, ℕ, ◌+◌, ◌<◌, ◌≤◌, Bool, true, false, eqb, List, [], ◌∷◌, ◌++◌, length, Option, Some, None, refl, sym, subst, arith}
+use Rattle.std.proofs.Common.{◌≡◌, ℕ, ◌+◌, ◌<◌, ◌≤◌, Bool, true, false, eqb, List, [], ◌∷◌, ◌++◌, length, Option, Some, None, refl, arith}
 use Rattle.std.proofs.lemmas.Bool.{cond_both}
 use Rattle.spec_log.specs.declared.item.Record.{Record}
 use Rattle.spec_log.specs.Log.{greatest_of, left_of}
@@ -16,15 +16,15 @@ use Rattle.spec_run.specs.Shapes.{Refused as Refusing, Opening, Writing, Committ
 use Rattle.spec_run.specs.Begun.{Setting, Becoming, Answers, shape_of, view_at, surely, with_memory, refused, by_word, by_changes, by_taken, by_end, by_damage, by_kind, begun_by}
 use Rattle.spec_words.specs.Takes.{takes_at, changes_at}
 use Rattle.spec_words.specs.Views.{End, Gives, Stops}
-use Rattle.spec_words.specs.Statements.{TransactionWord, Begins, Commits, RollsBack, StatementKind, Transacts, Plans, Checks, kind_of}
+use Rattle.spec_statements.specs.Statements.{TransactionWord, Begins, Commits, RollsBack, StatementKind, Transacts, Plans, Checks, kind_of}
 use Rattle.law_net.specs.Plans.{HaveCells}
 use Rattle.law_net.specs.GoodViews.{IfGives}
-use Rattle.law_net.specs.Statements.{IsGoodEnd}
+use Rattle.law_statements.specs.Statements.{IsGoodEnd}
 use Rattle.law_run.proofs.Legal.{legal_right}
 use Rattle.law_run.proofs.Planned.{EndsGood, KindEndsGood, statement_ends_good}
 use Rattle.law_run.proofs.Written.{few_changes}
 use Rattle.law_net.proofs.PlannedCells.{size_bound}
-use Rattle.law_run.specs.Laws.{IsStart, IsBounded, BegunIsBounded}
+use Rattle.law_run.specs.Laws.{IsBounded, BegunIsBounded}
 use Rattle.law_run.specs.Doing.{change_items, abort_items}
 use Rattle.law_run.proofs.Begins.{start_form, plain_form, snap_form, end_form}
 

@@ -1,5 +1,5 @@
 -- A legal history is sound, and each session is in the middle of a statement or of none.
-use Rattle.std.proofs.Common.{◌≡◌, ℕ, ◌+◌, ◌<◌, ◌≤◌, true, false, eqb, List, [], ◌∷◌, ◌++◌, length, Option, Some, None, inl, inr, refl, sym, ap, ◌∙◌, subst, arith, ◌⊎◌}
+use Rattle.std.proofs.Common.{◌≡◌, ℕ, ◌+◌, ◌<◌, true, false, eqb, List, [], ◌∷◌, ◌++◌, length, Option, Some, None, inl, inr, refl, sym, ap, ◌∙◌, subst, arith, ◌⊎◌}
 use Rattle.std.specs.Prelude.{if◌then◌else◌, slice_get}
 use Rattle.std.proofs.lemmas.Bool.{cond_both, eqb-false, cases_eq, eq-eqb}
 use Rattle.spec_file.specs.declared.data.Resource.{Resource}
@@ -16,7 +16,7 @@ use Rattle.spec_plan.specs.Planned.{planned_size}
 use Rattle.spec_plan.specs.Refusals.{is_open, nothing_to_commit, nothing_to_undo, log_full}
 use Rattle.spec_words.specs.Takes.{takes_at, changes_at}
 use Rattle.spec_words.specs.Views.{End, Gives, Stops}
-use Rattle.spec_words.specs.Statements.{TransactionWord, Begins, Commits, RollsBack, StatementKind, Transacts, Plans, Checks, kind_of}
+use Rattle.spec_statements.specs.Statements.{TransactionWord, Begins, Commits, RollsBack, StatementKind, Transacts, Plans, Checks, kind_of}
 use Rattle.spec_run.specs.OfBytes.{AllPutBytes}
 use Rattle.spec_run.specs.Shapes.{Refused as Refusing, Opening, Reading, Writing, Committing, RollingBack, plain_start, change_item, tran_to_write}
 use Rattle.spec_run.specs.Sessions.{session_of}

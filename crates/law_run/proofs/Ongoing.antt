@@ -19,7 +19,7 @@ use Rattle.spec_run.specs.Shapes.{Refused as Refusing, Opening, Writing, Committ
 use Rattle.spec_run.specs.Sessions.{session_of, open_after}
 use Rattle.spec_words.specs.Takes.{changes_at, takes_at}
 use Rattle.spec_words.specs.Views.{End, Gives, Stops}
-use Rattle.spec_words.specs.Statements.{TransactionWord, Begins, Commits, RollsBack, StatementKind, Transacts, Plans, Checks, kind_of}
+use Rattle.spec_statements.specs.Statements.{TransactionWord, Begins, Commits, RollsBack, StatementKind, Transacts, Plans, Checks, kind_of}
 use Rattle.spec_run.specs.Begun.{Setting, Begun, Becoming, shape_of, view_at, surely, with_memory, refused, by_changes, by_taken, by_end, by_word, by_damage, by_kind, begun_by, begun}
 use Rattle.spec_run.specs.Progress.{Progress, progress_of, is_short, at_work, with_statement, script_of, cut_short, moved_to, moved, first_of, MayCome}
 use Rattle.law_undo.proofs.Holders.{unfinished_parts}

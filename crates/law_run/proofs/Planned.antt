@@ -1,9 +1,8 @@
 -- How the plan of a statement ends on what its transaction sees.
-use Rattle.std.proofs.Common.{◌≡◌, ℕ, zero, suc, ◌+◌, ◌<◌, ◌≤◌, ◌&&◌, ltb, leb, not, eqb, Bool, true, List, [], ◌∷◌, ◌++◌, length, refl, sym, subst, arith}
+use Rattle.std.proofs.Common.{◌≡◌, ℕ, ◌<◌, ◌&&◌, ltb, leb, not, eqb, true, List, [], ◌∷◌, ◌++◌, length, arith}
 use Rattle.std.specs.List.{list_all}
 use Rattle.std.proofs.lemmas.Bool.{and_parts, leb-true}
 use Rattle.spec_file.specs.Catalog.{is_name}
-use Rattle.spec_file.specs.Image.{AreBytes}
 use Rattle.spec_log.specs.declared.item.Record.{Record}
 use Rattle.spec_log.specs.Images.{view_of}
 use Rattle.spec_log.specs.Log.{holds, holder_of}
@@ -13,15 +12,15 @@ use Rattle.spec_script.specs.declared.reply.Reply.{Reply}
 use Rattle.spec_script.specs.declared.statement.Statement.{Statement}
 use Rattle.spec_script.specs.declared.statement.Statement.TheVariants as statement
 use Rattle.spec_words.specs.Views.{View, End, Gives, Stops, Plan}
-use Rattle.spec_words.specs.Statements.{StatementKind, Transacts, Plans, Checks, kind_of}
+use Rattle.spec_statements.specs.Statements.{StatementKind, Transacts, Plans, Checks, kind_of}
 use Rattle.spec_run.specs.Begun.{Setting, shape_of, view_at}
 use Rattle.spec_run.specs.OfBytes.{AllPutBytes}
 use Rattle.law_undo.proofs.Shapes.{view_shape, whole_shape}
 use Rattle.law_net.specs.Files.{IsImageOf}
 use Rattle.law_net.specs.GoodViews.{IfGives}
-use Rattle.law_net.specs.Statements.{IsGoodEnd, HasSameBeginning, HasBytes, IfPlanned}
-use Rattle.law_net.proofs.Statements.{statements_are_good}
-use Rattle.law_net.proofs.Endings.{statements_keep_beginning}
+use Rattle.law_statements.specs.Statements.{IsGoodEnd, HasSameBeginning, HasBytes, IfPlanned}
+use Rattle.law_statements.proofs.Statements.{statements_are_good}
+use Rattle.law_statements.proofs.StatementEnds.{statements_keep_beginning}
 use Rattle.law_net.proofs.RowBytes.{Low, low_bytes}
 use Rattle.law_run.specs.Laws.{IsStart}
 use Rattle.law_run.proofs.OfBytes.{view_bytes}
@@ -46,11 +45,13 @@ payload_low (b ∷ payload) h =
     let parts = and_parts (is_payload_byte b) (list_all is_payload_byte payload) h in
     (printed_low b parts.0, payload_low payload parts.1)
 
--- what a statement of a script puts into rows are bytes
+-- what a statement of a script puts into rows are bytes, and a name that it gives is one
 statement_bytes : (st : Statement) → is_statement st ≡ true → HasBytes st
 statement_bytes statement.Begin h = tt
 statement_bytes statement.Commit h = tt
 statement_bytes statement.Rollback h = tt
+statement_bytes (statement.CreateHeap name) h = h
+statement_bytes (statement.Drop name) h = tt
 statement_bytes (statement.Insert table key payload) h =
     low_bytes payload (payload_low payload (and_parts (list_all is_payload_byte payload) (leb (length payload) 1013) (and_parts (is_name table && ltb key _) (is_payload payload) h).1).0)
 statement_bytes (statement.Count table) h = tt

@@ -18,7 +18,7 @@ use Rattle.law_undo.proofs.Views.{sound_rules}
 use Rattle.law_undo.proofs.Shapes.{view_final_shape}
 use Rattle.law_net.specs.Plans.{Find, HaveCells, AreCoveredBy}
 use Rattle.law_net.specs.NetLaw.{HaveBytes, IsHeldOrTaken}
-use Rattle.law_net.specs.Statements.{IsGoodEnd, HasSameBeginning}
+use Rattle.law_statements.specs.Statements.{IsGoodEnd, HasSameBeginning}
 use Rattle.law_net.proofs.Takes.{same_resource}
 use Rattle.spec_words.specs.NetChanges.{FileShape}
 use Rattle.spec_words.specs.Takes.{takes_at, changes_at}

@@ -7,7 +7,7 @@ use Rattle.spec_log.specs.declared.item.Record.TheVariants.{Snap}
 use Rattle.spec_log.specs.Log.{greatest_of, left_of}
 use Rattle.spec_script.specs.declared.reply.Reply.TheVariants.{Done, Refused}
 use Rattle.spec_plan.specs.Refusals.{is_open, nothing_to_commit, nothing_to_undo}
-use Rattle.spec_words.specs.Statements.{TransactionWord, Begins, Commits, RollsBack, StatementKind, Transacts, Plans, Checks, kind_of}
+use Rattle.spec_statements.specs.Statements.{TransactionWord, Begins, Commits, RollsBack, StatementKind, Transacts, Plans, Checks, kind_of}
 use Rattle.spec_run.specs.Shapes.{Refused as Refusing, Opening, Committing, RollingBack, plain_start}
 use Rattle.spec_run.specs.Sessions.{open_of, log_before}
 use Rattle.spec_run.specs.Begun.{Setting, Becoming, Tells, shape_of, surely, by_word, by_kind, begun_by}

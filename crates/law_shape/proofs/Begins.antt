@@ -14,11 +14,12 @@ use Rattle.spec_plan.specs.Planned.{planned_size}
 use Rattle.spec_plan.specs.Refusals.{is_open, nothing_to_commit, nothing_to_undo, log_full}
 use Rattle.spec_words.specs.Takes.{changes_at, takes_at}
 use Rattle.spec_words.specs.Views.{View, End, Gives, Stops}
-use Rattle.spec_words.specs.Statements.{TransactionWord, Begins, Commits, RollsBack, StatementKind, Transacts, Plans, Checks, kind_of}
+use Rattle.spec_statements.specs.Statements.{TransactionWord, Begins, Commits, RollsBack, StatementKind, Transacts, Plans, Checks, kind_of}
 use Rattle.spec_run.specs.Shapes.{Shape, Refused as Refusing, Opening, Reading, Writing, Committing, RollingBack, Checking, plain_start, items_by, tran_to_write, FitsRecord}
 use Rattle.spec_run.specs.Begun.{Setting, Begun, Becoming, shape_of, view_at, surely, with_memory, refused, by_word, by_changes, by_taken, by_end, by_damage, by_kind, begun_by, begun}
-use Rattle.law_net.specs.Statements.{IfPlanned}
-use Rattle.law_net.proofs.Endings.{EndsWell, EndsAlways, statement_ends}
+use Rattle.law_statements.specs.Statements.{IfPlanned}
+use Rattle.law_statements.proofs.Endings.{EndsWell, EndsAlways}
+use Rattle.law_statements.proofs.StatementEnds.{statement_ends}
 use Rattle.law_shape.proofs.Shaped.{NoneShort, long_changes, long_undos}
 
 -- what begins after log g, with open transaction t, owes the items of a shape, none of them for want of memory; for

@@ -1,5 +1,6 @@
 //! The tests of what a statement is planned over: the lock table, and on a view in memory a heap whose rows are
-//! counted and found by their key, and that gets one more, what a statement changes and takes, and how it is planned.
+//! counted and found by their key, and that gets one more, tables that come and go, what a statement changes and takes,
+//! and how it is planned.
 #![tactic(auto)]
 
 #[cfg(test)]
@@ -20,3 +21,7 @@ mod net_tests;
 mod plan_tests;
 #[cfg(test)]
 mod select_tests;
+#[cfg(test)]
+mod table_refusals;
+#[cfg(test)]
+mod table_tests;

@@ -7,7 +7,7 @@ use crate::changes::{Change, are_changes};
 use crate::made::{HEAP, locks_on, pages_of};
 use db_locks::MemView;
 use db_plan::{Plan, PlanAt, plan};
-use pg_base::{Geometry, ObjId, PageNo, Resource, Tran};
+use pg_base::{Geometry, ObjId, Page, PageNo, Resource, Tran};
 use rows_files::pieces::Piece::{Bytes, Chain, Heap, HeapPage, Pfs, Rows, Slots};
 use rows_files::pieces::{ONLY, Piece};
 use spec_log::Values;
@@ -27,10 +27,11 @@ const EMPTY: &[Piece] = &[
 
 static EMPTY_HEAP: [&[Piece]; 1] = [EMPTY];
 
-// What the transaction has announced, and the log: changes, changes, and bytes.
-type Used = (u64, u64, u64);
+/// What the transaction has announced, and the log: changes, changes, and bytes.
+pub type Used = (u64, u64, u64);
 
-const NOTHING: Used = (0, 0, 0);
+/// Nothing yet.
+pub const NOTHING: Used = (0, 0, 0);
 
 fn counting(alloc: Global) -> Result<Statement, Fail>
     ensures proper { IfOk result (λ s. is_statement s ≡ true) }
@@ -60,6 +61,34 @@ fn inserting(alloc: Global) -> Result<Statement, Fail>
     })
 }
 
+/// A statement is planned over these 24 pages.
+pub fn planned_over(
+    alloc: Global,
+    geometry: Geometry,
+    statement: &Statement,
+    pages: Vec<Page>,
+    held: &[Resource],
+    used: Used,
+) -> Result<Result<Plan, Refusal>, Fail>
+    requires proper { is_statement statement.now ≡ true }
+    requires planned { is_planned statement.now ≡ true }
+{
+    if pages.len() != 24 {
+        return Err(Fail::from("24 pages"));
+    }
+    let locks = locks_on(alloc, held)?;
+    let mut view = MemView::begin(alloc, geometry, 1, pages, locks)?;
+    let (used_changes, announced_changes, announced_bytes) = used;
+    let at = PlanAt {
+        geometry,
+        pages: 24,
+        used_changes,
+        announced_changes,
+        announced_bytes,
+    };
+    Ok(plan(alloc, statement, &mut view, &at))
+}
+
 fn planned(
     alloc: Global,
     statement: &Statement,
@@ -71,20 +100,7 @@ fn planned(
     requires planned { is_planned statement.now ≡ true }
 {
     let pages = pages_of(alloc, parts)?;
-    if pages.len() != 24 {
-        return Err(Fail::from("24 pages"));
-    }
-    let locks = locks_on(alloc, held)?;
-    let mut view = MemView::begin(alloc, Geometry::Small, 1, pages, locks)?;
-    let (used_changes, announced_changes, announced_bytes) = used;
-    let at = PlanAt {
-        geometry: Geometry::Small,
-        pages: 24,
-        used_changes,
-        announced_changes,
-        announced_bytes,
-    };
-    Ok(plan(alloc, statement, &mut view, &at))
+    planned_over(alloc, Geometry::Small, statement, pages, held, used)
 }
 
 fn inserted(
@@ -188,17 +204,18 @@ fn the_first_row_makes_four_changes(rt: HostRuntime) -> Result<(), Fail> {
     Ok(())
 }
 
-// A refusal: its number, what it names, a page, a resource, and the transaction that holds it.
+/// A refusal: its number, what it names, a page, a resource, and the transaction that holds it.
 #[derive(Drop)]
-struct Due {
-    number: u16,
-    name: &'static str,
-    page: u32,
-    resource: Option<Resource>,
-    by: u64,
+pub struct Due {
+    pub number: u16,
+    pub name: &'static str,
+    pub page: u32,
+    pub resource: Option<Resource>,
+    pub by: u64,
 }
 
-fn is_due(found: &Result<Plan, Refusal>, due: &Due) -> bool {
+/// It is refused so.
+pub fn is_due(found: &Result<Plan, Refusal>, due: &Due) -> bool {
     match found {
         Ok(_) => false,
         Err(refusal) => {

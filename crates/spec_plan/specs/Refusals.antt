@@ -1,7 +1,7 @@
 -- The refusals (numbers are chosen after those of SQL Server; what each means is this project's own).
 use Rattle.std.specs.Prelude.{ℕ, List, [], Some, None}
 use Rattle.spec_file.specs.declared.data.Resource.{Resource}
-use Rattle.spec_script.specs.declared.limits.TheConstants.{IS_OPEN, NOTHING_TO_COMMIT, NOTHING_TO_UNDO, NO_TABLE, HELD, BAD_PAGE, NO_ROOM, LOG_FULL, NO_MEMORY}
+use Rattle.spec_script.specs.declared.limits.TheConstants.{IS_OPEN, NOTHING_TO_COMMIT, NOTHING_TO_UNDO, NO_TABLE, SAME_NAME, TOO_MANY_TABLES, HELD, BAD_PAGE, NO_ROOM, LOG_FULL, NO_MEMORY}
 use Rattle.spec_script.specs.declared.reply.Refusal.{Refusal}
 use Rattle.spec_script.specs.Refusals.{plain_refusal}
 
@@ -18,6 +18,14 @@ nothing_to_undo = plain_refusal NOTHING_TO_UNDO
 -- no object has the name
 abbrev pub no_table : List ℕ → Refusal
 no_table name = record { number = NO_TABLE; name = name; key = 0; page = record { 0 = 0 }; resource = None; by = record { 0 = 0 } }
+
+-- an object has the name already
+abbrev pub same_name : List ℕ → Refusal
+same_name name = record { number = SAME_NAME; name = name; key = 0; page = record { 0 = 0 }; resource = None; by = record { 0 = 0 } }
+
+-- the catalog has no entry for one more table
+abbrev pub too_many_tables : Refusal
+too_many_tables = plain_refusal TOO_MANY_TABLES
 
 -- transaction t holds the resource
 abbrev pub held_by : Resource → ℕ → Refusal

@@ -8,7 +8,7 @@ use Rattle.spec_script.specs.declared.reply.Cause.TheVariants.{Fault}
 use Rattle.spec_script.specs.declared.reply.Refusal.{Refusal}
 use Rattle.spec_script.specs.declared.statement.Statement.{Statement}
 use Rattle.spec_plan.specs.Refusals.{out_of_memory}
-use Rattle.spec_words.specs.Statements.{StatementKind, Transacts, Plans, Checks, kind_of}
+use Rattle.spec_statements.specs.Statements.{StatementKind, Transacts, Plans, Checks, kind_of}
 use Rattle.spec_run.specs.Begun.{Setting, Telling, Tells, shape_of, view_at, becomes}
 
 -- what a one-thread database answers where the record of a statement follows these items, in a session whose open

@@ -23,7 +23,7 @@ use Rattle.spec_plan.specs.Refusals.{is_open, nothing_to_commit, nothing_to_undo
 use Rattle.spec_words.specs.NetChanges.{FileShape}
 use Rattle.spec_words.specs.Takes.{changes_at, takes_at}
 use Rattle.spec_words.specs.Views.{View, beginning, End, Gives, Stops}
-use Rattle.spec_words.specs.Statements.{TransactionWord, Begins, Commits, RollsBack, StatementKind, Transacts, Plans, Checks, kind_of}
+use Rattle.spec_statements.specs.Statements.{TransactionWord, Begins, Commits, RollsBack, StatementKind, Transacts, Plans, Checks, kind_of}
 use Rattle.spec_run.specs.Shapes.{Shape, Refused as Refusing, Opening, Reading, Writing, Committing, RollingBack, Checking, items_by, plain_start, tran_to_write}
 
 -- what a run begins with: the file's geometry, the log and the image as it finds them, the scripts of its sessions

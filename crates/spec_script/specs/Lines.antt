@@ -5,7 +5,7 @@ use Rattle.spec_file.specs.Catalog.{is_name}
 use Rattle.spec_file.specs.declared.sizes.TheConstants.{PAYLOAD_LIMIT}
 use Rattle.spec_script.specs.declared.limits.TheConstants.{MOST_WORKERS, USUAL_WORKERS, MOST_TURNS}
 use Rattle.spec_script.specs.declared.statement.Statement.{Statement}
-use Rattle.spec_script.specs.declared.statement.Statement.TheVariants.{Begin, Commit, Rollback, Insert, Count, Select, Check}
+use Rattle.spec_script.specs.declared.statement.Statement.TheVariants.{Begin, Commit, Rollback, CreateHeap, Drop, Insert, Count, Select, Check}
 
 -- a byte from 0x20 to 0x7E
 abbrev pub is_printable : ℕ → Bool
@@ -24,6 +24,8 @@ abbrev pub is_statement : Statement → Bool
 is_statement Begin = true
 is_statement Commit = true
 is_statement Rollback = true
+is_statement (CreateHeap table) = is_name table
+is_statement (Drop table) = is_name table
 is_statement (Insert table key payload) = is_name table && nat_lt key (2 ^ 64) && is_payload payload
 is_statement (Count table) = is_name table
 is_statement (Select table key) = is_name table && nat_lt key (2 ^ 64)
@@ -34,6 +36,8 @@ abbrev pub statement_line : Statement → List ℕ
 statement_line Begin = codes "BEGIN"
 statement_line Commit = codes "COMMIT"
 statement_line Rollback = codes "ROLLBACK"
+statement_line (CreateHeap table) = codes "CREATE HEAP " ++ table
+statement_line (Drop table) = codes "DROP " ++ table
 statement_line (Insert table key payload) =
     codes "INSERT " ++ (table ++ (codes " " ++ (decimal key ++ (codes " '" ++ (payload ++ codes "'")))))
 statement_line (Count table) = codes "COUNT " ++ table

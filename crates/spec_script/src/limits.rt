@@ -51,3 +51,6 @@ pub const LOG_FULL: u16 = 9002;
 
 /// BEGIN where a transaction is open.
 pub const IS_OPEN: u16 = 60001;
+
+/// The catalog has no entry for one more table.
+pub const TOO_MANY_TABLES: u16 = 60002;

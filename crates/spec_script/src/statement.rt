@@ -7,6 +7,10 @@ pub enum Statement {
     Begin,
     Commit,
     Rollback,
+    /// A new table, a heap.
+    CreateHeap(Name),
+    /// A table goes.
+    Drop(Name),
     /// One more row of a table.
     Insert {
         table: Name,

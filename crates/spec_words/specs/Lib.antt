@@ -5,4 +5,3 @@ pub mod Words
 pub mod Tables
 pub mod Orders
 pub mod Heaps
-pub mod Statements

@@ -12,7 +12,7 @@ use Rattle.spec_file.specs.Catalog.{is_name, is_name_byte}
 use Rattle.spec_script.specs.Lines.{is_printable, is_payload, is_payload_byte, is_statement, statement_line, IsStatementLine}
 use Rattle.spec_script.specs.Texts.{AreLines, kept, is_skipped}
 use Rattle.spec_script.specs.declared.statement.Statement.{Statement}
-use Rattle.spec_script.specs.declared.statement.Statement.TheVariants.{Begin, Commit, Rollback, Insert, Count, Select, Check}
+use Rattle.spec_script.specs.declared.statement.Statement.TheVariants.{Begin, Commit, Rollback, CreateHeap, Drop, Insert, Count, Select, Check}
 use Rattle.sql_script.specs.Laws.{IsReadAgain, printed}
 use Rattle.spec_file.proofs.NameLaws.{name_bytes}
 use Rattle.sql_script.proofs.Numbers.{own}
@@ -52,6 +52,8 @@ plain_line : (s : Statement) → IsTrue (is_statement s) → list_all is_printab
 plain_line Begin h = refl
 plain_line Commit h = refl
 plain_line Rollback h = refl
+plain_line (CreateHeap table) h = plain_name table h
+plain_line (Drop table) h = plain_name table h
 plain_line (Insert table key payload) h =
     let parts = and_parts (is_name table && nat_lt key (2 ^ 64)) (is_payload payload) h in
     let front = and_parts (is_name table) (nat_lt key (2 ^ 64)) parts.0 in
@@ -72,6 +74,8 @@ shown_line : (s : Statement) → not (is_skipped (statement_line s)) ≡ true
 shown_line Begin = refl
 shown_line Commit = refl
 shown_line Rollback = refl
+shown_line (CreateHeap table) = ap (λ (t : Bool). not (t || false)) (begins_shown 67 (drop 1 (statement_line (CreateHeap table))))
+shown_line (Drop table) = ap (λ (t : Bool). not (t || false)) (begins_shown 68 (drop 1 (statement_line (Drop table))))
 shown_line (Insert table key payload) = ap (λ (t : Bool). not (t || false)) (begins_shown 73 (drop 1 (statement_line (Insert table key payload))))
 shown_line (Count table) = ap (λ (t : Bool). not (t || false)) (begins_shown 67 (drop 1 (statement_line (Count table))))
 shown_line (Select table key) = ap (λ (t : Bool). not (t || false)) (begins_shown 83 (drop 1 (statement_line (Select table key))))

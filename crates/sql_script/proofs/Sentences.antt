@@ -7,8 +7,8 @@ use Rattle.std.proofs.lemmas.Slice.Eq.{bytes_eq-Decides}
 use Rattle.spec_file.specs.Catalog.{is_name}
 use Rattle.spec_script.specs.Lines.{is_payload, is_statement, statement_line, IsStatementLine, IsTurnsLine, turns_line}
 use Rattle.spec_script.specs.declared.statement.Statement.{Statement}
-use Rattle.spec_script.specs.declared.statement.Statement.TheVariants.{Begin, Commit, Rollback, Insert, Count, Select, Check}
-use Rattle.sql_script.specs.Reading.{◌>>=◌, after, cut_at_space, number_of, number_within, name_of, payload_of, row_of, insert_of, count_of, select_of, check_of, keyword_of, said, statement_of, turns_of}
+use Rattle.spec_script.specs.declared.statement.Statement.TheVariants.{Begin, Commit, Rollback, CreateHeap, Drop, Insert, Count, Select, Check}
+use Rattle.sql_script.specs.Reading.{◌>>=◌, after, cut_at_space, number_of, number_within, name_of, payload_of, row_of, create_of, drop_of, insert_of, count_of, select_of, check_of, keyword_of, said, other_of, statement_of, turns_of}
 use Rattle.sql_script.specs.Stops.{Tells}
 use Rattle.sql_script.proofs.Spelling.{bind_ok, map_ok, after_parts, cut_spelled, cut_parts}
 use Rattle.sql_script.proofs.Figures.{decimal_no_space, name_no_space, number_spelled, number_parts, within_spelled, within_parts, name_spelled, name_parts, payload_spelled, payload_parts}
@@ -71,10 +71,12 @@ select_spelled table key named small =
 
 -- the line of a statement is read into it
 pub spelled : (s : Statement) → IsTrue (is_statement s) → statement_of (statement_line s) ≡ Some s
-unfolding statement_of keyword_of after insert_of count_of check_of
+unfolding statement_of other_of keyword_of after create_of drop_of insert_of count_of check_of
 spelled Begin h = refl
 spelled Commit h = refl
 spelled Rollback h = refl
+spelled (CreateHeap table) h = ap (option_map (λ name. CreateHeap name)) (name_spelled table h)
+spelled (Drop table) h = ap (option_map (λ name. Drop name)) (name_spelled table h)
 spelled (Insert table key payload) h =
     let parts = and_parts (is_name table && nat_lt key (2 ^ 64)) (is_payload payload) h in
     let front = and_parts (is_name table) (nat_lt key (2 ^ 64)) parts.0 in
@@ -88,7 +90,7 @@ spelled (Check workers) h =
     ap (option_map (λ n. Check n)) (within_spelled 1 16 workers (omega (arith, leb-true workers 16 parts.1)) h)
 
 short_check : statement_of (codes "DBCC CHECKDB") ≡ Some (Check 4)
-unfolding statement_of keyword_of after
+unfolding statement_of other_of keyword_of after
 short_check = refl
 
 pub complete : (line : List ℕ) (s : Statement) → IsStatementLine line s → statement_of line ≡ Some s
@@ -99,6 +101,20 @@ said_ok : (o : Option (List ℕ)) (f : List ℕ → Option Statement) (other : O
     → ((rest : List ℕ) × (o ≡ Some rest) × (f rest ≡ Some s)) ⊎ (other ≡ Some s)
 said_ok (Some rest) f other s e = inl (rest, refl, e)
 said_ok None f other s e = inr e
+
+create_parts : (line rest : List ℕ) (s : Statement) → line ≡ codes "CREATE HEAP " ++ rest → create_of rest ≡ Some s → IsStatementLine line s
+unfolding create_of
+create_parts line rest s spelling e =
+    let name = map_ok (λ (table : List ℕ). CreateHeap table) (name_of rest) s e in
+    let is = name_parts rest name.0 name.1 in
+    subst (IsStatementLine line) name.2 (record { allowed = is.1; spelled = inl (spelling ∙ ap (λ l. codes "CREATE HEAP " ++ l) is.0) })
+
+drop_parts : (line rest : List ℕ) (s : Statement) → line ≡ codes "DROP " ++ rest → drop_of rest ≡ Some s → IsStatementLine line s
+unfolding drop_of
+drop_parts line rest s spelling e =
+    let name = map_ok (λ (table : List ℕ). Drop table) (name_of rest) s e in
+    let is = name_parts rest name.0 name.1 in
+    subst (IsStatementLine line) name.2 (record { allowed = is.1; spelled = inl (spelling ∙ ap (λ l. codes "DROP " ++ l) is.0) })
 
 insert_parts : (line rest : List ℕ) (s : Statement) → line ≡ codes "INSERT " ++ rest → insert_of rest ≡ Some s → IsStatementLine line s
 unfolding insert_of
@@ -176,16 +192,25 @@ keyword_parts line s e =
     (keyword_case line (codes "COMMIT") s Commit _ e1))
     (keyword_case line (codes "BEGIN") s Begin _ e)
 
+other_parts : (line : List ℕ) (s : Statement) → other_of line ≡ Some s → IsStatementLine line s
+unfolding other_of
+other_parts line s e =
+    ⊎_elim (λ p. create_parts line p.0 s (after_parts (codes "CREATE HEAP ") line p.0 p.1) p.2)
+    (λ e1. ⊎_elim (λ p. drop_parts line p.0 s (after_parts (codes "DROP ") line p.0 p.1) p.2)
+    (λ e2. ⊎_elim (λ p. check_parts line p.0 s (after_parts (codes "DBCC CHECKDB WITH MAXDOP = ") line p.0 p.1) p.2)
+    (λ e3. keyword_parts line s e3)
+    (said_ok (after (codes "DBCC CHECKDB WITH MAXDOP = ") line) check_of (keyword_of line) s e2))
+    (said_ok (after (codes "DROP ") line) drop_of _ s e1))
+    (said_ok (after (codes "CREATE HEAP ") line) create_of _ s e)
+
 pub sound : (line : List ℕ) (s : Statement) → statement_of line ≡ Some s → IsStatementLine line s
 unfolding statement_of
 sound line s e =
     ⊎_elim (λ p. insert_parts line p.0 s (after_parts (codes "INSERT ") line p.0 p.1) p.2)
     (λ e1. ⊎_elim (λ p. count_parts line p.0 s (after_parts (codes "COUNT ") line p.0 p.1) p.2)
     (λ e2. ⊎_elim (λ p. select_parts line p.0 s (after_parts (codes "SELECT ") line p.0 p.1) p.2)
-    (λ e3. ⊎_elim (λ p. check_parts line p.0 s (after_parts (codes "DBCC CHECKDB WITH MAXDOP = ") line p.0 p.1) p.2)
-    (λ e4. keyword_parts line s e4)
-    (said_ok (after (codes "DBCC CHECKDB WITH MAXDOP = ") line) check_of (keyword_of line) s e3))
-    (said_ok (after (codes "SELECT ") line) select_of _ s e2))
+    (λ e3. other_parts line s e3)
+    (said_ok (after (codes "SELECT ") line) select_of (other_of line) s e2))
     (said_ok (after (codes "COUNT ") line) count_of _ s e1))
     (said_ok (after (codes "INSERT ") line) insert_of _ s e)
 

@@ -6,7 +6,7 @@ use Rattle.spec_file.specs.Catalog.{is_name}
 use Rattle.spec_script.specs.Lines.{is_payload}
 use Rattle.spec_script.specs.declared.limits.TheConstants.{MOST_WORKERS, USUAL_WORKERS, MOST_TURNS}
 use Rattle.spec_script.specs.declared.statement.Statement.{Statement}
-use Rattle.spec_script.specs.declared.statement.Statement.TheVariants.{Begin, Commit, Rollback, Insert, Count, Select, Check}
+use Rattle.spec_script.specs.declared.statement.Statement.TheVariants.{Begin, Commit, Rollback, CreateHeap, Drop, Insert, Count, Select, Check}
 
 infixl 10 ◌>>=◌
 abbrev pub ◌>>=◌ : {A B : Type 0} → Option A → (A → Option B) → Option B
@@ -72,6 +72,12 @@ keyword_of line =
     else (if bytes_eq line (codes "ROLLBACK") then Some Rollback
     else (if bytes_eq line (codes "DBCC CHECKDB") then Some (Check USUAL_WORKERS) else None)))
 
+unfoldable pub create_of : List ℕ → Option Statement
+create_of word = option_map (λ table. CreateHeap table) (name_of word)
+
+unfoldable pub drop_of : List ℕ → Option Statement
+drop_of word = option_map (λ table. Drop table) (name_of word)
+
 unfoldable pub insert_of : List ℕ → Option Statement
 insert_of words = option_map (λ row. Insert row.0 row.1 row.2) (row_of words)
 
@@ -91,10 +97,16 @@ abbrev pub said : {A : Type 0} → Option A → (A → Option Statement) → Opt
 said (Some x) f other = f x
 said None f other = other
 
+-- a statement that isn't about rows
+unfoldable pub other_of : List ℕ → Option Statement
+other_of line =
+    said (after (codes "CREATE HEAP ") line) create_of
+    (said (after (codes "DROP ") line) drop_of
+    (said (after (codes "DBCC CHECKDB WITH MAXDOP = ") line) check_of (keyword_of line)))
+
 -- the statement of a line
 unfoldable pub statement_of : List ℕ → Option Statement
 statement_of line =
     said (after (codes "INSERT ") line) insert_of
     (said (after (codes "COUNT ") line) count_of
-    (said (after (codes "SELECT ") line) select_of
-    (said (after (codes "DBCC CHECKDB WITH MAXDOP = ") line) check_of (keyword_of line))))
+    (said (after (codes "SELECT ") line) select_of (other_of line)))

@@ -37,15 +37,24 @@ fn insert_head(table: &str, key: u64) -> Head
     head
 }
 
-fn count_line(table: &str) -> Head
-    requires { length table.now ≤ 16 }
-    ensures { result.bytes ≡ (codes "COUNT " ++ table.now) ++ codes "\n" }
+// The line of a statement that names a table alone, behind these words.
+fn table_line(words: &str, table: &str) -> Head
+    requires words { length words.now ≤ 12 }
+    requires table { length table.now ≤ 16 }
+    ensures { result.bytes ≡ (words.now ++ table.now) ++ codes "\n" }
 {
     let mut line = Head::new();
-    line.push_str("COUNT ");
+    line.push_str(words);
     line.push_str(table);
     line.push_str("\n");
     line
+}
+
+fn create_line(table: &str) -> Head
+    requires { length table.now ≤ 16 }
+    ensures { result.bytes ≡ (codes "CREATE HEAP " ++ table.now) ++ codes "\n" }
+{
+    table_line("CREATE HEAP ", table)
 }
 
 fn select_line(table: &str, key: u64) -> Head
@@ -81,6 +90,13 @@ pub fn print_statement(statement: &Statement, into: &mut Vec<u8>) -> Result<(), 
         Statement::Begin => append(into, b"BEGIN\n"),
         Statement::Commit => append(into, b"COMMIT\n"),
         Statement::Rollback => append(into, b"ROLLBACK\n"),
+        Statement::CreateHeap(table) => {
+            append(into, create_line(table.as_str()).as_str().as_bytes())
+        }
+        Statement::Drop(table) => {
+            let line = table_line("DROP ", table.as_str());
+            append(into, line.as_str().as_bytes())
+        }
         Statement::Insert {
             table,
             key,
@@ -89,7 +105,10 @@ pub fn print_statement(statement: &Statement, into: &mut Vec<u8>) -> Result<(), 
             let head = insert_head(table.as_str(), *key);
             append_three(into, head.as_str().as_bytes(), payload.as_slice(), b"'\n")
         }
-        Statement::Count(table) => append(into, count_line(table.as_str()).as_str().as_bytes()),
+        Statement::Count(table) => {
+            let line = table_line("COUNT ", table.as_str());
+            append(into, line.as_str().as_bytes())
+        }
         Statement::Select { table, key } => {
             append(into, select_line(table.as_str(), *key).as_str().as_bytes())
         }

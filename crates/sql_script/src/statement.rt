@@ -70,6 +70,26 @@ fn count_of(alloc: Global, word: &[u8]) -> Result<Option<Statement>, NoMemory>
     Ok(Some(Statement::Count(name_from(alloc, word)?)))
 }
 
+#[tactic(auto, unfolding(crate::specs::Reading::create_of))]
+fn create_of(alloc: Global, word: &[u8]) -> Result<Option<Statement>, NoMemory>
+    ensures { IfOk result (λ statement. statement ≡ spec.create_of word.now) }
+{
+    let Some(word) = name_of(word) else {
+        return Ok(None);
+    };
+    Ok(Some(Statement::CreateHeap(name_from(alloc, word)?)))
+}
+
+#[tactic(auto, unfolding(crate::specs::Reading::drop_of))]
+fn drop_of(alloc: Global, word: &[u8]) -> Result<Option<Statement>, NoMemory>
+    ensures { IfOk result (λ statement. statement ≡ spec.drop_of word.now) }
+{
+    let Some(word) = name_of(word) else {
+        return Ok(None);
+    };
+    Ok(Some(Statement::Drop(name_from(alloc, word)?)))
+}
+
 // What a SELECT names.
 #[derive(Clone, Copy)]
 struct Place<'a> {
@@ -137,6 +157,23 @@ fn keyword_of(line: &[u8]) -> Option<Statement>
     }
 }
 
+// A statement that isn't about rows.
+#[tactic(auto, unfolding(crate::specs::Reading::other_of))]
+fn other_of(alloc: Global, line: &[u8]) -> Result<Option<Statement>, NoMemory>
+    ensures { IfOk result (λ statement. statement ≡ spec.other_of line.now) }
+{
+    if let Some(word) = after(line, b"CREATE HEAP ") {
+        return create_of(alloc, word);
+    }
+    if let Some(word) = after(line, b"DROP ") {
+        return drop_of(alloc, word);
+    }
+    if let Some(digits) = after(line, b"DBCC CHECKDB WITH MAXDOP = ") {
+        return Ok(check_of(digits));
+    }
+    Ok(keyword_of(line))
+}
+
 /// The statement of a line.
 #[tactic(auto, unfolding(crate::specs::Reading::statement_of))]
 pub(crate) fn statement_of(alloc: Global, line: &[u8]) -> Result<Option<Statement>, NoMemory>
@@ -151,10 +188,7 @@ pub(crate) fn statement_of(alloc: Global, line: &[u8]) -> Result<Option<Statemen
     if let Some(words) = after(line, b"SELECT ") {
         return select_of(alloc, words);
     }
-    if let Some(digits) = after(line, b"DBCC CHECKDB WITH MAXDOP = ") {
-        return Ok(check_of(digits));
-    }
-    Ok(keyword_of(line))
+    other_of(alloc, line)
 }
 
 /// The session and the count of a schedule's line.

@@ -20,7 +20,7 @@ returns g c = λ looked before.
     let b = g.P.PlanPages.state c.look_page.new.v in
     let bytes = little_bytes 4 c.args.value in
     write_looked a b (g.P.PlanPages.state c.put_page.new.view) (resource.Page c.args.q) c.args.q.0 (Bytes c.args.q c.args.at) bytes looked c.put_page.result before c.in_ok-look_page.ensures.look
-    (part_written looked c.args.q.0 c.args.at bytes c.edit_number.new.page.bytes
+    (part_written looked (resource.Page c.args.q) c.args.q.0 c.args.at bytes c.edit_number.new.page.bytes
     (λ told. c.edit_number.ensures
     ∙ ap (λ old. with_bytes old c.args.at bytes)
     (c.in_ok-look_page.ensures.told (sym c.in_ok-look_page.ensures.look.stays.told ∙ told) c.requires.ownable.ordinary ∙ ap (λ (v : View). page v.now c.args.q.0) (sym c.in_ok-look_page.ensures.view)))

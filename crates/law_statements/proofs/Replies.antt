@@ -1,11 +1,10 @@
 -- What planned statements reply.
-use Rattle.std.proofs.Common.{ℕ, List, [], ◌∷◌, length}
+use Rattle.std.proofs.Common.{ℕ, List, [], length}
 use Rattle.std.specs.Prelude.{sum_by, flat_map}
 use Rattle.spec_file.specs.declared.data.Resource.TheVariants as resource
 use Rattle.spec_rows.specs.Slots.{slot_count}
 use Rattle.spec_script.specs.declared.reply.Reply.{Reply}
-use Rattle.spec_script.specs.declared.reply.Reply.TheVariants.{Rows}
-use Rattle.spec_script.specs.declared.statement.Statement.{Statement}
+use Rattle.spec_script.specs.declared.reply.Reply.TheVariants.{Done, Rows}
 use Rattle.spec_script.specs.declared.statement.Statement.TheVariants as statement
 use Rattle.spec_plan.specs.Refusals.{no_room}
 use Rattle.spec_plan.specs.Rows.{heap_row, payloads_of}
@@ -15,10 +14,11 @@ use Rattle.spec_words.specs.Words.{refuse, take, found_or, first_of, all_of}
 use Rattle.spec_words.specs.Tables.{table_of, table_pages}
 use Rattle.spec_words.specs.Heaps.{heap_page, room_on, row_put, insert_plan, count_plan, select_plan, rows_found}
 use Rattle.spec_words.specs.Orders.{in_rising_order}
+use Rattle.spec_statements.specs.Objects.{create_plan, drop_plan}
 use Rattle.law_net.specs.GoodViews.{Leads}
-use Rattle.law_net.specs.Statements.{IsPlain, StatementsReplyPlainly}
+use Rattle.law_statements.specs.Statements.{IsPlain, StatementsReplyPlainly}
 use Rattle.law_net.proofs.WordLaws.{leads_then, leads_give}
-use Rattle.law_net.proofs.InsertTakes.{always}
+use Rattle.law_net.proofs.InsertTakes.{always, behind}
 
 abbrev Plain : Reply → View → Type 0
 Plain reply view = IsPlain reply
@@ -47,10 +47,32 @@ select_replies shape name key v =
     leads_then (all_of (heap_page shape row) pages) _ x Plain (always (all_of (heap_page shape row) pages) x _ (λ found y.
     leads_give (rows_found (in_rising_order (flat_map (payloads_of key) found))) y Plain tt))))))
 
+create_replies : (shape : FileShape) (name : List ℕ) (v : View) → Leads (create_plan shape name) v Plain
+create_replies shape name v =
+    behind _ _ v Plain (λ boot a.
+    behind _ _ a Plain (λ x b.
+    behind _ _ b Plain (λ y c.
+    behind _ _ c Plain (λ id d.
+    behind _ _ d Plain (λ i e.
+    behind _ _ e Plain (λ z f.
+    behind _ _ f Plain (λ q g.
+    behind _ _ g Plain (λ u h. leads_give Done h Plain tt))))))))
+
+drop_replies : (shape : FileShape) (name : List ℕ) (v : View) → Leads (drop_plan shape name) v Plain
+drop_replies shape name v =
+    behind _ _ v Plain (λ row a.
+    behind _ _ a Plain (λ x b.
+    behind _ _ b Plain (λ y c.
+    behind _ _ c Plain (λ z d.
+    behind _ _ d Plain (λ entry e.
+    behind _ _ e Plain (λ u f. leads_give Done f Plain tt))))))
+
 pub statements_reply_plainly : StatementsReplyPlainly
 statements_reply_plainly shape statement.Begin = tt
 statements_reply_plainly shape statement.Commit = tt
 statements_reply_plainly shape statement.Rollback = tt
+statements_reply_plainly shape (statement.CreateHeap table) = create_replies shape table
+statements_reply_plainly shape (statement.Drop table) = drop_replies shape table
 statements_reply_plainly shape (statement.Insert table key payload) = insert_replies shape table key payload
 statements_reply_plainly shape (statement.Count table) = count_replies shape table
 statements_reply_plainly shape (statement.Select table key) = select_replies shape table key

@@ -5,6 +5,7 @@ use Rattle.spec_script.specs.declared.statement.Statement.TheVariants as stateme
 use Rattle.spec_words.specs.NetChanges.{FileShape}
 use Rattle.spec_words.specs.Views.{Plan}
 use Rattle.spec_words.specs.Heaps.{count_plan, insert_plan, select_plan}
+use Rattle.spec_statements.specs.Objects.{create_plan, drop_plan}
 
 -- a statement about transactions, which reads no page
 pub data TransactionWord : Type 0 where
@@ -23,6 +24,8 @@ abbrev pub kind_of : FileShape → Statement → StatementKind
 kind_of shape statement.Begin = Transacts Begins
 kind_of shape statement.Commit = Transacts Commits
 kind_of shape statement.Rollback = Transacts RollsBack
+kind_of shape (statement.CreateHeap table) = Plans (create_plan shape table)
+kind_of shape (statement.Drop table) = Plans (drop_plan shape table)
 kind_of shape (statement.Insert table key payload) = Plans (insert_plan shape table key payload)
 kind_of shape (statement.Count table) = Plans (count_plan shape table)
 kind_of shape (statement.Select table key) = Plans (select_plan shape table key)

@@ -1,8 +1,8 @@
 -- What a log gets of a statement in words: where it gives a reply, its changes and takes are good.
-use Rattle.std.specs.Prelude.{◌≡◌, ◌≢◌, ℕ, ◌*◌, ◌<◌, ◌≤◌, Bool, All, List, length, Option, None}
+use Rattle.std.specs.Prelude.{◌≡◌, ◌≢◌, ℕ, ◌*◌, ◌<◌, ◌≤◌, Bool, true, All, length, Option, None}
 use Rattle.spec_file.specs.declared.data.Resource.{Resource}
 use Rattle.spec_file.specs.Image.{Image, AreBytes}
-use Rattle.spec_file.specs.CatalogRows.{CatalogRow}
+use Rattle.spec_file.specs.Catalog.{is_name}
 use Rattle.spec_words.specs.NetChanges.{FileShape}
 use Rattle.spec_words.specs.Takes.{changes_at, takes_at}
 use Rattle.spec_script.specs.declared.limits.TheConstants.{NO_MEMORY, READ_FAULT}
@@ -12,9 +12,7 @@ use Rattle.spec_script.specs.declared.reply.Reply.TheVariants.{Report, Terminate
 use Rattle.spec_script.specs.declared.statement.Statement.{Statement}
 use Rattle.spec_script.specs.declared.statement.Statement.TheVariants as statement
 use Rattle.spec_words.specs.Views.{View, beginning, End, Gives, Stops, Plan}
-use Rattle.spec_words.specs.Statements.{StatementKind, Transacts, Plans, Checks, kind_of}
-use Rattle.spec_words.specs.Tables.{table_pages}
-use Rattle.spec_words.specs.Heaps.{count_plan, select_plan}
+use Rattle.spec_statements.specs.Statements.{StatementKind, Transacts, Plans, Checks, kind_of}
 use Rattle.law_net.specs.Files.{IsImageOf}
 use Rattle.law_net.specs.NetLaw.{AreNetChanges}
 use Rattle.law_net.specs.GoodViews.{Leads}
@@ -27,8 +25,9 @@ pub record IsGoodEnd (view : View) : Type 0 where
   pub few : length (changes_at view) ≤ 5 * view.shape.pages
   pub few_takes : length (takes_at view) < 4294967296
 
--- what a statement puts into rows are bytes
+-- what a statement puts into rows are bytes, and a name that it puts into the catalog is one
 abbrev pub HasBytes : Statement → Type 0
+HasBytes (statement.CreateHeap name) = is_name name ≡ true
 HasBytes (statement.Insert table key payload) = AreBytes payload
 HasBytes other = Unit {0}
 
@@ -76,16 +75,3 @@ StatementsKeepBeginning = (shape : FileShape) (st : Statement) → IfPlanned (λ
 -- where a planned statement is refused, whatever its view, the number is such a one
 abbrev pub StatementsAreNumbered : Type 0
 StatementsAreNumbered = (shape : FileShape) (st : Statement) → IfPlanned (λ plan. (view : View) → IfStops IsNumbered (plan view).ending) (kind_of shape st)
-
--- a table's pages are read without the view's being moved, and they are pages of the file
-abbrev pub TablePagesLeaveView : Type 0
-TablePagesLeaveView = (shape : FileShape) (row : CatalogRow) (view : View) →
-    Leads (table_pages shape row) view (λ pages after. (after ≡ view) × All (λ p. p < shape.pages) pages)
-
--- whatever COUNT gives, the view is as it was
-abbrev pub CountLeavesView : Type 0
-CountLeavesView = (shape : FileShape) (name : List ℕ) (view : View) → Leads (count_plan shape name) view (λ reply after. after ≡ view)
-
--- and whatever SELECT gives
-abbrev pub SelectLeavesView : Type 0
-SelectLeavesView = (shape : FileShape) (name : List ℕ) (key : ℕ) (view : View) → Leads (select_plan shape name key) view (λ reply after. after ≡ view)

@@ -15,8 +15,6 @@ use Rattle.spec_log.specs.declared.item.Cell.{Cell}
 use Rattle.spec_script.specs.declared.reply.Refusal.{Refusal}
 use Rattle.spec_script.specs.declared.reply.Reply.{Reply}
 use Rattle.spec_script.specs.declared.reply.Reply.TheVariants.{Rows}
-use Rattle.spec_script.specs.declared.statement.Statement.{Statement}
-use Rattle.spec_script.specs.declared.statement.Statement.TheVariants as statement
 use Rattle.spec_plan.specs.Refusals.{held_by, bad_page, no_table, no_room}
 use Rattle.spec_plan.specs.Reading.{is_catalog, named_among, are_slots_inside}
 use Rattle.spec_plan.specs.Rows.{passes_page, has_room_for, heap_row, payloads_of}
@@ -25,11 +23,9 @@ use Rattle.spec_words.specs.Takes.{is_among}
 use Rattle.spec_words.specs.Views.{View, End, Gives, Stops, Outcome, Plan}
 use Rattle.spec_words.specs.Words.{◌then◌, gone_on, ended, by_holder, give, refuse, sees, unless_held, where_good, look, reach, take, write, with_taken, written, found_or, or_later, first_of, for_each, all_of}
 use Rattle.spec_words.specs.Tables.{table_of, chain_from, chain_of, is_chain_page, bytes_read, byte_pages, object_pages, table_pages}
-use Rattle.spec_words.specs.Statements.{StatementKind, Transacts, Plans, Checks, kind_of}
 use Rattle.spec_words.specs.Orders.{in_rising_order}
 use Rattle.spec_words.specs.Heaps.{heap_page, count_plan, select_plan, rows_found, room_on, row_put, insert_plan}
-use Rattle.law_net.specs.GoodViews.{IfGives}
-use Rattle.law_net.specs.Statements.{HasSameBeginning, IfPlanned, IsNumbered, IfStops, StatementsAreNumbered, StatementsKeepBeginning}
+use Rattle.law_statements.specs.Statements.{HasSameBeginning, IsNumbered}
 
 -- an end keeps what a view began on, or is a refusal with such a number
 abbrev pub EndsWell : {A : Type 0} → View → End A → Type 0
@@ -131,7 +127,7 @@ pub ends_if : {A : Type 0} (test : Bool) (first second : Plan A) → EndsAlways 
 ends_if true first second a b = a
 ends_if false first second a b = b
 
-later_ends : {A : Type 0} (found : Option A) (later : Plan (Option A)) → EndsAlways later → EndsAlways (or_later found later)
+pub later_ends : {A : Type 0} (found : Option A) (later : Plan (Option A)) → EndsAlways later → EndsAlways (or_later found later)
 later_ends None later h = h
 later_ends (Some x) later h = ends_give (Some x)
 
@@ -202,10 +198,10 @@ answer_ends answer shape name =
     ends_then _ _ (ends_all (heap_page shape row) pages (heap_page_ends shape row)) (λ found.
     ends_give (answer found))))
 
-count_ends : (shape : FileShape) (name : List ℕ) → EndsAlways (count_plan shape name)
+pub count_ends : (shape : FileShape) (name : List ℕ) → EndsAlways (count_plan shape name)
 count_ends shape name = answer_ends (λ found. Rows (sum_by slot_count found) []) shape name
 
-select_ends : (shape : FileShape) (name : List ℕ) (key : ℕ) → EndsAlways (select_plan shape name key)
+pub select_ends : (shape : FileShape) (name : List ℕ) (key : ℕ) → EndsAlways (select_plan shape name key)
 select_ends shape name key = answer_ends (λ found. rows_found (in_rising_order (flat_map (payloads_of key) found))) shape name
 
 room_ends : (shape : FileShape) (row : CatalogRow) (size p : ℕ) → EndsAlways (room_on shape row size p)
@@ -220,7 +216,7 @@ row_ends shape p row =
     ends_then _ _ (ends_sees (λ view. page view.now p)) (λ bytes.
     ends_then _ _ (ends_write _ _ _) (λ u. ends_write _ _ _)))
 
-insert_ends : (shape : FileShape) (name : List ℕ) (key : ℕ) (payload : List ℕ) → EndsAlways (insert_plan shape name key payload)
+pub insert_ends : (shape : FileShape) (name : List ℕ) (key : ℕ) (payload : List ℕ) → EndsAlways (insert_plan shape name key payload)
 insert_ends shape name key payload =
     ends_then _ _ (table_ends name) (λ row.
     ends_then _ _ (pages_ends shape row) (λ pages.
@@ -229,34 +225,3 @@ insert_ends shape name key payload =
     ends_then _ _ (ends_found found (refuse no_room) (ends_refuse _ no_room room_numbered)) (λ p.
     ends_then _ _ (row_ends shape p (heap_row key payload)) (λ s.
     ends_give (Rows 1 [])))))))
-
--- every planned statement
-pub statement_ends : (shape : FileShape) (st : Statement) → IfPlanned EndsAlways (kind_of shape st)
-statement_ends shape statement.Begin = tt
-statement_ends shape statement.Commit = tt
-statement_ends shape statement.Rollback = tt
-statement_ends shape (statement.Insert table key payload) = insert_ends shape table key payload
-statement_ends shape (statement.Count table) = count_ends shape table
-statement_ends shape (statement.Select table key) = select_ends shape table key
-statement_ends shape (statement.Check workers) = tt
-
-planned_weaker : (P Q : Plan Reply → Type 0) (kind : StatementKind) → ((plan : Plan Reply) → P plan → Q plan) → IfPlanned P kind → IfPlanned Q kind
-planned_weaker P Q (Transacts word) w h = tt
-planned_weaker P Q (Plans plan) w h = w plan h
-planned_weaker P Q Checks w h = tt
-
-numbered : (v : View) (e : End Reply) → EndsWell v e → IfStops IsNumbered e
-numbered v (Gives x w) h = tt
-numbered v (Stops refusal) h = h
-
-kept : (v : View) (e : End Reply) → EndsWell v e → IfGives (λ x w. HasSameBeginning v w) e
-kept v (Gives x w) h = h
-kept v (Stops refusal) h = tt
-
-pub statements_are_numbered : StatementsAreNumbered
-statements_are_numbered shape st =
-    planned_weaker EndsAlways _ (kind_of shape st) (λ plan ends v. numbered v (plan v).ending (ends v)) (statement_ends shape st)
-
-pub statements_keep_beginning : StatementsKeepBeginning
-statements_keep_beginning shape st =
-    planned_weaker EndsAlways _ (kind_of shape st) (λ plan ends v. kept v (plan v).ending (ends v)) (statement_ends shape st)

@@ -15,13 +15,16 @@ use Rattle.spec_words.specs.Heaps.{insert_plan, count_plan, select_plan}
 use Rattle.law_net.specs.Files.{IsImageOf}
 use Rattle.spec_script.specs.declared.statement.Statement.TheVariants as statement
 use Rattle.law_net.specs.GoodViews.{IsGoodView, Leads}
-use Rattle.law_net.specs.Statements.{IsGoodEnd, StatementsAreGood}
+use Rattle.law_statements.specs.Statements.{IsGoodEnd, StatementsAreGood}
 use Rattle.law_net.proofs.FewTakes.{takes_few}
 use Rattle.law_net.proofs.ReadingLeaves.{count_leaves_view, select_leaves_view}
 use Rattle.law_net.proofs.NetLaw.{net_changes_are_good}
 use Rattle.law_net.proofs.WordLaws.{leads_weaker}
 use Rattle.law_net.proofs.RowBytes.{bytes_low}
 use Rattle.law_net.proofs.InsertKeeps.{IsGoodOf, insert_keeps}
+use Rattle.spec_file.specs.Catalog.{is_name}
+use Rattle.spec_statements.specs.Objects.{create_plan, drop_plan}
+use Rattle.law_statements.proofs.ObjectKeeps.{create_keeps, drop_keeps}
 
 filter_short : (test : ℕ → Bool) (n lo : ℕ) → length (filter test (range_with_len lo n)) ≤ n
 filter_short test zero lo = omega arith
@@ -70,6 +73,18 @@ insert_is_good shape image other own name key payload is low =
     leads_weaker (insert_plan shape name key payload) (beginning shape image other own) (λ u w. IsGoodOf shape w) (λ u w. IsGoodEnd w) (λ u w g. good_end w g.good)
     (insert_keeps shape name key payload (beginning shape image other own) (bytes_low payload low) (λ o h. none_among (resource.Table o) h) (record { same = refl; good = begins_good shape image other own is }))
 
+create_is_good : (shape : FileShape) (image : Image) (other : Resource → Option ℕ) (own : Resource → Bool) (name : List ℕ) → IsImageOf shape image → is_name name ≡ true →
+    Leads (create_plan shape name) (beginning shape image other own) (λ reply view. IsGoodEnd view)
+create_is_good shape image other own name is named =
+    leads_weaker (create_plan shape name) (beginning shape image other own) (λ u w. IsGoodOf shape w) (λ u w. IsGoodEnd w) (λ u w g. good_end w g.good)
+    (create_keeps shape name (beginning shape image other own) named (λ o h. none_among (resource.Table o) h) (record { same = refl; good = begins_good shape image other own is }))
+
+drop_is_good : (shape : FileShape) (image : Image) (other : Resource → Option ℕ) (own : Resource → Bool) (name : List ℕ) → IsImageOf shape image →
+    Leads (drop_plan shape name) (beginning shape image other own) (λ reply view. IsGoodEnd view)
+drop_is_good shape image other own name is =
+    leads_weaker (drop_plan shape name) (beginning shape image other own) (λ u w. IsGoodOf shape w) (λ u w. IsGoodEnd w) (λ u w g. good_end w g.good)
+    (drop_keeps shape name (beginning shape image other own) (λ o h. none_among (resource.Table o) h) (record { same = refl; good = begins_good shape image other own is }))
+
 -- where a view was left, its end is good as its beginning is
 left_is_good : (shape : FileShape) (image : Image) (other : Resource → Option ℕ) (own : Resource → Bool) (plan : Plan Reply) → IsImageOf shape image →
     Leads plan (beginning shape image other own) (λ reply after. after ≡ beginning shape image other own) → Leads plan (beginning shape image other own) (λ reply after. IsGoodEnd after)
@@ -81,6 +96,8 @@ pub statements_are_good : StatementsAreGood
 statements_are_good shape image other own statement.Begin is puts = tt
 statements_are_good shape image other own statement.Commit is puts = tt
 statements_are_good shape image other own statement.Rollback is puts = tt
+statements_are_good shape image other own (statement.CreateHeap name) is named = create_is_good shape image other own name is named
+statements_are_good shape image other own (statement.Drop name) is puts = drop_is_good shape image other own name is
 statements_are_good shape image other own (statement.Insert table key payload) is puts = insert_is_good shape image other own table key payload is puts
 statements_are_good shape image other own (statement.Count table) is puts =
     left_is_good shape image other own (count_plan shape table) is (count_leaves_view shape table (beginning shape image other own))

@@ -1,0 +1,4 @@
+pub mod Entries
+pub mod Steps
+pub mod Places
+pub mod Removals

@@ -14,14 +14,15 @@ use Rattle.spec_plan.specs.Refusals.{log_full}
 use Rattle.spec_script.specs.declared.statement.Statement.TheVariants as statement
 use Rattle.spec_words.specs.NetChanges.{FileShape}
 use Rattle.spec_words.specs.Heaps.{insert_plan, count_plan, select_plan}
-use Rattle.spec_words.specs.Statements.{Plans, kind_of}
+use Rattle.spec_statements.specs.Objects.{create_plan, drop_plan}
+use Rattle.spec_statements.specs.Statements.{Plans, kind_of}
 use Rattle.spec_words.specs.Takes.{changes_at, takes_at}
 use Rattle.spec_words.specs.Views.{View, End, Gives, Stops, Outcome}
 use Rattle.spec_words.specs.Views.{Plan as Words}
 use Rattle.spec_run.specs.Shapes.{Reading, Writing, tran_to_write}
 use Rattle.spec_run.specs.Begun.{Becoming, shape_of, view_at, with_memory, refused, by_changes, by_taken, by_end, by_kind}
-use Rattle.law_net.specs.Statements.{IsNumbered, IfStops}
-use Rattle.law_net.proofs.Endings.{statements_are_numbered}
+use Rattle.law_statements.specs.Statements.{IsNumbered, IfStops}
+use Rattle.law_statements.proofs.StatementEnds.{statements_are_numbered}
 use Rattle.pg_base.specs.Faults.{Rose}
 use Rattle.db_locks.specs.States.{PlanState}
 use Rattle.db_plan.specs.declared.planned.Plan.{Plan}
@@ -156,6 +157,8 @@ pub record HasWords (shape : FileShape) (s : Statement) : Type 0 where
   pub numbered : StopsNumbered words
 
 pub planned_words : (shape : FileShape) (s : Statement) → is_planned s ≡ true → HasWords shape s
+planned_words shape (statement.CreateHeap table) h = record { words = create_plan shape table; kind = refl; numbered = statements_are_numbered shape (statement.CreateHeap table) }
+planned_words shape (statement.Drop table) h = record { words = drop_plan shape table; kind = refl; numbered = statements_are_numbered shape (statement.Drop table) }
 planned_words shape (statement.Insert table key payload) h = record { words = insert_plan shape table key payload; kind = refl; numbered = statements_are_numbered shape (statement.Insert table key payload) }
 planned_words shape (statement.Count table) h = record { words = count_plan shape table; kind = refl; numbered = statements_are_numbered shape (statement.Count table) }
 planned_words shape (statement.Select table key) h = record { words = select_plan shape table key; kind = refl; numbered = statements_are_numbered shape (statement.Select table key) }

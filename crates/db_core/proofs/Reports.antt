@@ -22,9 +22,9 @@ use Rattle.spec_run.specs.Sessions.{session_of}
 use Rattle.spec_run.specs.Shapes.{Refused as Refusing, Opening, Writing, Committing, RollingBack, tran_to_write}
 use Rattle.spec_words.specs.Takes.{changes_at, takes_at}
 use Rattle.spec_words.specs.Views.{View, End, Gives, Stops}
-use Rattle.spec_words.specs.Statements.{TransactionWord, Begins, Commits, RollsBack, StatementKind, Transacts, Plans, Checks, kind_of}
-use Rattle.law_net.specs.Statements.{IfPlanned, IsPlain}
-use Rattle.law_net.proofs.Replies.{statements_reply_plainly}
+use Rattle.spec_statements.specs.Statements.{TransactionWord, Begins, Commits, RollsBack, StatementKind, Transacts, Plans, Checks, kind_of}
+use Rattle.law_statements.specs.Statements.{IfPlanned, IsPlain}
+use Rattle.law_statements.proofs.Replies.{statements_reply_plainly}
 use Rattle.law_net.specs.GoodViews.{IfGives, Leads}
 use Rattle.spec_run.specs.Begun.{Setting, Telling, Answers, Reports, Tells, Becoming, shape_of, view_at, surely, with_memory, refused, by_changes, by_word, by_taken, by_end, by_damage, by_kind, becomes}
 use Rattle.spec_run.specs.Progress.{Progress, progress_of, at_work, with_statement, script_of, is_short, cut_short, moved_to, moved}

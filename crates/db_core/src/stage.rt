@@ -56,6 +56,8 @@ fn stage_by(statement: &Statement) -> Stage
         Statement::Commit => Stage::Word(Word::Commit),
         Statement::Rollback => Stage::Word(Word::Rollback),
         Statement::Check { .. } => Stage::Check,
+        Statement::CreateHeap(_) => Stage::Planned,
+        Statement::Drop(_) => Stage::Planned,
         Statement::Insert { .. } => Stage::Planned,
         Statement::Count(_) => Stage::Planned,
         Statement::Select { .. } => Stage::Planned,

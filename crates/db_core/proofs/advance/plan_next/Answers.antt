@@ -1,6 +1,6 @@
 use Rattle.std.proofs.Common.{◌≡◌, length, sym, ap, ◌∙◌, subst, arith}
 use Rattle.spec_words.specs.NetChanges.{FileShape}
-use Rattle.spec_words.specs.Statements.{Plans, kind_of}
+use Rattle.spec_statements.specs.Statements.{Plans, kind_of}
 use Rattle.spec_words.specs.Views.{View}
 use Rattle.spec_run.specs.Begun.{shape_of, view_at}
 use Rattle.law_undo.proofs.Shapes.{final_shape}

@@ -10,3 +10,9 @@ returns-in-Count c = (c.args.statement.now, refl, ap is_planned c.in-Count.is)
 
 pub returns-in-Select : goal.returns-in-Select
 returns-in-Select c = (c.args.statement.now, refl, ap is_planned c.in-Select.is)
+
+pub returns-in-CreateHeap : goal.returns-in-CreateHeap
+returns-in-CreateHeap c = (c.args.statement.now, refl, ap is_planned c.in-CreateHeap.is)
+
+pub returns-in-Drop : goal.returns-in-Drop
+returns-in-Drop c = (c.args.statement.now, refl, ap is_planned c.in-Drop.is)

@@ -19,3 +19,4 @@ pub mod Leaves
 pub mod Reaches
 pub mod OwnedSteps
 pub mod DropSteps
+pub mod LastSteps

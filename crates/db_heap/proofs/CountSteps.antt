@@ -66,14 +66,3 @@ counted_end {a} {b} row pages rest sum e before =
     let at : Counted a b row pages [] sum = subst (λ (ps : List ℕ). Counted a b row pages ps sum) e before in
     subst (λ n. Does a b (rows_counted a.view.shape row pages) (Ok (Rows n []))) (sym at.rows)
     (does_then _ (all_end (heap_page a.view.shape row) at.found at.leads) (does_give [] b (Rows (sum_by slot_count at.found) [])))
-
--- a stop of the last call that is handed on as one of another kind
-pub last_exit : {A C D E : Type 0} {meaning : E → Stop} {reading : D → Stop} {looked : List ℕ} {a b : PlanState} {plan : Plan A} (f : C → A) {stop : E} (other : D) (r : Result C D)
-    → reading other ≡ meaning stop → DoesAs meaning looked a b plan (Err stop) → IsErrAnd r (λ s. s ≡ other) → DoesAs reading looked a b plan (value_as f r)
-last_exit {A} {C} {D} {reading = reading} {looked} {a} {b} {plan} f other r same d h =
-    let p = err_from_is_err_and r h in
-    subst (λ (q : Result C D). DoesAs {A = A} reading looked a b plan (value_as f q)) (sym (p.1 ∙ ap Err p.2)) (record {
-      exact = λ told. subst (λ (s : Stop). MayStop looked (plan a.view) s) (sym same) (d.exact told);
-      stays = d.stays;
-      cause = subst (λ (s : Stop). HasCause a b s) (sym same) d.cause;
-    })

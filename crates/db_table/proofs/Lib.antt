@@ -1,4 +1,4 @@
-pub mod Entries
+pub mod EntryPlaces
 pub mod Steps
 pub mod Places
 pub mod Removals

@@ -1,9 +1,8 @@
 -- The id, the entry and the name that a new object gets, and the plan of CREATE by its parts.
-use Rattle.std.proofs.Common.{◌≡◌, ℕ, ◌<◌, ◌≤◌, true, false, List, [], ◌∷◌, length, map, Option, Some, None, Ok, Err, refl, sym, ap, ◌∙◌, arith}
+use Rattle.std.proofs.Common.{◌≡◌, ℕ, ◌≤◌, true, false, List, [], ◌∷◌, length, map, Option, Some, None, Ok, Err, refl, sym, ap, ◌∙◌, arith}
 use Rattle.std.specs.Prelude.{slice_get, is_some}
 use Rattle.std.proofs.lemmas.List.{length-map}
 use Rattle.spec_file.specs.declared.data.Resource.TheVariants as resource
-use Rattle.spec_file.specs.Catalog.{is_zeros}
 use Rattle.spec_file.specs.CatalogRows.{CatalogRow, rows_of}
 use Rattle.spec_script.specs.declared.reply.Reply.{Reply}
 use Rattle.spec_plan.specs.Refusals.{same_name, too_many_tables}
@@ -20,10 +19,10 @@ use Rattle.db_cat.specs.declared.rows.CatRow.{CatRow}
 use Rattle.db_cat.proofs.Ids.{few_of}
 use Rattle.db_locks.specs.States.{PlanState}
 use Rattle.db_locks.specs.Does.{DoesAs}
-use Rattle.db_locks.proofs.PlanLaws.{does_give, does_refuse}
+use Rattle.db_locks.proofs.PlanLaws.{does_then, does_stop, does_give, does_refuse}
 use Rattle.db_alloc.specs.Tables.{catalog_rows}
-use Rattle.db_alloc.proofs.Steps.{then_assoc, give_then, then_same}
-use Rattle.db_table.specs.declared.place.CreateStop.TheVariants.{SameName}
+use Rattle.db_alloc.proofs.Steps.{then_assoc, give_then, then_same, found_none}
+use Rattle.db_table.specs.declared.place.CreateStop.TheVariants.{SameName, TooMany}
 use Rattle.db_table.specs.Creates.{create_stop, place_among, place_chosen, heap_created}
 
 -- ---- the same lists
@@ -60,6 +59,13 @@ pub name_free : (name looked : List ℕ) (a : PlanState) (boot : List ℕ) (rows
 name_free name looked a boot rows are e =
     let free : is_some (named_among (rows_of boot) name) ≡ false = ap (λ rs. is_some (named_among rs name)) (sym are) ∙ e in
     rw free (does_give looked a tt)
+
+-- no entry is free
+pub no_place : (name : List ℕ) (a : PlanState) (id entry : Option ℕ) → entry ≡ None
+    → DoesAs {A = ℕ × ℕ} (create_stop name) [] a a (found_or id (refuse too_many_tables) then (λ id. found_or entry (refuse too_many_tables) then (λ i. give (id, i)))) (Err TooMany)
+no_place name a None entry none = does_stop {meaning = create_stop name} (create_stop name) _ TooMany refl (does_refuse [] a too_many_tables TooMany refl)
+no_place name a (Some id) entry none =
+    does_then _ (does_give [] a id) (does_stop {meaning = create_stop name} (create_stop name) _ TooMany refl (found_none [] a entry too_many_tables TooMany none refl))
 
 -- ---- the plan
 

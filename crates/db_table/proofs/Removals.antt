@@ -1,8 +1,6 @@
 -- An entry that was found is emptied.
 use Rattle.std.proofs.Common.{◌≡◌, ℕ, List, Some, Result, sym, ◌∙◌}
-use Rattle.spec_script.specs.declared.reply.Reply.{Reply}
 use Rattle.spec_script.specs.declared.reply.Reply.TheVariants.{Done}
-use Rattle.spec_words.specs.Views.{Plan}
 use Rattle.spec_words.specs.Words.{◌then◌, give}
 use Rattle.spec_alloc.specs.Search.{where_found}
 use Rattle.spec_alloc.specs.Objects.{entry_emptied}

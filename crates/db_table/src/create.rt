@@ -58,6 +58,25 @@ fn create_at<P: PlanPages>(
     Ok(put_row(v, place.entry, &row, buffer)?)
 }
 
+// A heap of this name comes to be, with room for a page.
+fn create_by<P: PlanPages>(
+    alloc: Global,
+    v: &mut P,
+    geometry: Geometry,
+    pages: u32,
+    name: &Name,
+    buffer: &mut Page,
+) -> Result<(), CreateStop>
+    requires geometry { geometry ≡ (P.state v.old).view.shape.geometry }
+    requires pages { pages ≡ (P.state v.old).view.shape.pages }
+    requires name { length name.now ≤ 16 }
+    ensures { DoesAs (create_stop name.now) [] (P.state v.old) (P.state v.new) (spec.create_plan (P.state v.old).view.shape name.now) (value_as (λ done. reply.Done) result) }
+{
+    look_catalog(v, buffer)?;
+    let place = place_for(alloc, buffer, name)?;
+    create_at(alloc, v, geometry, pages, name, place, buffer)
+}
+
 /// CREATE HEAP: a heap of this name comes to be. `geometry` and `pages` are those of the view's file.
 pub fn create_heap<P: PlanPages>(
     alloc: Global,
@@ -72,7 +91,5 @@ pub fn create_heap<P: PlanPages>(
     ensures { DoesAs (create_stop name.now) [] (P.state v.old) (P.state v.new) (spec.create_plan (P.state v.old).view.shape name.now) (value_as (λ done. reply.Done) result) }
 {
     let mut buffer = page_room(alloc)?;
-    look_catalog(v, &mut buffer)?;
-    let place = place_for(alloc, &buffer, name)?;
-    create_at(alloc, v, geometry, pages, name, place, &mut buffer)
+    create_by(alloc, v, geometry, pages, name, &mut buffer)
 }

@@ -6,7 +6,7 @@ use Rattle.db_locks.proofs.PlanLaws.{does_then}
 use Rattle.db_alloc.specs.declared.find.FindStop.TheVariants.{Page}
 use Rattle.db_alloc.proofs.Steps.{does_plan, does_ok, does_exit_as}
 use Rattle.db_heap.specs.Selects.{table_selected}
-use Rattle.db_heap.proofs.CountSteps.{last_exit}
+use Rattle.db_alloc.proofs.LastSteps.{last_exit}
 use Rattle.db_heap.proofs.select.heap_select.Goals as goal
 
 pub returns-in_err-row : goal.returns-in_err-row

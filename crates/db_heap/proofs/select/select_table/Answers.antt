@@ -6,7 +6,7 @@ use Rattle.db_locks.specs.Does.{Does}
 use Rattle.db_alloc.specs.Tables.{numbers}
 use Rattle.db_alloc.proofs.Steps.{does_exit_as}
 use Rattle.db_heap.specs.Selects.{table_selected}
-use Rattle.db_heap.proofs.CountSteps.{last_exit}
+use Rattle.db_alloc.proofs.LastSteps.{last_exit}
 use Rattle.db_heap.proofs.SelectSteps.{selected_then}
 use Rattle.db_heap.proofs.select.select_table.Goals as goal
 

@@ -1,5 +1,5 @@
-use Rattle.std.proofs.Common.{ℕ, ◌+◌, ◌*◌, ◌≤◌, length, replicate, refl, ◌∙◌, arith}
-use Rattle.db_table.proofs.Entries.{entry_placed}
+use Rattle.std.proofs.Common.{replicate, refl, ◌∙◌, arith}
+use Rattle.db_table.proofs.EntryPlaces.{entry_placed}
 use Rattle.db_table.proofs.entries.clear.Goals as goal
 
 pub returns : goal.returns

@@ -1,4 +1,4 @@
-use Rattle.std.proofs.Common.{ℕ, ◌+◌, ◌*◌, replicate, sym, ap, ◌∙◌}
+use Rattle.std.proofs.Common.{◌+◌, ◌*◌, replicate, sym, ap, ◌∙◌}
 use Rattle.spec_file.specs.declared.data.Resource.TheVariants as resource
 use Rattle.spec_log.specs.declared.item.Cell.TheVariants.{Bytes}
 use Rattle.spec_log.specs.Cells.{with_bytes}

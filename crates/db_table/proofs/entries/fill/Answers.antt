@@ -1,8 +1,8 @@
-use Rattle.std.proofs.Common.{ℕ, ◌+◌, ◌*◌, ◌≤◌, length, ◌∙◌, arith}
+use Rattle.std.proofs.Common.{◌∙◌, arith}
 use Rattle.spec_file.specs.CatalogBytes.{entry_bytes}
 use Rattle.spec_file.proofs.EntryLaws.{entry_size}
 use Rattle.db_cat.specs.Rows.{row_of}
-use Rattle.db_table.proofs.Entries.{entry_placed}
+use Rattle.db_table.proofs.EntryPlaces.{entry_placed}
 use Rattle.db_table.proofs.entries.fill.Goals as goal
 
 pub returns : goal.returns

@@ -3,7 +3,6 @@
 
 mod check;
 mod file;
-mod gate;
 mod reader;
 mod run;
 mod show;
@@ -11,7 +10,7 @@ mod start;
 mod status;
 mod top;
 
-pub use gate::{Gate, NoGate, Point};
+pub use ck_scan::{Gate, NoGate, Point};
 pub use spec_script::ScriptWhy;
 pub use spec_start::FileWhy;
 pub use status::{Device, Status};

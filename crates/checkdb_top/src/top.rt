@@ -13,11 +13,11 @@ ghost use Rattle.checkdb_top.specs.declared.status.Status.TheVariants.{NoReport}
 
 use crate::check::check;
 use crate::file::Finished;
-use crate::gate::Gate;
 use crate::run::run;
 use crate::show::show;
 use crate::{Device, Status};
 use app_words::{Command, read_words};
+use ck_scan::Gate;
 use pg_base::Words;
 use std::alloc::Global;
 use vol_dev::{LogFile, Source};

@@ -18,3 +18,4 @@ pub mod Filed
 pub mod Passes
 pub mod Merging
 pub mod TableRoots
+pub mod Sides

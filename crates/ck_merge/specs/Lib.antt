@@ -3,4 +3,5 @@ pub mod Runs
 pub mod Shown
 pub mod ParentErrors
 pub mod Buckets
+pub mod Sides
 pub mod Held

@@ -18,6 +18,7 @@ mod roots;
 mod runs;
 mod share;
 mod tables;
+mod together;
 
 pub use parts::Parts;
 use spec_file::ObjId;

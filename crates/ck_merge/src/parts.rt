@@ -6,11 +6,13 @@ use crate::bucket::Bucket;
 use crate::matching::of_bucket;
 use crate::share::Share;
 use crate::tables::clustered_tables;
+use crate::together::{errors_of_all, sort_all};
 use ck_error::in_order;
 use ck_facts::{AllocMap, CheckError, Fact};
 use pg_base::NoMemory;
 use spec_tree::Root;
 use std::alloc::Global;
+use std::thread::Threads;
 
 /// The facts of some pages of a file, and the clustered tables of its catalog.
 #[derive(Drop)]
@@ -103,6 +105,16 @@ impl Parts {
         Ok(in_order(found))
     }
 
+    /// The same as `finish`, with the parts sorted and matched side by side.
+    pub fn finish_together<T: Threads + Sync>(self, rt: &T) -> Result<Vec<CheckError>, NoMemory>
+        ensures { IfOk result (λ errors. ListsTrees self errors.items) }
+    {
+        let mut parts = self;
+        parts.sort_together(rt);
+        let found = parts.gathered_together(rt)?;
+        Ok(in_order(found))
+    }
+
     fn sort(&mut self)
         ensures holds { (held : List Fact) → Holds self.old held → Holds self.new held }
         ensures sorted { AreSorted self.new.count self.new.buckets.items }
@@ -115,6 +127,15 @@ impl Parts {
         }
     }
 
+    fn sort_together<T: Threads + Sync>(&mut self, rt: &T)
+        ensures holds { (held : List Fact) → Holds self.old held → Holds self.new held }
+        ensures sorted { AreSorted self.new.count self.new.buckets.items }
+        ensures roots { roots_in self.new ≡ roots_in self.old }
+        ensures count { count_of self.new ≡ count_of self.old }
+    {
+        sort_all(rt, &mut self.buckets);
+    }
+
     fn gathered(&self) -> Result<Vec<CheckError>, NoMemory>
         requires { AreSorted self.now.count self.now.buckets.items }
         ensures { IfOk result (λ errors. Gathers errors.items (Each self.now.buckets.items (BucketErrors (roots_in self.now)))) }
@@ -124,5 +145,12 @@ impl Parts {
             of_bucket(&self.roots, bucket, &mut errors)?;
         }
         Ok(errors)
+    }
+
+    fn gathered_together<T: Threads + Sync>(&self, rt: &T) -> Result<Vec<CheckError>, NoMemory>
+        requires { AreSorted self.now.count self.now.buckets.items }
+        ensures { IfOk result (λ errors. Gathers errors.items (Each self.now.buckets.items (BucketErrors (roots_in self.now)))) }
+    {
+        errors_of_all(rt, self.alloc, &self.roots, &self.buckets)
     }
 }

@@ -1,59 +1,12 @@
 -- Lines that grow as pages are counted.
-use Rattle.std.proofs.Common.{◌≡◌, ◌⊎◌, ℕ, ◌+◌, ◌*◌, ◌^◌, ◌<◌, ◌≤◌, List, [], ◌∷◌, ◌++◌, Contains, length, arith, sym, subst, ap, ◌∙◌, refl, ⊎_elim}
-use Rattle.std.specs.List.{AllByRecursion, sum_by}
+use Rattle.std.proofs.Common.{◌≡◌, ◌⊎◌, ℕ, ◌+◌, ◌*◌, ◌^◌, ◌<◌, ◌≤◌, List, [], Contains, length, arith, sym, subst, ap, ◌∙◌, ⊎_elim}
+use Rattle.std.specs.List.{sum_by}
 use Rattle.std.specs.List.Sorted.{IsStrictlySortedBy}
 use Rattle.std.specs.Ordering.{nat_cmp}
-use Rattle.std.specs.declared.cmp.Ordering.TheVariants.{Less, Equal, Greater}
-use Rattle.std.proofs.lemmas.Cmp.{ranked, by_ranked}
-use Rattle.std.proofs.lemmas.List.{length_push}
-use Rattle.std.proofs.lemmas.List.Sums.{sum_by_push, sum_by-cons}
-use Rattle.std.proofs.lemmas.List.Elements.{Contains-push, Contains-push_cases, Contains-append_left}
 use Rattle.spec_check.specs.declared.report.TableLine.{TableLine}
-use Rattle.ck_scan.specs.Counted.{IsCountOf, IsOneMore}
-use Rattle.spec_check.proofs.Members.{nothing_there, cons_here, cons_there, below, rest_sorted}
-
-less_of : (a b : ℕ) → a < b → nat_cmp a b ≡ Less
-less_of a b h = by_ranked (a < b) (a ≡ b) (b < a) (nat_cmp a b) (ranked a b (nat_cmp a b) refl)
-    (λ is less. is) (λ is same. absurd (omega (arith, same, h))) (λ is more. absurd (omega (arith, more, h)))
-
-pub less_from : (a b : ℕ) → nat_cmp a b ≡ Less → a < b
-less_from a b h = by_ranked (a < b) (a ≡ b) (b < a) (nat_cmp a b) (ranked a b (nat_cmp a b) refl)
-    (λ is less. less) (λ is same. let no : Less ≡ Equal = sym h ∙ is in absurd (cc)) (λ is more. let no : Less ≡ Greater = sym h ∙ is in absurd (cc))
-
-all_push : (P : ℕ → Type 0) (xs : List ℕ) (n : ℕ) → AllByRecursion P xs → P n → AllByRecursion P (xs ++ n ∷ [])
-all_push P [] n h at = (at, tt)
-all_push P (x ∷ xs) n h at = (h.0, all_push P xs n h.1 at)
-
-push_sorted : (xs : List ℕ) (n : ℕ) → IsStrictlySortedBy nat_cmp xs → ((p : ℕ) → Contains xs p → p < n) → IsStrictlySortedBy nat_cmp (xs ++ n ∷ [])
-unfolding IsStrictlySortedBy
-push_sorted [] n s before = (tt, tt)
-push_sorted (x ∷ xs) n s before = (
-  all_push (λ y. nat_cmp x y ≡ Less) xs n s.0 (less_of x n (before x (cons_here x xs))),
-  push_sorted xs n s.1 (λ p c. before p (cons_there x xs p c)),
-)
-
-none_sorted : IsStrictlySortedBy nat_cmp []
-unfolding IsStrictlySortedBy
-none_sorted = tt
-
--- a rising list of numbers from a on and below n has at most so many members
-short : (xs : List ℕ) (a n : ℕ) → IsStrictlySortedBy nat_cmp xs → ((p : ℕ) → Contains xs p → (a ≤ p) × (p < n)) → a ≤ n → length xs + a ≤ n
-short [] a n s h le = omega (arith, le)
-short (x ∷ xs) a n s h le =
-    let at = h x (cons_here x xs) in
-    let low : a ≤ x = at.0 in
-    let high : x < n = at.1 in
-    let rest : length xs + (x + 1) ≤ n = short xs (x + 1) n (rest_sorted nat_cmp x xs s)
-    (λ p c. let after : x < p = less_from x p (below nat_cmp x xs p s c) in (omega (arith, after), (h p (cons_there x xs p c)).1))
-    (omega (arith, high)) in
-    omega (arith, rest, low)
-
-few_rows : (rows_of : ℕ → ℕ) (xs : List ℕ) (k : ℕ) → ((p : ℕ) → Contains xs p → rows_of p ≤ k) → sum_by rows_of xs ≤ k * length xs
-few_rows rows_of [] k h = omega arith
-few_rows rows_of (x ∷ xs) k h =
-    let first : rows_of x ≤ k = h x (cons_here x xs) in
-    let rest : sum_by rows_of xs ≤ k * length xs = few_rows rows_of xs k (λ p c. h p (cons_there x xs p c)) in
-    omega (arith, first, rest, sum_by-cons rows_of x xs)
+use Rattle.ck_scan.specs.Counted.{IsCountOf, IsOneMore, IsSumOf}
+use Rattle.spec_check.proofs.Members.{nothing_there}
+use Rattle.ck_scan.proofs.Rising.{put, put_cases, put_kept, put_here, put_length, put_sum, put_sorted, none_sorted, short, few_rows, both, both_cases, both_first, both_second, both_length, both_sum, both_sorted}
 
 pub count_none : (Taken : ℕ → Type 0) (rows_of : ℕ → ℕ) (t : TableLine) → ((p : ℕ) → Taken p → ⊥) → t.pages ≡ 0 → t.rows ≡ 0 → IsCountOf Taken rows_of t
 count_none Taken rows_of t never pages rows = record {
@@ -77,30 +30,66 @@ count_as Taken Other rows_of t there back h = record {
 }
 
 -- what can be counted: numbers of pages of a file, with at most so many rows
-pub record IsCountable (Taken : ℕ → Type 0) (rows_of : ℕ → ℕ) (n : ℕ) : Type 0 where
-  pub each : (p : ℕ) → Taken p → (p < n) × (rows_of p ≤ 4048)
-  pub end : n < 1048576
-  pub here : rows_of n ≤ 4048
+pub record IsCountable (Taken : ℕ → Type 0) (rows_of : ℕ → ℕ) : Type 0 where
+  pub each : (p : ℕ) → Taken p → (p < 1048576) × (rows_of p ≤ 4048)
 
--- one page more is taken, behind all others
+-- one page more is taken
 pub record TakesMore (Taken Other : ℕ → Type 0) (n : ℕ) : Type 0 where
   pub sound : (p : ℕ) → Other p → Taken p ⊎ (n ≡ p)
   pub kept : (p : ℕ) → Taken p → Other p
   pub here : Other n
+  pub new : Taken n → ⊥
 
-pub count_push : (Taken Other : ℕ → Type 0) (rows_of : ℕ → ℕ) (n : ℕ) (old now : TableLine) → IsCountOf Taken rows_of old
-    → IsCountable Taken rows_of n → TakesMore Taken Other n → IsOneMore old now (rows_of n) → IsCountOf Other rows_of now
-count_push Taken Other rows_of n old now h fits takes more =
-    let many : length h.taken + 0 ≤ n = short h.taken 0 n h.sorted (λ p c. (omega arith, (fits.each p (h.sound p c)).0)) (omega arith) in
-    let rows : sum_by rows_of h.taken ≤ 4048 * length h.taken = few_rows rows_of h.taken 4048 (λ p c. (fits.each p (h.sound p c)).1) in
-    let pages_fit : old.pages + 1 < 2 ^ 64 = omega (arith, h.pages, many, fits.end) in
-    let rows_fit : old.rows + rows_of n < 2 ^ 64 = omega (arith, h.rows, many, rows, fits.end, fits.here) in
+-- a rising list of pages has few of them, and few rows
+few_pages : (Taken : ℕ → Type 0) (rows_of : ℕ → ℕ) (xs : List ℕ) → IsStrictlySortedBy nat_cmp xs → ((p : ℕ) → Contains xs p → Taken p)
+    → IsCountable Taken rows_of → (length xs ≤ 1048576) × (sum_by rows_of xs ≤ 4048 * length xs)
+few_pages Taken rows_of xs sorted sound fits = (
+  (let many = short xs 0 1048576 sorted (λ p c. (omega arith, (fits.each p (sound p c)).0)) (omega arith) in omega (arith, many)),
+  few_rows rows_of xs 4048 (λ p c. (fits.each p (sound p c)).1),
+)
+
+pub count_put : (Taken Other : ℕ → Type 0) (rows_of : ℕ → ℕ) (n : ℕ) (old now : TableLine) → IsCountOf Taken rows_of old
+    → IsCountable Other rows_of → TakesMore Taken Other n → IsOneMore old now (rows_of n) → IsCountOf Other rows_of now
+count_put Taken Other rows_of n old now h fits takes more =
+    let few = few_pages Other rows_of h.taken h.sorted (λ p c. takes.kept p (h.sound p c)) fits in
+    let pages_few = few.0 in
+    let rows_few = few.1 in
+    let here : rows_of n ≤ 4048 = (fits.each n takes.here).1 in
+    let pages_fit : old.pages + 1 < 2 ^ 64 = omega (arith, h.pages, pages_few) in
+    let rows_fit : old.rows + rows_of n < 2 ^ 64 = omega (arith, h.rows, pages_few, rows_few, here) in
     record {
-      taken = h.taken ++ n ∷ [];
-      sorted = push_sorted h.taken n h.sorted (λ p c. (fits.each p (h.sound p c)).0);
-      sound = λ p c. ⊎_elim (λ was. takes.kept p (h.sound p was)) (λ e. subst Other e takes.here) (Contains-push_cases h.taken n p c);
-      complete = λ p o. ⊎_elim (λ was. Contains-append_left h.taken (n ∷ []) p (h.complete p was))
-          (λ e. subst (Contains (h.taken ++ n ∷ [])) e (Contains-push h.taken n)) (takes.sound p o);
-      pages = more.pages pages_fit ∙ (ap (λ k. k + 1) h.pages ∙ sym (length_push h.taken n));
-      rows = more.rows rows_fit ∙ (ap (λ k. k + rows_of n) h.rows ∙ sym (sum_by_push rows_of h.taken n));
+      taken = put n h.taken;
+      sorted = put_sorted n h.taken h.sorted (λ c. takes.new (h.sound n c));
+      sound = λ p c. ⊎_elim (λ was. takes.kept p (h.sound p was)) (λ e. subst Other e takes.here) (put_cases n h.taken p c);
+      complete = λ p o. ⊎_elim (λ was. put_kept n h.taken p (h.complete p was))
+          (λ e. subst (Contains (put n h.taken)) e (put_here n h.taken)) (takes.sound p o);
+      pages = more.pages pages_fit ∙ (ap (λ k. k + 1) h.pages ∙ sym (put_length n h.taken));
+      rows = more.rows rows_fit ∙ (ap (λ k. k + rows_of n) h.rows ∙ sym (put_sum rows_of n h.taken));
+    }
+
+-- all pages are of one of two kinds, and none is of both
+pub record AreApart (First Second All : ℕ → Type 0) : Type 0 where
+  pub sound : (p : ℕ) → All p → First p ⊎ Second p
+  pub first : (p : ℕ) → First p → All p
+  pub second : (p : ℕ) → Second p → All p
+  pub never : (p : ℕ) → First p → Second p → ⊥
+
+pub count_both : (First Second All : ℕ → Type 0) (rows_of : ℕ → ℕ) (one two now : TableLine) → IsCountOf First rows_of one → IsCountOf Second rows_of two
+    → IsCountable All rows_of → AreApart First Second All → IsSumOf one two now → IsCountOf All rows_of now
+count_both First Second All rows_of one two now h k fits apart sum =
+    let few = few_pages All rows_of h.taken h.sorted (λ p c. apart.first p (h.sound p c)) fits in
+    let few_too = few_pages All rows_of k.taken k.sorted (λ p c. apart.second p (k.sound p c)) fits in
+    let a = few.0 in
+    let b = few.1 in
+    let c = few_too.0 in
+    let d = few_too.1 in
+    let pages_fit : one.pages + two.pages < 2 ^ 64 = omega (arith, h.pages, k.pages, a, c) in
+    let rows_fit : one.rows + two.rows < 2 ^ 64 = omega (arith, h.rows, k.rows, a, b, c, d) in
+    record {
+      taken = both h.taken k.taken;
+      sorted = both_sorted h.taken k.taken h.sorted k.sorted (λ p x y. apart.never p (h.sound p x) (k.sound p y));
+      sound = λ p x. ⊎_elim (λ u. apart.first p (h.sound p u)) (λ v. apart.second p (k.sound p v)) (both_cases h.taken k.taken p x);
+      complete = λ p x. ⊎_elim (λ u. both_first h.taken k.taken p (h.complete p u)) (λ v. both_second h.taken k.taken p (k.complete p v)) (apart.sound p x);
+      pages = omega (arith, sum.pages pages_fit, h.pages, k.pages, both_length h.taken k.taken);
+      rows = omega (arith, sum.rows rows_fit, h.rows, k.rows, both_sum rows_of h.taken k.taken);
     }

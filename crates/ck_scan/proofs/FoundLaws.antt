@@ -1,5 +1,5 @@
 -- What was found, when one page more is met.
-use Rattle.std.proofs.Common.{◌≡◌, ◌⊎◌, ℕ, zero, suc, ◌+◌, ◌/◌, ◌<◌, List, [], ◌∷◌, ◌++◌, Contains, length, take, get_or, arith, sym, subst, refl, inl, inr, ⊎_elim, Ordering}
+use Rattle.std.proofs.Common.{◌≡◌, ◌⊎◌, ℕ, zero, suc, ◌+◌, ◌<◌, List, [], ◌∷◌, ◌++◌, Contains, length, take, get_or, arith, sym, subst, ◌∙◌, refl, inl, inr, ⊎_elim, Ordering}
 use Rattle.std.specs.Ordering.{nat_cmp, ordering_then}
 use Rattle.std.specs.List.Sorted.{IsStrictlySortedBy}
 use Rattle.std.specs.declared.cmp.Ordering.TheVariants.{Less, Equal, Greater}
@@ -7,7 +7,7 @@ use Rattle.std.proofs.lemmas.List.{take_more}
 use Rattle.std.proofs.lemmas.List.Elements.{Contains-get_or, Contains-append_left, Contains-append_right, Contains-append_cases, Contains-push, Contains-push_cases}
 use Rattle.spec_file.specs.Image.{Image}
 use Rattle.spec_check.specs.declared.report.CheckError.{CheckError}
-use Rattle.ck_error.specs.Gathered.{Gathers, Adds, Below}
+use Rattle.ck_error.specs.Gathered.{Gathers, Adds}
 use Rattle.ck_error.proofs.GatheringLaws.{gathers_as, gathers_more}
 use Rattle.ck_facts.specs.declared.facts.Fact.{Fact}
 use Rattle.ck_facts.specs.declared.map.AllocMap.{AllocMap}
@@ -16,9 +16,9 @@ use Rattle.ck_facts.specs.MapOf.{IsMapOf}
 use Rattle.ck_facts.specs.Owners.{Owned, IsOwnerIn, AreOwnersIn, owned_cmp}
 use Rattle.ck_scan.specs.declared.findings.Findings.{Findings}
 use Rattle.ck_scan.specs.Shown.{IsErrorAt, IsFactAt, Among, WithPage}
-use Rattle.ck_scan.specs.Found.{AreFound, AddsPage, IsBehind}
+use Rattle.ck_scan.specs.Found.{AreFound, AddsPage, IsOwnerAmong}
 use Rattle.spec_check.proofs.Members.{nothing_there, cons_cases, below, rest_sorted}
-use Rattle.ck_scan.proofs.Counting.{less_from}
+use Rattle.ck_scan.proofs.Rising.{less_from}
 use Rattle.ck_scan.proofs.CountLaws.{counts_more, counts_as}
 
 among_more : {Z : Type 0} (Met : Owned → Type 0) (u : Owned) (Shows : Owned → Z → Type 0) (x : Z)
@@ -49,13 +49,13 @@ facts_more image m Met u held more h a = record {
 }
 
 pub found_more : (image : Image) (m : AllocMap) (Met : Owned → Type 0) (u : Owned) (old new : Findings) → IsMapOf image m → HasNoSystemErrors m
-    → IsBehind Met u → AreFound image m Met old → AddsPage image m u old new → AreFound image m (WithPage Met u) new
-found_more image m Met u old new of sound behind h a = record {
+    → (Met u → ⊥) → AreFound image m Met old → AddsPage image m u old new → AreFound image m (WithPage Met u) new
+found_more image m Met u old new of sound fresh h a = record {
   errors = errors_more image m Met u old.errors.items new.errors.items h.errors a.errors;
   facts = h.facts ++ a.more;
   held = a.held.holds h.facts h.held;
   each = facts_more image m Met u h.facts a.more h.each a.each;
-  lines = counts_more image m Met u old.lines.items new.lines.items of sound behind h.lines a.lines;
+  lines = counts_more image m Met u old.lines.items new.lines.items of sound fresh h.lines a.lines;
 }
 
 pub found_as : (image : Image) (m : AllocMap) (Met Other : Owned → Type 0) (found : Findings) → ((v : Owned) → Met v → Other v)
@@ -70,9 +70,9 @@ found_as image m Met Other found there back h = record {
 
 -- The pages of one extent, in their order.
 
--- those before extent e, and the first k of its own
-abbrev pub IsReached : Image → AllocMap → ℕ → List Owned → ℕ → Owned → Type 0
-IsReached image m e owned k v = Below e (IsOwnerIn m.geometry image) v ⊎ Contains (take k owned) v
+-- those of other extents, and the first k of this one
+abbrev pub IsReached : Image → AllocMap → List ℕ → List Owned → ℕ → Owned → Type 0
+IsReached image m others owned k v = IsOwnerAmong image m others v ⊎ Contains (take k owned) v
 
 less_than : {K : Type 0} (R : K → K → Ordering) (xs : List K) (k : ℕ) (d v : K) → IsStrictlySortedBy R xs → k < length xs → Contains (take k xs) v
     → R v (get_or xs k d) ≡ Less
@@ -93,48 +93,43 @@ page_before v u less same = ⊎_elim (λ before. less_from v.0.0 u.0.0 before)
     (λ tied. let never = less_from v.1.0 u.1.0 tied.1 in absurd (omega (arith, never, same)))
     (then_cases (nat_cmp v.0.0 u.0.0) (nat_cmp v.1.0 u.1.0) less)
 
-pub reached_behind : (image : Image) (m : AllocMap) (e : ℕ) (owned : List Owned) (k : ℕ) (d : Owned) → AreOwnersIn m.geometry image e owned
-    → k < length owned → IsBehind (IsReached image m e owned k) (get_or owned k d)
-reached_behind image m e owned k d are low v met same = ⊎_elim
-    (λ before. let here = (are.sound (get_or owned k d) (Contains-get_or owned k d low)).extent in
-    let there = before.2.extent in
-    let less = before.1 in
-    earlier v.0.0 (get_or owned k d).0.0 before.0 e there here less)
-    (λ first. page_before v (get_or owned k d) (less_than owned_cmp owned k d v are.sorted low first) same) met where
-      earlier : (p q a b : ℕ) → p / 8 ≡ a → q / 8 ≡ b → a < b → p < q
-      earlier p q a b first second less = omega arith
+reached_new : (image : Image) (m : AllocMap) (others : List ℕ) (e : ℕ) (owned : List Owned) (k : ℕ) (d : Owned) → AreOwnersIn m.geometry image e owned
+    → k < length owned → (Contains others e → ⊥) → IsReached image m others owned k (get_or owned k d) → ⊥
+reached_new image m others e owned k d are low fresh met = ⊎_elim
+    (λ among. let here = (are.sound (get_or owned k d) (Contains-get_or owned k d low)).extent in
+    fresh (subst (Contains others) (sym among.2.extent ∙ here) among.1))
+    (λ first. let same = page_before (get_or owned k d) (get_or owned k d) (less_than owned_cmp owned k d (get_or owned k d) are.sorted low first) refl in
+    absurd (omega (arith, same))) met
 
-pub reached_next : (image : Image) (m : AllocMap) (e : ℕ) (owned : List Owned) (k : ℕ) (d : Owned) (found : Findings) → k < length owned
-    → AreFound image m (WithPage (IsReached image m e owned k) (get_or owned k d)) found → AreFound image m (IsReached image m e owned (k + 1)) found
-reached_next image m e owned k d found low h =
+reached_next : (image : Image) (m : AllocMap) (others : List ℕ) (owned : List Owned) (k : ℕ) (d : Owned) (found : Findings) → k < length owned
+    → AreFound image m (WithPage (IsReached image m others owned k) (get_or owned k d)) found → AreFound image m (IsReached image m others owned (k + 1)) found
+reached_next image m others owned k d found low h =
     let more : take (k + 1) owned ≡ take k owned ++ get_or owned k d ∷ [] = take_more owned k d low in
-    found_as image m (WithPage (IsReached image m e owned k) (get_or owned k d)) (IsReached image m e owned (k + 1)) found
+    found_as image m (WithPage (IsReached image m others owned k) (get_or owned k d)) (IsReached image m others owned (k + 1)) found
     (λ v met. ⊎_elim (λ was. ⊎_elim (λ before. inl before)
     (λ first. inr (subst (λ l. Contains l v) (sym more) (Contains-append_left (take k owned) (get_or owned k d ∷ []) v first))) was)
     (λ same. inr (subst (λ l. Contains l v) (sym more) (subst (Contains (take k owned ++ get_or owned k d ∷ [])) same (Contains-push (take k owned) (get_or owned k d))))) met)
     (λ v met. ⊎_elim (λ before. inl (inl before))
     (λ now. ⊎_elim (λ first. inl (inr first)) (λ same. inr same) (Contains-push_cases (take k owned) (get_or owned k d) v (subst (λ l. Contains l v) more now))) met) h
 
-pub reached_first : (image : Image) (m : AllocMap) (e : ℕ) (owned : List Owned) (found : Findings)
-    → AreFound image m (Below e (IsOwnerIn m.geometry image)) found → AreFound image m (IsReached image m e owned 0) found
-reached_first image m e owned found h = found_as image m (Below e (IsOwnerIn m.geometry image)) (IsReached image m e owned 0) found
+pub reached_first : (image : Image) (m : AllocMap) (others : List ℕ) (owned : List Owned) (found : Findings)
+    → AreFound image m (IsOwnerAmong image m others) found → AreFound image m (IsReached image m others owned 0) found
+reached_first image m others owned found h = found_as image m (IsOwnerAmong image m others) (IsReached image m others owned 0) found
     (λ v met. inl met) (λ v met. ⊎_elim (λ before. before) (λ none. absurd (nothing_there v none)) met) h
 
-pub reached_last : (image : Image) (m : AllocMap) (e : ℕ) (owned : List Owned) (k : ℕ) (found : Findings) → AreOwnersIn m.geometry image e owned
-    → take k owned ≡ owned → AreFound image m (IsReached image m e owned k) found → AreFound image m (Below (e + 1) (IsOwnerIn m.geometry image)) found
-reached_last image m e owned k found are all h = found_as image m (IsReached image m e owned k) (Below (e + 1) (IsOwnerIn m.geometry image)) found
-    (λ v met. ⊎_elim (λ before. let less = before.1 in (before.0, omega (arith, less), before.2))
-    (λ here. (e, omega arith, are.sound v (subst (λ l. Contains l v) all here))) met)
-    (λ v met. ⊎_elim (λ less. inl (met.0, less, met.2))
-    (λ same. inr (subst (λ l. Contains l v) (sym all) (are.complete v (subst (λ n. IsOwnerIn m.geometry image n v) same met.2)))) (upto met.0 e met.1)) h where
-      upto : (i n : ℕ) → i < n + 1 → (i < n) ⊎ (i ≡ n)
-      upto i n h = search (Rattle.std.proofs.Common.rules, arith)
+pub reached_last : (image : Image) (m : AllocMap) (others : List ℕ) (e : ℕ) (owned : List Owned) (k : ℕ) (found : Findings) → AreOwnersIn m.geometry image e owned
+    → take k owned ≡ owned → AreFound image m (IsReached image m others owned k) found → AreFound image m (IsOwnerAmong image m (others ++ e ∷ [])) found
+reached_last image m others e owned k found are all h = found_as image m (IsReached image m others owned k) (IsOwnerAmong image m (others ++ e ∷ [])) found
+    (λ v met. ⊎_elim (λ before. (before.0, Contains-append_left others (e ∷ []) before.0 before.1, before.2))
+    (λ here. (e, Contains-push others e, are.sound v (subst (λ l. Contains l v) all here))) met)
+    (λ v met. ⊎_elim (λ was. inl (met.0, was, met.2))
+    (λ same. inr (subst (λ l. Contains l v) (sym all) (are.complete v (subst (λ n. IsOwnerIn m.geometry image n v) (sym same) met.2)))) (Contains-push_cases others e met.0 met.1)) h
 
-pub reached_step : (image : Image) (m : AllocMap) (e : ℕ) (owned : List Owned) (k : ℕ) (d : Owned) (old new : Findings)
-    → IsMapOf image m → HasNoSystemErrors m → AreOwnersIn m.geometry image e owned → k < length owned → AreFound image m (IsReached image m e owned k) old
-    → AddsPage image m (get_or owned k d) old new → AreFound image m (IsReached image m e owned (k + 1)) new
-reached_step image m e owned k d old new of sound are low was adds = reached_next image m e owned k d new low
-    (found_more image m (IsReached image m e owned k) (get_or owned k d) old new of sound (reached_behind image m e owned k d are low) was adds)
+pub reached_step : (image : Image) (m : AllocMap) (others : List ℕ) (e : ℕ) (owned : List Owned) (k : ℕ) (d : Owned) (old new : Findings)
+    → IsMapOf image m → HasNoSystemErrors m → AreOwnersIn m.geometry image e owned → k < length owned → (Contains others e → ⊥)
+    → AreFound image m (IsReached image m others owned k) old → AddsPage image m (get_or owned k d) old new → AreFound image m (IsReached image m others owned (k + 1)) new
+reached_step image m others e owned k d old new of sound are low fresh was adds = reached_next image m others owned k d new low
+    (found_more image m (IsReached image m others owned k) (get_or owned k d) old new of sound (reached_new image m others e owned k d are low fresh) was adds)
 
 pub owner_at : (image : Image) (m : AllocMap) (e : ℕ) (owned : List Owned) (k : ℕ) (d : Owned) → AreOwnersIn m.geometry image e owned
     → k < length owned → IsOwnerIn m.geometry image e (get_or owned k d)

@@ -1,8 +1,7 @@
 -- The reports of a file are its written check.
-use Rattle.std.proofs.Common.{◌≡◌, ◌↔◌, ◌⊎◌, ◌<◌, List, [], ◌∷◌, Contains, length, arith, sym, subst, refl, inl, inr, ⊎_elim, Option, Some, None, IfSome}
+use Rattle.std.proofs.Common.{◌≡◌, ◌↔◌, ◌⊎◌, ◌<◌, List, [], ◌∷◌, Contains, length, arith, sym, subst, refl, inl, inr, ⊎_elim, Result, Ok, Err, IfOk}
 use Rattle.ck_facts.specs.declared.map.AllocMap.{AllocMap}
 use Rattle.ck_facts.specs.MapOf.{IsMapOf}
-use Rattle.std.proofs.lemmas.Option.{same_Some}
 use Rattle.spec_file.specs.declared.geometry.Geometry.{Geometry}
 use Rattle.spec_file.specs.Image.{Image, page}
 use Rattle.spec_file.specs.Header.{page_type}
@@ -23,7 +22,7 @@ use Rattle.ck_facts.specs.Owners.{owned}
 use Rattle.ck_merge.specs.Held.{ListsTrees, roots_in, roots_of}
 use Rattle.ck_scan.specs.declared.findings.Findings.{Findings}
 use Rattle.ck_scan.specs.Shown.{IsErrorAt, Among}
-use Rattle.ck_scan.specs.Found.{AreFound}
+use Rattle.ck_scan.specs.Found.{AreFound, IsAllShown}
 use Rattle.ck_scan.specs.Lines.{IsReportOfRules}
 use Rattle.spec_check.proofs.Members.{nothing_there, cons_here}
 use Rattle.ck_scan.proofs.OwnerLaws.{OwnedAll, owned_there, one_row}
@@ -66,14 +65,12 @@ check_of_rules g image system report none lists is =
       unsound = λ h. absurd (never h.0 h.1);
     }
 
--- what a reader tells
-pub told_at : (o : Option Image) (x : Image) (P : Image → Type 0) → o ≡ Some x → IfSome o P → P x
-told_at None x P at h = absurd (cc)
-told_at (Some y) x P at h = subst P (same_Some y x at) h
-
-pub told_if : (o : Option Image) (P Q : Image → Type 0) → IfSome o P → ((x : Image) → o ≡ Some x → P x → Q x) → IfSome o Q
-told_if None P Q h f = tt
-told_if (Some y) P Q h f = f y refl h
+-- the reports of readers that tell an image
+pub checked_together : {E : Type 0} (m : AllocMap) (r : Result CheckReport E) (Tells : Image → Type 0) → HasNoSystemErrors m
+    → IfOk r (λ report. (image : Image) → IsMapOf image m → Tells image → IsReportOfRules m.geometry image report)
+    → IfOk r (λ report. (image : Image) → IsMapOf image m → Tells image → IsCheckOf m.geometry image report)
+checked_together {E} m (Ok report) Tells sound h = λ image of tells. check_of_rules m.geometry image m.system.items report sound of.system (h image of tells)
+checked_together {E} m (Err e) Tells sound h = tt
 
 pub empty_list : (xs : List CheckError) → length xs ≡ 0 → xs ≡ []
 empty_list [] none = refl
@@ -106,17 +103,31 @@ page_error_in image m x of h = (
 )
 
 -- the errors of maps, pages and trees together
-pub rule_errors : (image : Image) (m : AllocMap) (found : Findings) (maps trees first all : List CheckError) → IsMapOf image m → HasNoSystemErrors m
-    → roots_in found.parts ≡ roots_of m.objects.items → AreFound image m (OwnedAll image m) found → Lists maps (IsAllocationError m.geometry image)
-    → ListsTrees found.parts trees → Joins first maps found.errors.items → Joins all first trees → Gathers all (IsRuleError m.geometry image)
-rule_errors image m found maps trees first all of sound roots is of_maps of_trees one two =
-    let lists : Lists trees (IsTreeError (known_of_image m.geometry image)) =
-    parts_show_trees image m found.parts is.facts trees of sound (facts_of_all image m is.facts of is.each) is.held roots of_trees in
-    record {
-      sound = λ x c. ⊎_elim
-          (λ early. ⊎_elim (λ a. inl (of_maps.sound x a)) (λ b. inr (inl (page_error_from image m x of sound (is.errors.sound x b)))) ((one.joins x).0 early))
-          (λ late. inr (inr (lists.sound x late))) ((two.joins x).0 c);
-      complete = λ x s. (two.joins x).1 (⊎_elim (λ a. inl ((one.joins x).1 (inl (of_maps.complete x a))))
-          (λ rest. ⊎_elim (λ b. inl ((one.joins x).1 (inr (is.errors.complete x (page_error_in image m x of b)))))
-          (λ t. inr (lists.complete x t)) rest) s);
-    }
+pub rule_errors : (image : Image) (m : AllocMap) (maps pages trees first all : List CheckError) → IsMapOf image m → HasNoSystemErrors m
+    → Lists maps (IsAllocationError m.geometry image) → Gathers pages (Among (OwnedAll image m) (IsErrorAt m.geometry image))
+    → Lists trees (IsTreeError (known_of_image m.geometry image)) → Joins first maps pages → Joins all first trees → Gathers all (IsRuleError m.geometry image)
+rule_errors image m maps pages trees first all of sound of_maps of_pages of_trees one two = record {
+  sound = λ x c. ⊎_elim
+      (λ early. ⊎_elim (λ a. inl (of_maps.sound x a)) (λ b. inr (inl (page_error_from image m x of sound (of_pages.sound x b)))) ((one.joins x).0 early))
+      (λ late. inr (inr (of_trees.sound x late))) ((two.joins x).0 c);
+  complete = λ x s. (two.joins x).1 (⊎_elim (λ a. inl ((one.joins x).1 (inl (of_maps.complete x a))))
+      (λ rest. ⊎_elim (λ b. inl ((one.joins x).1 (inr (of_pages.complete x (page_error_in image m x of b)))))
+      (λ t. inr (of_trees.complete x t)) rest) s);
+}
+
+-- all that is shown, where all is found and the parts list what they hold
+all_shown : (image : Image) (m : AllocMap) (found : Findings) (trees : List CheckError) → IsMapOf image m → HasNoSystemErrors m
+    → roots_in found.parts ≡ roots_of m.objects.items → ListsTrees found.parts trees → AreFound image m (OwnedAll image m) found
+    → IsAllShown image m found.errors.items trees found.lines.items
+all_shown image m found trees of sound roots lists is = record {
+  pages = is.errors;
+  trees = parts_show_trees image m found.parts is.facts trees of sound (facts_of_all image m is.facts of is.each) is.held roots lists;
+  lines = is.lines;
+}
+
+pub report_found : {E : Type 0} (m : AllocMap) (found : Findings) (trees : List CheckError) (r : Result CheckReport E) → HasNoSystemErrors m
+    → roots_in found.parts ≡ roots_of m.objects.items → ListsTrees found.parts trees
+    → IfOk r (λ report. (image : Image) → IsMapOf image m → IsAllShown image m found.errors.items trees found.lines.items → IsReportOfRules m.geometry image report)
+    → IfOk r (λ report. (image : Image) → IsMapOf image m → AreFound image m (OwnedAll image m) found → IsReportOfRules m.geometry image report)
+report_found {E} m found trees (Ok report) sound roots lists right = λ image of is. right image of (all_shown image m found trees of sound roots lists is)
+report_found {E} m found trees (Err e) sound roots lists right = tt

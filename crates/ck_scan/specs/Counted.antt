@@ -1,5 +1,5 @@
 -- How lines count pages and their rows.
-use Rattle.std.specs.Prelude.{◌≡◌, ℕ, ◌+◌, ◌^◌, ◌<◌, List, length, map, Contains, Some, slice_get, slice_set}
+use Rattle.std.specs.Prelude.{◌≡◌, ℕ, ◌+◌, ◌^◌, ◌<◌, List, length, map, Contains, Some, slice_get, slice_set, slice_index_or}
 use Rattle.std.specs.List.{sum_by}
 use Rattle.std.specs.List.Sorted.{IsStrictlySortedBy}
 use Rattle.std.specs.Ordering.{nat_cmp}
@@ -26,6 +26,18 @@ pub record IsOneMore (old new : TableLine) (n : ℕ) : Type 0 where
   pub object : new.object ≡ old.object
   pub pages : old.pages + 1 < 2 ^ 64 → new.pages ≡ old.pages + 1
   pub rows : old.rows + n < 2 ^ 64 → new.rows ≡ old.rows + n
+
+-- the line adds the counts of two, where its counts have room for them
+pub record IsSumOf (one two now : TableLine) : Type 0 where
+  pub object : now.object ≡ one.object
+  pub pages : one.pages + two.pages < 2 ^ 64 → now.pages ≡ one.pages + two.pages
+  pub rows : one.rows + two.rows < 2 ^ 64 → now.rows ≡ one.rows + two.rows
+
+-- each line adds the counts of the two at its place
+pub record AreSums (one two now : List TableLine) : Type 0 where
+  pub long : length now ≡ length one
+  pub same : length two ≡ length one
+  pub each : (i : ℕ) (d : TableLine) → i < length one → IsSumOf (slice_index_or one i d) (slice_index_or two i d) (slice_index_or now i d)
 
 -- the line at place i counts a page with so many rows, and the others stay
 pub record CountsPage (old new : List TableLine) (i rows : ℕ) : Type 0 where

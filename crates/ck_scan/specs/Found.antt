@@ -1,17 +1,22 @@
 -- What was found on pages.
-use Rattle.std.specs.Prelude.{◌≡◌, ◌⊎◌, ℕ, ◌++◌, ◌<◌, Bool, true, false, List, Contains}
+use Rattle.std.specs.Prelude.{◌≡◌, ◌⊎◌, ℕ, ◌++◌, ◌/◌, Bool, true, false, List, Contains, vec_len}
 use Rattle.spec_file.specs.Image.{Image, page}
+use Rattle.spec_check.specs.declared.report.CheckError.{CheckError}
 use Rattle.spec_check.specs.declared.report.TableLine.{TableLine}
+use Rattle.spec_check.specs.Errors.{Lists}
+use Rattle.spec_tree.specs.Trees.{IsTreeError}
+use Rattle.spec_tables.specs.KnownPages.{known_of_image}
 use Rattle.spec_tables.specs.Seen.{rows_on}
-use Rattle.ck_error.specs.Gathered.{Gathers, Adds}
+use Rattle.ck_error.specs.Gathered.{Gathers, Adds, Each, Below}
 use Rattle.ck_facts.specs.declared.facts.Fact.{Fact}
 use Rattle.ck_facts.specs.declared.facts.PageFacts.{PageFacts}
 use Rattle.ck_facts.specs.declared.map.AllocMap.{AllocMap}
-use Rattle.ck_facts.specs.Owners.{Owned, IsPlaceOf}
-use Rattle.ck_merge.specs.Held.{Holds}
+use Rattle.ck_facts.specs.Owners.{Owned, IsOwnerIn, IsPlaceOf}
+use Rattle.ck_merge.specs.Held.{Holds, roots_in, count_of}
 use Rattle.ck_scan.specs.declared.findings.Findings.{Findings}
 use Rattle.ck_scan.specs.Shown.{IsErrorAt, IsSeenAt, IsFactAt, Among}
-use Rattle.ck_scan.specs.Counted.{CountsPage, AreCounts}
+use Rattle.ck_scan.specs.Counted.{CountsPage, AreCounts, AreSums}
+use Rattle.ck_scan.specs.Once.{IsEachOnce}
 
 -- what the pages that are met show: their errors, their facts, and the lines that count them
 pub record AreFound (image : Image) (m : AllocMap) (Met : Owned → Type 0) (found : Findings) : Type 0 where
@@ -55,6 +60,28 @@ pub record Takes (shown : PageFacts) (i : ℕ) (old new : Findings) : Type 0 whe
   pub held : HoldsMore old new shown.facts.items
   pub lines : CountsWhere shown.seen old.lines.items new.lines.items i shown.rows
 
--- each page of the same object that is met stands before this one
-abbrev pub IsBehind : (Owned → Type 0) → Owned → Type 0
-IsBehind Met u = (v : Owned) → Met v → v.1.0 ≡ u.1.0 → v.0.0 < u.0.0
+-- the pages of the extents of a list that objects own
+abbrev pub IsOwnerAmong : Image → AllocMap → List ℕ → Owned → Type 0
+IsOwnerAmong image m extents = Each extents (IsOwnerIn m.geometry image)
+
+-- what the pages of these extents show, where no extent stands there twice
+abbrev pub AreFoundIn : Image → AllocMap → List ℕ → Findings → Type 0
+AreFoundIn image m extents found = IsEachOnce extents → AreFound image m (IsOwnerAmong image m extents) found
+
+-- the findings of both in one
+pub record AreJoined (one two now : Findings) : Type 0 where
+  pub errors : Adds one.errors.items now.errors.items (Contains two.errors.items)
+  pub holds : (held more : List Fact) → Holds one.parts held → Holds two.parts more → Holds now.parts (held ++ more)
+  pub lines : AreSums one.lines.items two.lines.items now.lines.items
+
+-- findings for the same objects, in as many parts
+pub record IsLike (one two : Findings) : Type 0 where
+  pub lines : vec_len two.lines ≡ vec_len one.lines
+  pub roots : roots_in two.parts ≡ roots_in one.parts
+  pub count : count_of two.parts ≡ count_of one.parts
+
+-- all that the pages of a file show by themselves and together, and the lines that count them
+pub record IsAllShown (image : Image) (m : AllocMap) (of_pages of_trees : List CheckError) (counted : List TableLine) : Type 0 where
+  pub pages : Gathers of_pages (Among (Below (m.pages / 8) (IsOwnerIn m.geometry image)) (IsErrorAt m.geometry image))
+  pub trees : Lists of_trees (IsTreeError (known_of_image m.geometry image))
+  pub lines : AreCounts image m (Below (m.pages / 8) (IsOwnerIn m.geometry image)) counted

@@ -1,7 +1,10 @@
 pub mod Shown
 pub mod Counted
+pub mod Once
 pub mod Found
 pub mod Frames
 pub mod Lines
 pub mod PartsLaw
+pub mod Readers
+pub mod Working
 pub mod Scans

@@ -1,14 +1,13 @@
 // The pages of an extent that objects own.
-ghost use Rattle.std.specs.Prelude.{◌≡◌, ℕ, ◌+◌, ◌/◌, ◌<◌, OnOk, vec_len};
+ghost use Rattle.std.specs.Prelude.{◌≡◌, ℕ, ◌/◌, ◌<◌, List, [], ◌∷◌, ◌++◌, OnOk, vec_len};
 ghost use Rattle.std.specs.Option.{ForSome};
 ghost use Rattle.pg_base.specs.Stops.{stop_of};
 ghost use Rattle.pg_base.specs.Reading.{OnlyReads};
-ghost use Rattle.ck_error.specs.Gathered.{Below};
 ghost use Rattle.ck_facts.specs.Maps.{HasNoSystemErrors};
 ghost use Rattle.ck_facts.specs.MapOf.{IsMapOf};
 ghost use Rattle.ck_facts.specs.Owners.{IsOwnerIn};
-ghost use Rattle.ck_merge.specs.Held.{roots_in};
-ghost use Rattle.ck_scan.specs.Found.{AreFound, AddsPage};
+ghost use Rattle.ck_merge.specs.Held.{roots_in, count_of};
+ghost use Rattle.ck_scan.specs.Found.{AreFoundIn, AddsPage};
 ghost use Rattle.ck_scan.specs.Frames.{IsFrameOf};
 
 use crate::findings::Findings;
@@ -32,8 +31,9 @@ fn find_on_page<R: SnapReader>(
     ensures adds { OnOk result (ForSome (R.image reader.old) (λ image. (e : ℕ) → IsMapOf image map.now → HasNoSystemErrors map.now
         → IsOwnerIn map.now.geometry image e owned → IsFrameOf image frame.old
         → AddsPage image map.now owned found.old found.new × IsFrameOf image frame.new)) }
-    ensures lines { OnOk result (vec_len found.new.lines ≡ vec_len found.old.lines) }
+    ensures lines { vec_len found.new.lines ≡ vec_len found.old.lines }
     ensures roots { roots_in found.new.parts ≡ roots_in found.old.parts }
+    ensures parts { count_of found.new.parts ≡ count_of found.old.parts }
     ensures reads { OnlyReads R.SnapReader reader.old reader.new (stop_of result) }
 {
     if !map.ordinary(owned.0) {
@@ -45,7 +45,7 @@ fn find_on_page<R: SnapReader>(
     Ok(())
 }
 
-/// Takes what the pages of an extent show for the objects that own them.
+/// Takes what the pages of an extent show for the objects that own them, whichever extents were read before.
 pub fn find_in_extent<R: SnapReader>(
     alloc: Global,
     reader: &mut R,
@@ -58,11 +58,11 @@ pub fn find_in_extent<R: SnapReader>(
     requires sound { HasNoSystemErrors map.now }
     requires inside { e < map.now.pages / 8 }
     requires lines { vec_len found.old.lines ≡ vec_len map.now.objects }
-    ensures found { OnOk result (ForSome (R.image reader.old) (λ image. IsMapOf image map.now → IsFrameOf image frame.old
-        → AreFound image map.now (Below e (IsOwnerIn map.now.geometry image)) found.old
-        → AreFound image map.now (Below (e + 1) (IsOwnerIn map.now.geometry image)) found.new × IsFrameOf image frame.new)) }
-    ensures lines { OnOk result (vec_len found.new.lines ≡ vec_len found.old.lines) }
+    ensures found { OnOk result (ForSome (R.image reader.old) (λ image. (others : List ℕ) → IsMapOf image map.now → IsFrameOf image frame.old
+        → AreFoundIn image map.now others found.old → AreFoundIn image map.now (others ++ e ∷ []) found.new × IsFrameOf image frame.new)) }
+    ensures lines { vec_len found.new.lines ≡ vec_len found.old.lines }
     ensures roots { roots_in found.new.parts ≡ roots_in found.old.parts }
+    ensures parts { count_of found.new.parts ≡ count_of found.old.parts }
     ensures reads { OnlyReads R.SnapReader reader.old reader.new (stop_of result) }
 {
     let pages = map.pages_in(alloc, ExtentNo(e))?;

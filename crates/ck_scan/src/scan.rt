@@ -39,7 +39,7 @@ impl Scan {
         Ok(Scan::Pages {
             next: 0,
             frame: Frame::begin(alloc)?,
-            found: Findings::begin(alloc, map)?,
+            found: Findings::begin(alloc, map, 1)?,
         })
     }
 

@@ -15,3 +15,5 @@ mod read_tests;
 mod rule_tests;
 #[cfg(test)]
 mod scan_tests;
+#[cfg(test)]
+mod together_tests;

@@ -91,7 +91,7 @@ pub fn map_of(
     ensures system { IfOk result (λ map. map.system.items ≡ system.now) }
 {
     let objects = catalog_rows(alloc, map.objects)?;
-    if !(16..=32).contains(&pages)
+    if !(16..=40).contains(&pages)
         || !pages.is_multiple_of(8)
         || objects.len() > 128
         || map.extents.len() != pages as usize / 8

@@ -9,6 +9,7 @@ use spec_tree::{IndexRow, PageHead};
 use std::alloc::Global;
 use std::process::Abort;
 use std::test::Fail;
+use std::thread::Threads;
 
 // Object 1 is a clustered table with root 10; 2 and 3 are heaps.
 static ONE_TABLE: MadeMap = MadeMap {
@@ -41,7 +42,7 @@ fn at_once(alloc: Global, facts: &[Fact], more: u8) -> Result<Vec<CheckError>, N
 }
 
 // Each fact in parts of its own, joined from the last to the first.
-fn from_behind(alloc: Global, facts: &[Fact], more: u8) -> Result<Vec<CheckError>, NoMemory> {
+fn from_behind(alloc: Global, facts: &[Fact], more: u8) -> Result<Parts, NoMemory> {
     let map = one_table(alloc)?;
     let count = u32::from(more) + 1;
     let mut parts = Parts::begin(alloc, &map, count)?;
@@ -50,22 +51,38 @@ fn from_behind(alloc: Global, facts: &[Fact], more: u8) -> Result<Vec<CheckError
         other.add(&[*fact])?;
         parts.join(other)?;
     }
-    parts.finish()
+    Ok(parts)
+}
+
+// The same, joined from the first to the last.
+fn from_front(alloc: Global, facts: &[Fact], more: u8) -> Result<Parts, NoMemory> {
+    let map = one_table(alloc)?;
+    let count = u32::from(more) + 1;
+    let mut parts = Parts::begin(alloc, &map, count)?;
+    for fact in facts {
+        let mut other = Parts::begin(alloc, &map, count)?;
+        other.add(&[*fact])?;
+        parts.join(other)?;
+    }
+    Ok(parts)
 }
 
 // What a case is called, its facts, and the errors that they show.
 type Case = (&'static str, &'static [Fact], &'static [CheckError]);
 
-fn are_matched(rt: &impl Abort, alloc: Global, cases: &[Case]) -> Result<(), Fail> {
+fn are_matched<T: Abort + Threads + Sync>(
+    rt: &T,
+    alloc: Global,
+    cases: &[Case],
+) -> Result<(), Fail> {
     for (name, facts, wanted) in cases {
         for more in [0, 1, 2, 15] {
-            expect_errors(rt, at_once(alloc, facts, more)?.as_slice(), wanted, name);
-            expect_errors(
-                rt,
-                from_behind(alloc, facts, more)?.as_slice(),
-                wanted,
-                name,
-            );
+            let found = at_once(alloc, facts, more)?;
+            expect_errors(rt, found.as_slice(), wanted, name);
+            let found = from_behind(alloc, facts, more)?.finish()?;
+            expect_errors(rt, found.as_slice(), wanted, name);
+            let found = from_front(alloc, facts, more)?.finish_together(rt)?;
+            expect_errors(rt, found.as_slice(), wanted, name);
         }
     }
     Ok(())

@@ -57,7 +57,8 @@ static HEADER: Header = Header {
     ghosts: 0,
 };
 
-fn heap_page(page: &mut Page, p: u32) {
+/// A heap page of object 1 with one row.
+pub fn heap_page(page: &mut Page, p: u32) {
     let header = Header {
         page_id: PageNo(p),
         ..HEADER
@@ -217,7 +218,8 @@ static CASES: [Case; 4] = [
     ),
 ];
 
-fn line(object: u32, rows: u64) -> TableLine {
+/// The line of an object with one row on each of its pages.
+pub fn line(object: u32, rows: u64) -> TableLine {
     TableLine {
         object,
         rows,
@@ -225,7 +227,7 @@ fn line(object: u32, rows: u64) -> TableLine {
     }
 }
 
-fn expect_tables(rt: &impl Abort, found: &CheckReport, wanted: &[TableLine], name: &str) {
+pub fn expect_tables(rt: &impl Abort, found: &CheckReport, wanted: &[TableLine], name: &str) {
     assert_eq!(rt; found.tables.as_slice(), wanted, "{name}");
 }
 

@@ -1,8 +1,11 @@
 -- What the close of a run wrote, said of its history.
-use Rattle.std.proofs.Common.{◌≡◌, ℕ, ◌*◌, ◌<◌, ◌≤◌, Bool, List, [], length, reverse, Option, Some, None, IfSome, option_map, refl, sym, ap, ◌∙◌, subst, arith, if◌then◌else◌}
+use Rattle.std.proofs.Common.{◌≡◌, ℕ, ◌*◌, ◌^◌, ◌<◌, ◌≤◌, Bool, List, [], length, reverse, Option, Some, None, IfSome, option_map, refl, sym, ap, ◌∙◌, subst, arith, if◌then◌else◌}
 use Rattle.std.specs.Option.{ForSome}
 use Rattle.std.specs.List.{list_any}
 use Rattle.std.proofs.lemmas.List.{reverse-reverse}
+use Rattle.spec_file.specs.declared.geometry.Geometry.{Geometry}
+use Rattle.spec_file.specs.declared.geometry.Geometry.TheVariants.{Standard, Small}
+use Rattle.spec_file.specs.Places.{HasShape}
 use Rattle.spec_file.specs.Image.{Image, page_size}
 use Rattle.spec_file.specs.Image.{bytes_of}
 use Rattle.spec_log.specs.declared.item.Record.{Record}
@@ -100,9 +103,13 @@ close_of run entries items close pages frames opened is many of =
 pub items_order : (items log : List Record) → reverse items ≡ log → reverse log ≡ items
 items_order items log is = ap reverse (sym is) ∙ reverse-reverse items
 
+few_pages : (g : Geometry) (pages : ℕ) → HasShape g pages → pages ≤ 2 ^ 32
+few_pages Standard pages shape = let high = shape.high in omega (arith, high)
+few_pages Small pages shape = let high = shape.high in omega (arith, high)
+
 pub may_write : (run : Setting) (entries : List Entry) (items : List Record) (close : Close) (frames : Image) (told : Option (List ℕ)) → run.opened ≡ []
-    → frames ≡ last_of run entries → reverse (items_of entries) ≡ items → IsCloseOf items (length run.image) close → length run.image ≤ 88
+    → frames ≡ last_of run entries → reverse (items_of entries) ≡ items → IsCloseOf items (length run.image) close → HasShape run.geometry (length run.image)
     → IfSome told (AreAllPages run.image) → MayClose close frames told
-may_write run entries items close frames told opened is order of few pages =
+may_write run entries items close frames told opened is order of shape pages =
     let same : frames ≡ final_image [] (items_of entries) run.image = is ∙ ap (λ o. final_image o (items_of entries) run.image) opened in
-    subst (λ i. MayClose close i told) (sym same) (may_close items (items_of entries) run.image close told order of (omega (arith, few)) pages)
+    subst (λ i. MayClose close i told) (sym same) (may_close items (items_of entries) run.image close told order of (few_pages run.geometry (length run.image) shape) pages)

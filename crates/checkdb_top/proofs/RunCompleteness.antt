@@ -158,7 +158,7 @@ module _ (lefts : List (Option (List ℕ))) (bytes log : List ℕ) (some : 0 < l
       → Ends lefts lefts_now (Some bytes) file_now (Some log) log_now out out_now s → ((d : Device) → IsDevice d s → ⊥) → CompletesRun lefts bytes log s
   ends_completes lefts_now file_now log_now out out_now s (Stops stops a b c) none = stops_completes s stops none
   ends_completes lefts_now file_now log_now out out_now s (Runs run entries is read closes) none =
-      ⊎_elim (λ whole. closed_completes s (is.turns, run.scripts, is.texts) (run_file run.image (Some bytes) is.form is.pages) is.empty whole)
+      ⊎_elim (λ whole. closed_completes s (is.turns, run.scripts, is.texts) (run_file run.image (Some bytes) is.passes is.pages) is.empty whole)
       (λ device. absurd (none device.0 (subst (IsDevice device.0) (sym device.1) refl)))
       (closed_as lefts (Some bytes) (Some log) run entries file_now log_now out out_now s is closes)
 

@@ -14,7 +14,7 @@ use Rattle.run_file.specs.declared.log.LogWhy.TheVariants as log
 use Rattle.checkdb_top.specs.declared.status.Device.{Device}
 use Rattle.checkdb_top.specs.declared.status.Device.TheVariants as device
 use Rattle.checkdb_top.specs.Answers.{IsDevice}
-use Rattle.checkdb_top.specs.Start.{HasForm, HaveTexts, StopsStart}
+use Rattle.checkdb_top.specs.Start.{HaveTexts, IsTaken, StopsStart}
 use Rattle.checkdb_top.specs.StartStops.{sources_start, file_start, log_start}
 
 pub sources_apart : (d : Device) (stop : SourcesStop) → d ≢ device.Source → IsDevice d (sources_start stop) → ⊥
@@ -57,7 +57,7 @@ module _ (lefts : List (Option (List ℕ))) (file_told log_told : Option (List �
   file_stop file.Failed texts fault = texts
   file_stop file.NoMemory texts fault = tt
 
-  pub log_stop : (stop : LogWhy) → HaveTexts lefts → HasForm file_told → LogFault {T = Unit {0}} log_told (Err stop)
+  pub log_stop : (stop : LogWhy) → HaveTexts lefts → IsTaken file_told → LogFault {T = Unit {0}} log_told (Err stop)
       → StopsStart lefts file_told log_told (log_start stop)
   log_stop log.Size texts form fault = (texts, form, fault)
   log_stop log.Later texts form fault = (texts, form, fault)

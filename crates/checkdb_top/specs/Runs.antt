@@ -2,7 +2,6 @@
 use Rattle.std.specs.Prelude.{◌≡◌, ℕ, ◌-◌, ◌<◌, ◌==◌, Bool, false, if◌then◌else◌, IsTrue, All, List, [], ◌++◌, length, get_or, Option, IfSome}
 use Rattle.std.specs.List.{list_any, list_all}
 use Rattle.std.specs.Io.KnownBytes.{IsAtEnd}
-use Rattle.spec_file.specs.declared.geometry.Geometry.TheVariants.{Small}
 use Rattle.spec_file.specs.Image.{Image, page}
 use Rattle.spec_log.specs.declared.limits.TheConstants.{SHORT}
 use Rattle.spec_log.specs.declared.item.Record.{Record}
@@ -14,7 +13,6 @@ use Rattle.spec_script.specs.declared.reply.Reply.{Reply}
 use Rattle.spec_script.specs.declared.reply.Reply.TheVariants.{Report}
 use Rattle.spec_script.specs.Lines.{is_statement}
 use Rattle.spec_script.specs.Replies.{text_of}
-use Rattle.spec_plan.specs.ReplayForm.{IsReplayForm}
 use Rattle.spec_run.specs.Begun.{Setting}
 use Rattle.spec_run.specs.Entries.{Entry, items_of}
 use Rattle.spec_run.specs.Progress.{script_of}
@@ -27,7 +25,7 @@ use Rattle.spec_run.specs.Answers.{is_terminated}
 use Rattle.spec_run.specs.Schedules.{rest_from, turns_of}
 use Rattle.spec_run.specs.Openings.{setting_of}
 use Rattle.spec_start.specs.Sources.{AreTexts}
-use Rattle.spec_start.specs.Files.{AreAllPages}
+use Rattle.spec_start.specs.Files.{AreAllPages, IsRunImage}
 use Rattle.checkdb_top.specs.Answers.{ended}
 use Rattle.checkdb_top.specs.Printings.{is_some_error}
 use Rattle.checkdb_top.specs.Start.{IsEmptyLog, StopsStart}
@@ -63,14 +61,15 @@ AreAllTold run log replies = (s : ℕ) → IsSession run s → AreTold run.geome
 abbrev pub AreStatements : List (List Statement) → Type 0
 AreStatements scripts = IsTrue (list_all (list_all is_statement) scripts)
 
--- a whole history of the sessions whose scripts are the sources' texts, over the pages of the file and an
--- empty log, in the turns of the schedule and then of each session, rising, to its end, each check within its bound
+-- a whole history of the sessions whose scripts are the sources' texts, over the pages of the file, which passes its tests and
+-- has no clustered table, and an empty log, in the turns of the schedule and then of each session, rising, to its end, each check
+-- within its bound
 pub record IsRunOf (lefts : List (Option (List ℕ))) (file log : Option (List ℕ)) (run : Setting) (entries : List Entry) : Type 0 where
   pub turns : List (ℕ × ℕ)
   pub counts : List ℕ
   pub begins : run ≡ setting_of run.image run.scripts
   pub texts : AreTexts lefts turns run.scripts
-  pub form : IsReplayForm Small run.image
+  pub passes : IsRunImage run.image
   pub pages : IfSome file (AreAllPages run.image)
   pub empty : IfSome log IsEmptyLog
   pub rest : length counts ≡ length run.scripts

@@ -172,7 +172,6 @@ fn close_run<V: vol_dev::Volume, L: LogFile, K: vol_dev::Sink>(
     requires start { IsStart core.now.run }
     requires made { IsMade core.now.run core.now.entries }
     requires whole { IsWhole core.now.run core.now.entries }
-    requires few { length core.now.run.image ≤ 88 }
     requires sessions { length core.now.run.scripts ≤ 16 }
     requires file { IfSome (V.contents volume.old) (AreAllPages core.now.run.image) }
     ensures closes { IfOk result (Closes core.now.run core.now.entries (V.contents volume.old) (V.contents volume.new)

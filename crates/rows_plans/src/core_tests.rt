@@ -2,8 +2,8 @@
 ghost use Rattle.std.specs.Prelude.{◌≡◌, [], ◌∷◌, IfOk, length, map};
 ghost use Rattle.spec_start.specs.Sources.{AreProper, AreShort, AreTurnsOf};
 ghost use Rattle.spec_file.specs.Places.{HasShape};
-ghost use Rattle.spec_file.specs.declared.geometry.Geometry.TheVariants.{Small};
 ghost use Rattle.spec_log.specs.Cells.{HasWholePages};
+ghost use Rattle.spec_run.specs.Openings.{geometry_said};
 ghost use Rattle.spec_script.specs.declared.statement.Statement.TheVariants as words;
 
 use crate::made::{heap_page, iam_page, typed};
@@ -68,7 +68,7 @@ fn page_of(p: u32, heaps: bool) -> Page
 // A file of 16 pages with both heaps, or of zeros.
 fn file(alloc: Global, heaps: bool) -> Result<Frames, Fail>
     ensures whole { IfOk result HasWholePages }
-    ensures shape { IfOk result (λ frames. HasShape Small (length frames)) }
+    ensures shape { IfOk result (λ frames. HasShape (geometry_said frames) (length frames)) }
 {
     let mut frames = Frames::empty(alloc);
     for p in 0..16u32 {

@@ -1,8 +1,11 @@
-//! The worked rows of runs of sessions: their replies, log and file, and what stands after a fault or a refusal.
+//! The worked rows of runs of sessions: their replies, log and file, over which files they run, and what stands after a
+//! fault or a refusal.
 #![tactic(auto)]
 
 #[cfg(test)]
 mod close_tests;
+#[cfg(test)]
+mod file_tests;
 #[cfg(test)]
 mod refused_tests;
 #[cfg(test)]

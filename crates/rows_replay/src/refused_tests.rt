@@ -39,22 +39,9 @@ fn run(alloc: Global, file: Vec<u8>, refused: &Refused<'_>) -> Result<Ran, Fail>
 const COUNT: &[&str] = &["COUNT t\n"];
 
 // Byte 106 of page 0 is the geometry, bytes 104 and 105 the version, 108 to 111 the number of pages. The catalog's
-// entries stand from 96 of page 9 on, 40 bytes each: the id, at 4 the kind, at 5 the length of the name, at 6 the
+// 128 entries stand from 96 of page 9 on, 40 bytes each: the id, at 4 the kind, at 5 the length of the name, at 6 the
 // name, at 24 the first IAM page, at 28 the root.
 static REFUSALS: [Refused<'static>; 15] = [
-    // Two heaps, of which the second has IAM page 12.
-    Refused {
-        bytes: &[
-            (9, 136, &[2, 0, 0, 0, 1, 1, b'u']),
-            (9, 160, &[12]),
-            (12, 0, &[1, 10, 0, 0, 12, 0, 0, 0, 2]),
-            (1, 108, &[0x70]),
-        ],
-        log: "",
-        schedule: "",
-        scripts: COUNT,
-        status: Status::File(FileWhy::Later),
-    },
     // A clustered table whose root is page 10.
     Refused {
         bytes: &[(9, 100, &[2]), (9, 124, &[10])],
@@ -63,9 +50,16 @@ static REFUSALS: [Refused<'static>; 15] = [
         scripts: COUNT,
         status: Status::File(FileWhy::Later),
     },
-    // The standard geometry.
+    // The same in the standard geometry, and behind a heap in the last entry of the catalog.
     Refused {
-        bytes: &[(0, 106, &[1])],
+        bytes: &[(0, 106, &[1]), (9, 100, &[2]), (9, 124, &[10])],
+        log: "",
+        schedule: "",
+        scripts: COUNT,
+        status: Status::File(FileWhy::Later),
+    },
+    Refused {
+        bytes: &[(9, 5176, &[2, 0, 0, 0, 2, 1, b'u'])],
         log: "",
         schedule: "",
         scripts: COUNT,

@@ -14,7 +14,7 @@ write_run-requires-clause-may g c =
     let order = items_order c.items-items.result.now (items_of core.entries) c.items-items.ensures.items in
     may_write core.run core.entries c.items-items.result.now c.in_ok-close.close c.frames-2.result.now _ c.requires.opened c.frames-2.ensures order
     (close_of core.run core.entries c.items-items.result.now c.in_ok-close.close c.count.result c.frames.result.now c.requires.opened c.frames.ensures c.count.ensures c.in_ok-close.ensures)
-    c.requires.few c.requires.file
+    c.requires.start.shape c.requires.file
 
 pub returns-clause-closes : goal.returns-clause-closes
 returns-clause-closes g c =

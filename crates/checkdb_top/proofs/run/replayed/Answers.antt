@@ -3,6 +3,7 @@ use Rattle.std.specs.List.{list_all}
 use Rattle.std.proofs.lemmas.List.{length-map}
 use Rattle.spec_script.specs.Lines.{is_statement}
 use Rattle.spec_run.specs.Begun.{Setting}
+use Rattle.law_run.specs.Laws.{IsStart}
 use Rattle.spec_start.specs.Sources.{IsTurnOf}
 use Rattle.db_core.specs.States.{left_in}
 use Rattle.checkdb_top.proofs.Running.{at_place, passes_at}
@@ -27,6 +28,7 @@ returns c =
     made.1 ∙ ap (λ (r : Setting). length r.scripts) begun.0 in
     record {
       run = same ∙ begun.0;
+      start = subst IsStart (sym same) begun.3;
       counts = made.0;
       rest = size;
       left = left_in c.in_ok-core.core;

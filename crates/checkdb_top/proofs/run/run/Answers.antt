@@ -2,7 +2,7 @@ use Rattle.std.proofs.Common.{[], length, map}
 use Rattle.checkdb_top.specs.Runs.{Runs}
 use Rattle.pg_base.proofs.FaultLaws.{counts_then}
 use Rattle.db_core.proofs.TurnsLeft.{within_run}
-use Rattle.checkdb_top.proofs.Begun.{may_begin, starts, is_run}
+use Rattle.checkdb_top.proofs.Begun.{may_begin, is_run}
 use Rattle.checkdb_top.proofs.run.run.Goals as goal
 
 pub replayed-requires : goal.replayed-requires
@@ -24,8 +24,7 @@ pub returns-in-Ok-close_run-clause-log_faults : goal.returns-in-Ok-close_run-cla
 returns-in-Ok-close_run-clause-log_faults g c = counts_then _ _ _ _ _ c.in-Ok.ensures.log_faults c.in-Ok-close_run.ensures.log_faults
 
 pub close_run-requires-clause-start : goal.close_run-requires-clause-start
-close_run-requires-clause-start g c =
-    starts c.in-Ok.start c.in-Ok-replayed.core c.in-Ok-replayed.ensures c.in-Ok.ensures.begins.form c.in-Ok.ensures.begins.shape
+close_run-requires-clause-start g c = c.in-Ok-replayed.ensures.start
 
 pub close_run-requires-clause-made : goal.close_run-requires-clause-made
 close_run-requires-clause-made g c =

@@ -1,4 +1,4 @@
-use Rattle.std.proofs.Common.{◌∙◌, map, refl, rules}
+use Rattle.std.proofs.Common.{◌∙◌, map, refl}
 use Rattle.std.proofs.lemmas.List.{length-map}
 use Rattle.pg_base.proofs.FaultLaws.{counts_none, counts_as}
 use Rattle.vol_dev.proofs.FileReads.{reads_file_as}
@@ -54,8 +54,7 @@ returns-in-Ok-open_log-clause-begins g c =
       short = read.short;
       proper = read.proper;
       inside = read.inside;
-      form = opened.form;
-      shape = search rules;
+      passes = opened.run;
       pages = opened.told;
       empty = c.in-Ok-open_log.ensures.empty;
     }
@@ -70,7 +69,7 @@ pub returns-in-Err-open_log-clause-stops : goal.returns-in-Err-open_log-clause-s
 returns-in-Err-open_log-clause-stops g c =
     rw c.of_log.ensures (log_stop (map g.S.Source.left c.args.sources.now) (g.V.Volume.contents c.args.volume.now) (g.L.LogFile.contents c.args.log.now) c.in-Err-open_log.stop
     (_, _, c.in-Ok.ensures.texts)
-    (run_file c.in-Ok-open_file.frames (g.V.Volume.contents c.args.volume.now) c.in-Ok-open_file.ensures.form c.in-Ok-open_file.ensures.told) c.in-Err-open_log.ensures.fault)
+    (run_file c.in-Ok-open_file.frames (g.V.Volume.contents c.args.volume.now) c.in-Ok-open_file.ensures.run c.in-Ok-open_file.ensures.told) c.in-Err-open_log.ensures.fault)
 
 pub returns-in-Err-open_log-clause-source_fault : goal.returns-in-Err-open_log-clause-source_fault
 returns-in-Err-open_log-clause-source_fault g c = rw c.of_log.ensures (λ is. absurd (log_apart Source c.in-Err-open_log.stop (λ same. cc) is))

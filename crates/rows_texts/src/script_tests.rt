@@ -40,6 +40,8 @@ fn kind_of(statement: &Statement) -> u32 {
                 106
             }
         }
+        Statement::CreateHeap(table) => { if is_name(table, "t") { 107 } else { 108 } }
+        Statement::Drop(table) => { if is_name(table, "t") { 109 } else { 110 } }
         Statement::Check { workers } => u32::from(*workers),
         _ => 103,
     }
@@ -52,9 +54,9 @@ fn is_the_row(table: &Name, key: u64, payload: &Values<u8>) -> bool {
 
 // A script, and the kinds of its statements.
 static SCRIPT: &str =
-    "BEGIN\r\n\n-- a note\nINSERT t 0 'it is'\nDBCC CHECKDB\nDBCC CHECKDB WITH MAXDOP = 16\nCOUNT t_1\nSELECT t 18446744073709551615";
+    "BEGIN\r\n\n-- a note\nINSERT t 0 'it is'\nDBCC CHECKDB\nDBCC CHECKDB WITH MAXDOP = 16\nCOUNT t_1\nSELECT t 18446744073709551615\nCREATE HEAP t\nDROP t";
 
-static KINDS: [u32; 6] = [100, 101, 4, 16, 102, 105];
+static KINDS: [u32; 8] = [100, 101, 4, 16, 102, 105, 107, 109];
 
 fn expect_kinds(rt: &impl Abort, alloc: Global, text: &str, wanted: &[u32]) {
     let found = read_script(alloc, text.as_bytes()).expect(rt, "the script is right");
@@ -72,7 +74,7 @@ fn a_script_is_read_line_by_line(rt: HostRuntime) {
     expect_kinds(&rt, rt.alloc(), "", &[]);
 }
 
-static WRONG_SCRIPTS: [(&str, u32); 17] = [
+static WRONG_SCRIPTS: [(&str, u32); 26] = [
     ("BEGIN\nCOMMIT\nSELEC t 1\nCOUNT\n", 3),
     ("INSERT t 01 'a'", 1),
     ("INSERT t 18446744073709551616 'a'", 1),
@@ -87,6 +89,15 @@ static WRONG_SCRIPTS: [(&str, u32); 17] = [
     ("SELECT  t 1", 1),
     ("SELECT T 1", 1),
     ("SELECT t 18446744073709551616", 1),
+    ("CREATE t", 1),
+    ("CREATE HEAP", 1),
+    ("CREATE HEAP T", 1),
+    ("CREATE  HEAP t", 1),
+    ("CREATE HEAP t u", 1),
+    ("CREATE HEAP abcdefghijklmnopq", 1),
+    ("DROP", 1),
+    ("DROP HEAP t", 1),
+    ("DROP 1t", 1),
     ("BEGIN\r", 1),
     ("DBCC CHECKDB WITH MAXDOP = 0", 1),
     ("DBCC CHECKDB WITH MAXDOP = 17", 1),
@@ -149,13 +160,23 @@ fn print_count(rt: &impl Abort, alloc: Global, into: &mut Vec<u8>) {
     print_statement(&count, into).expect(rt, "memory");
 }
 
+fn print_tables(rt: &impl Abort, alloc: Global, into: &mut Vec<u8>) {
+    let create = Statement::CreateHeap(Name::copied(alloc, "abcdefghijklmnop").expect(
+        rt, "memory",
+    ));
+    print_statement(&create, into).expect(rt, "memory");
+    let drop = Statement::Drop(Name::copied(alloc, "t").expect(rt, "memory"));
+    print_statement(&drop, into).expect(rt, "memory");
+}
+
 static PRINTED: &str =
-    "ROLLBACK\nINSERT t 18446744073709551615 'a b'\nCOUNT v\nSELECT abcdefghijklmnop 18446744073709551615\nDBCC CHECKDB WITH MAXDOP = 4\n";
+    "ROLLBACK\nCREATE HEAP abcdefghijklmnop\nDROP t\nINSERT t 18446744073709551615 'a b'\nCOUNT v\nSELECT abcdefghijklmnop 18446744073709551615\nDBCC CHECKDB WITH MAXDOP = 4\n";
 
 #[test]
 fn a_statement_is_printed_with_its_end(rt: HostRuntime) {
     let mut text = Vec::new(rt.alloc());
     print_statement(&Statement::Rollback, &mut text).expect(&rt, "memory");
+    print_tables(&rt, rt.alloc(), &mut text);
     print_row(&rt, rt.alloc(), &mut text);
     print_count(&rt, rt.alloc(), &mut text);
     print_select(&rt, rt.alloc(), &mut text);

@@ -67,8 +67,8 @@ fn held(rt: &impl Abort, alloc: Global) -> Refusal {
     refusal
 }
 
-fn unknown(rt: &impl Abort, alloc: Global) -> Refusal {
-    let mut refusal = Refusal::plain(alloc, 208);
+fn of_t(rt: &impl Abort, alloc: Global, number: u16) -> Refusal {
+    let mut refusal = Refusal::plain(alloc, number);
     refusal.name = Name::copied(alloc, "t").expect(rt, "memory");
     refusal
 }
@@ -93,7 +93,18 @@ fn refusals_say_what_was_in_the_way(rt: HostRuntime) {
         held(&rt, rt.alloc()),
         "2.3 MSG 1222 EXTENT 2 TRAN 38\n",
     );
-    expect_refusal(&rt, rt.alloc(), unknown(&rt, rt.alloc()), "2.3 MSG 208 t\n");
+    expect_refusal(
+        &rt,
+        rt.alloc(),
+        of_t(&rt, rt.alloc(), 208),
+        "2.3 MSG 208 t\n",
+    );
+    expect_refusal(
+        &rt,
+        rt.alloc(),
+        of_t(&rt, rt.alloc(), 2714),
+        "2.3 MSG 2714 t\n",
+    );
     expect_refusal(&rt, rt.alloc(), twice(&rt, rt.alloc()), "2.3 MSG 2627 1\n");
     expect_refusal(
         &rt,
@@ -106,6 +117,12 @@ fn refusals_say_what_was_in_the_way(rt: HostRuntime) {
         rt.alloc(),
         Refusal::plain(rt.alloc(), 1105),
         "2.3 MSG 1105\n",
+    );
+    expect_refusal(
+        &rt,
+        rt.alloc(),
+        Refusal::plain(rt.alloc(), 60002),
+        "2.3 MSG 60002\n",
     );
 }
 

@@ -32,7 +32,7 @@ pub steps_of : (run : Setting) (log : List Record) (s : ℕ) (x : Record) → Is
     StepsTo run log s (work_of run s log) x
 steps_of run log s x start legal hs may =
     let right = legal_right run log start legal in
-    comes_steps run log s (progress_of run s log) start right.sound hs (right.doing s) x may
+    comes_steps run log s (progress_of run s log) start right.sound right.puts hs (right.doing s) x may
 
 -- its session moves on
 pub own_progress : (run : Setting) (log : List Record) (s : ℕ) (x : Record) → session_of log x ≡ s → progress_of run s (x ∷ log) ≡ moved (work_of run s log) x

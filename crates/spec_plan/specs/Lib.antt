@@ -3,4 +3,3 @@ pub mod Refusals
 pub mod Reading
 pub mod Rows
 pub mod Changes
-pub mod ReplayForm

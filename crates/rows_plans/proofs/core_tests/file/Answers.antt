@@ -1,4 +1,4 @@
-use Rattle.std.proofs.Common.{length, ◌∙◌}
+use Rattle.std.proofs.Common.{length, arith}
 use Rattle.spec_run.specs.Openings.{geometry_said}
 use Rattle.rows_plans.proofs.Sixteen.{sixteen}
 use Rattle.rows_plans.proofs.core_tests.file.Goals as goal

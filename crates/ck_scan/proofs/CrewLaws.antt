@@ -65,6 +65,20 @@ pub record AreHired {X : Type 0} (claims : ClaimsModel) (m : AllocMap) (readers 
   pub begun : (w : Worker X) → Contains us w → IsBegun claims m w.job
   pub readers_of : map reader_of us ≡ readers
 
+pub are_worked : {X : Type 0} (r : Ghosts X) (claims : ClaimsModel) (m : AllocMap) (us vs : List (Worker X)) (n k : ℕ) → n ≡ length us → k ≡ length vs → k ≡ n
+    → ((i : ℕ) (d : Worker X) → i < n → HasWorked r claims m (get_or us i d) (get_or vs i d)) → AreWorked r claims m us vs
+are_worked {X} r claims m us vs n k one two same each = record {
+  long = omega (arith, one, two, same);
+  each = λ i d low. each i d (omega (arith, low, one));
+}
+
+pub are_hired : {X : Type 0} (claims : ClaimsModel) (m : AllocMap) (readers : List X) (us : List (Worker X)) (jobs : List Job) → All (IsBegun claims m) jobs
+    → ((w : Worker X) → Contains us w → Contains jobs w.job) → map reader_of us ≡ readers → AreHired claims m readers us
+are_hired {X} claims m readers us jobs begun taken readers_of = record {
+  begun = λ w there. All-contains (IsBegun claims m) jobs w.job begun (taken w there);
+  readers_of = readers_of;
+}
+
 pub all_going : {X : Type 0} (r : Ghosts X) (claims : ClaimsModel) (m : AllocMap) (readers : List X) (us : List (Worker X)) → AreHired claims m readers us
     → All (λ x. r.pages x ≡ m.pages) readers → All (IsGoing r claims m) us
 all_going {X} r claims m readers us h pages = all_from (IsGoing r claims m) us (λ w there. record {

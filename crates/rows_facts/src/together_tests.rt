@@ -205,6 +205,7 @@ fn wait_for(number: &AtomicU64, wanted: u64) -> bool {
 }
 
 // Holds the worker that first reaches an extent until the four others have been reached.
+#[derive(Drop)]
 struct HoldsFirst {
     reached: AtomicU64,
     gave_up: AtomicU64,
@@ -235,6 +236,7 @@ fn a_worker_that_is_held_leaves_all_other_extents_to_others(rt: HostRuntime) -> 
 
 // Holds each worker but the third until that one has reached an extent with pages. Each of the others holds one of the
 // five extents meanwhile, and only extent 0 has none.
+#[derive(Drop)]
 struct HoldsOthers {
     reached: AtomicU64,
     gave_up: AtomicU64,

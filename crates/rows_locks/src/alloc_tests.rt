@@ -34,7 +34,12 @@ static GIVEN: [Given; 4] = [
         page: 8,
         changes: &[
             Change::Cell(1, 104, &[0], &[0x70]),
-            Change::Cell(8, 0, &[0, 0, 0, 0, 0, 0, 0, 0, 0], &[1, 10, 0, 0, 8, 0, 0, 0, 1]),
+            Change::Cell(
+                8,
+                0,
+                &[0, 0, 0, 0, 0, 0, 0, 0, 0],
+                &[1, 10, 0, 0, 8, 0, 0, 0, 1],
+            ),
         ],
         takes: &[
             Resource::Extent(ExtentNo(1)),
@@ -51,7 +56,12 @@ static GIVEN: [Given; 4] = [
             Change::Bit(2, 2, 1, 0),
             Change::Bit(3, 2, 0, 1),
             Change::Cell(1, 112, &[0], &[0x70]),
-            Change::Cell(16, 0, &[0, 0, 0, 0, 0, 0, 0, 0, 0], &[1, 10, 0, 0, 16, 0, 0, 0, 1]),
+            Change::Cell(
+                16,
+                0,
+                &[0, 0, 0, 0, 0, 0, 0, 0, 0],
+                &[1, 10, 0, 0, 16, 0, 0, 0, 1],
+            ),
         ],
         takes: &[
             Resource::Extent(ExtentNo(2)),
@@ -66,7 +76,12 @@ static GIVEN: [Given; 4] = [
         page: 10,
         changes: &[
             Change::Cell(1, 106, &[0], &[0x70]),
-            Change::Cell(10, 0, &[0, 0, 0, 0, 0, 0, 0, 0, 0], &[1, 10, 0, 0, 10, 0, 0, 0, 1]),
+            Change::Cell(
+                10,
+                0,
+                &[0, 0, 0, 0, 0, 0, 0, 0, 0],
+                &[1, 10, 0, 0, 10, 0, 0, 0, 1],
+            ),
         ],
         takes: &[
             Resource::Extent(ExtentNo(1)),
@@ -89,7 +104,12 @@ static GIVEN: [Given; 4] = [
         changes: &[
             Change::Bit(3, 1, 1, 0),
             Change::Cell(1, 111, &[0], &[0x70]),
-            Change::Cell(15, 0, &[0, 0, 0, 0, 0, 0, 0, 0, 0], &[1, 10, 0, 0, 15, 0, 0, 0, 1]),
+            Change::Cell(
+                15,
+                0,
+                &[0, 0, 0, 0, 0, 0, 0, 0, 0],
+                &[1, 10, 0, 0, 15, 0, 0, 0, 1],
+            ),
         ],
         takes: &[
             Resource::Extent(ExtentNo(1)),
@@ -127,10 +147,7 @@ static REFUSED: [Refused; 8] = [
     Refused {
         name: "the lowest extent that is held is told",
         parts: &[&[Bytes(2, 96, &[0])]],
-        held: &[
-            Resource::Extent(ExtentNo(2)),
-            Resource::Extent(ExtentNo(1)),
-        ],
+        held: &[Resource::Extent(ExtentNo(2)), Resource::Extent(ExtentNo(1))],
         stop: AllocStop::Page(PageStop::Held {
             resource: Resource::Extent(ExtentNo(1)),
             by: Tran(2),
@@ -185,20 +202,11 @@ fn view_of(alloc: Global, pages: Vec<Page>, held: &[Resource]) -> Result<MemView
     if pages.len() != 24 {
         return Err(Fail::from("24 pages"));
     }
-    Ok(MemView::begin(
-        alloc,
-        Geometry::Small,
-        1,
-        pages,
-        locks_on(alloc, held)?,
-    )?)
+    Ok(MemView::begin(alloc, Geometry::Small, 1, pages, locks_on(alloc, held)?)?)
 }
 
 // Object 1 gets its page.
-fn chain_of_one<P: PlanPages>(
-    alloc: Global,
-    v: &mut P,
-) -> Result<Result<PageNo, AllocStop>, Fail>
+fn chain_of_one<P: PlanPages>(alloc: Global, v: &mut P) -> Result<Result<PageNo, AllocStop>, Fail>
     requires geometry { (P.state v.old).view.shape.geometry ≡ Small }
     requires pages { (P.state v.old).view.shape.pages ≡ 24 }
     ensures { IfOk result (λ done. (P.state v.new).view.shape ≡ (P.state v.old).view.shape) }

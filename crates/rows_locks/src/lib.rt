@@ -22,6 +22,8 @@ mod plan_tests;
 #[cfg(test)]
 mod select_tests;
 #[cfg(test)]
+mod table_limits;
+#[cfg(test)]
 mod table_refusals;
 #[cfg(test)]
 mod table_tests;

@@ -20,10 +20,23 @@ struct Case {
     name: &'static str,
     parts: &'static [&'static [Piece]],
     held: &'static [Resource],
-    due: Due,
+    wanted: Wanted,
 }
 
-const fn plain(number: u16) -> Due {
+// What a statement is refused by.
+#[derive(Clone, Copy)]
+enum Wanted {
+    /// A number alone.
+    Plain(u16),
+    /// A number, with the name t.
+    OfT(u16),
+    /// 824 at a page.
+    Bad(u32),
+    /// 1222 on what transaction 2 holds.
+    Held(Resource),
+}
+
+fn plain(number: u16) -> Due {
     Due {
         number,
         name: "",
@@ -33,33 +46,19 @@ const fn plain(number: u16) -> Due {
     }
 }
 
-const fn of_t(number: u16) -> Due {
-    Due {
-        number,
-        name: "t",
-        page: 0,
-        resource: None,
-        by: 0,
-    }
-}
-
-const fn bad(page: u32) -> Due {
-    Due {
-        number: 824,
-        name: "",
-        page,
-        resource: None,
-        by: 0,
-    }
-}
-
-const fn held(resource: Resource) -> Due {
-    Due {
-        number: 1222,
-        name: "",
-        page: 0,
-        resource: Some(resource),
-        by: 2,
+fn due(wanted: Wanted) -> Due {
+    match wanted {
+        Wanted::Plain(number) => plain(number),
+        Wanted::OfT(number) => Due {
+            name: "t",
+            ..plain(number)
+        },
+        Wanted::Bad(page) => Due { page, ..plain(824) },
+        Wanted::Held(resource) => Due {
+            resource: Some(resource),
+            by: 2,
+            ..plain(1222)
+        },
     }
 }
 
@@ -75,43 +74,43 @@ static CREATE_REFUSED: [Case; 9] = [
         name: "the catalog is held",
         parts: &[&[T, BAD_BOOT, BAD_GAM]],
         held: &[Resource::Catalog, Resource::Table(ObjId(1))],
-        due: held(Resource::Catalog),
+        wanted: Wanted::Held(Resource::Catalog),
     },
     Case {
         name: "page 9 is bad",
         parts: &[&[T, BAD_BOOT, BAD_GAM]],
         held: &[Resource::Table(ObjId(1)), Resource::Table(ObjId(2))],
-        due: bad(9),
+        wanted: Wanted::Bad(9),
     },
     Case {
         name: "the name is there",
         parts: &[&[T, BAD_GAM]],
         held: &[Resource::Table(ObjId(1)), Resource::Table(ObjId(2))],
-        due: of_t(2714),
+        wanted: Wanted::OfT(2714),
     },
     Case {
         name: "the new table is held",
         parts: &[&[BAD_GAM]],
         held: &[Resource::Table(ObjId(1))],
-        due: held(Resource::Table(ObjId(1))),
+        wanted: Wanted::Held(Resource::Table(ObjId(1))),
     },
     Case {
         name: "a bad GAM page",
         parts: &[&[BAD_GAM]],
         held: &[],
-        due: bad(2),
+        wanted: Wanted::Bad(2),
     },
     Case {
         name: "both extents are held",
         parts: &[],
         held: &[Resource::Extent(ExtentNo(2)), Resource::Extent(ExtentNo(1))],
-        due: held(Resource::Extent(ExtentNo(1))),
+        wanted: Wanted::Held(Resource::Extent(ExtentNo(1))),
     },
     Case {
         name: "the page is held",
         parts: &[],
         held: &[Resource::Page(PageNo(8))],
-        due: held(Resource::Page(PageNo(8))),
+        wanted: Wanted::Held(Resource::Page(PageNo(8))),
     },
     Case {
         name: "all free bytes are held",
@@ -120,13 +119,13 @@ static CREATE_REFUSED: [Case; 9] = [
             Bytes(1, 104, &[0, 0x64, 0x60, 0x60, 0x60, 0x60, 0x60, 0x60]),
         ]],
         held: &[Resource::Byte(PageNo(8))],
-        due: plain(1105),
+        wanted: Wanted::Plain(1105),
     },
     Case {
         name: "no extent is mixed or free",
         parts: &[&[Bytes(2, 96, &[0]), Bytes(3, 96, &[0])]],
         held: &[],
-        due: plain(1105),
+        wanted: Wanted::Plain(1105),
     },
 ];
 
@@ -135,73 +134,73 @@ static DROP_REFUSED: [Case; 12] = [
         name: "the catalog is held",
         parts: &[HEAP, &[BAD_BOOT]],
         held: &[Resource::Catalog],
-        due: held(Resource::Catalog),
+        wanted: Wanted::Held(Resource::Catalog),
     },
     Case {
         name: "page 9 is bad",
         parts: &[HEAP, &[BAD_BOOT]],
         held: &[Resource::Table(ObjId(1))],
-        due: bad(9),
+        wanted: Wanted::Bad(9),
     },
     Case {
         name: "no table of this name",
         parts: &[&[Heap(1, b'u', 8)]],
         held: &[Resource::Table(ObjId(1))],
-        due: of_t(208),
+        wanted: Wanted::OfT(208),
     },
     Case {
         name: "the table is held",
         parts: &[HEAP],
         held: &[Resource::Table(ObjId(1)), Resource::Page(PageNo(8))],
-        due: held(Resource::Table(ObjId(1))),
+        wanted: Wanted::Held(Resource::Table(ObjId(1))),
     },
     Case {
         name: "the IAM page is held",
         parts: &[HEAP],
         held: &[Resource::Page(PageNo(8)), Resource::Byte(PageNo(10))],
-        due: held(Resource::Page(PageNo(8))),
+        wanted: Wanted::Held(Resource::Page(PageNo(8))),
     },
     Case {
         name: "the IAM page is another object's",
         parts: &[HEAP, &[Bytes(8, 8, &[2])]],
         held: &[Resource::Byte(PageNo(10))],
-        due: bad(8),
+        wanted: Wanted::Bad(8),
     },
     Case {
         name: "the byte of a page is held",
         parts: &[HEAP, &[Slots(8, &[10, 3])]],
         held: &[Resource::Byte(PageNo(17)), Resource::Extent(ExtentNo(1))],
-        due: held(Resource::Byte(PageNo(17))),
+        wanted: Wanted::Held(Resource::Byte(PageNo(17))),
     },
     Case {
         name: "a slot holds the SGAM page",
         parts: &[HEAP, &[Slots(8, &[10, 3]), BAD_GAM]],
         held: &[Resource::Extent(ExtentNo(1))],
-        due: bad(3),
+        wanted: Wanted::Bad(3),
     },
     Case {
         name: "the extent of a page is held",
         parts: &[HEAP, &[BAD_GAM]],
         held: &[Resource::Extent(ExtentNo(1))],
-        due: held(Resource::Extent(ExtentNo(1))),
+        wanted: Wanted::Held(Resource::Extent(ExtentNo(1))),
     },
     Case {
         name: "a bad GAM page",
         parts: &[HEAP, &[BAD_GAM]],
         held: &[],
-        due: bad(2),
+        wanted: Wanted::Bad(2),
     },
     Case {
         name: "the marked extent is held",
         parts: &[HEAP],
         held: &[Resource::Extent(ExtentNo(2))],
-        due: held(Resource::Extent(ExtentNo(2))),
+        wanted: Wanted::Held(Resource::Extent(ExtentNo(2))),
     },
     Case {
         name: "the byte of the IAM page is held",
         parts: &[HEAP],
         held: &[Resource::Byte(PageNo(8))],
-        due: held(Resource::Byte(PageNo(8))),
+        wanted: Wanted::Held(Resource::Byte(PageNo(8))),
     },
 ];
 
@@ -216,7 +215,7 @@ fn expect_refused(
 {
     let pages = pages_of(alloc, case.parts)?;
     let found = planned_over(alloc, geometry, statement, pages, case.held, NOTHING)?;
-    if !is_due(&found, &case.due) {
+    if !is_due(&found, &due(case.wanted)) {
         return Err(Fail::from(case.name));
     }
     Ok(())

@@ -5,3 +5,4 @@ pub mod ObjectKeeps
 pub mod ObjectTakes
 pub mod Statements
 pub mod Replies
+pub mod Computed

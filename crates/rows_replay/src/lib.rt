@@ -10,3 +10,5 @@ mod file_tests;
 mod refused_tests;
 #[cfg(test)]
 mod session_tests;
+#[cfg(test)]
+mod table_tests;

@@ -1,5 +1,5 @@
 -- What was seen of page 9, and steps that stop.
-use Rattle.std.proofs.Common.{◌≡◌, ℕ, Bool, true, false, IsTrue, List, [], ◌∷◌, ◌++◌, Contains, Option, Some, None, Ok, Err, sym, ap, ◌∙◌, subst}
+use Rattle.std.proofs.Common.{◌≡◌, ℕ, Bool, true, false, IsTrue, List, [], ◌∷◌, ◌++◌, Contains, Option, Some, None, Ok, sym, ap, ◌∙◌}
 use Rattle.std.proofs.lemmas.Bool.{false≢true}
 use Rattle.std.proofs.lemmas.List.Elements.{Contains-append_left, Contains-push}
 use Rattle.spec_file.specs.declared.data.Resource.{Resource}
@@ -10,8 +10,7 @@ use Rattle.spec_words.specs.Views.{View, End, Gives, Stops, Outcome, Plan}
 use Rattle.spec_words.specs.Words.{ended, gone_on, by_holder, ◌then◌, look}
 use Rattle.spec_words.specs.Tables.{table_of}
 use Rattle.db_locks.specs.States.{PlanState}
-use Rattle.db_locks.specs.Does.{Stop, WasShort, MayStop, HasCause, Does, DoesAs}
-use Rattle.db_locks.proofs.PlanLaws.{stays_same}
+use Rattle.db_locks.specs.Does.{Does, DoesAs}
 use Rattle.db_alloc.specs.Results.{find_stop}
 
 given : List ℕ → End (List ℕ) → List ℕ
@@ -49,14 +48,6 @@ boot_reached {a} {b} bytes d told = look_reached resource.Catalog 9 a.view b.vie
 pub boot_seen : {a b : PlanState} (bytes : List ℕ) → Does a b (look resource.Catalog 9) (Ok bytes) → b.view ≡ a.view → IsTrue b.told → bytes ≡ page b.view.now 9
 boot_seen {a} {b} bytes d same told =
     look_gave resource.Catalog 9 a.view b.view bytes (d.exact (sym d.stays.told ∙ told)) ∙ ap (λ (v : View). page v.now 9) (sym same)
-
--- memory may be short anywhere
-pub short_here : {A E : Type 0} {meaning : E → Stop} (looked : List ℕ) (a : PlanState) (plan : Plan A) (e : E) → meaning e ≡ WasShort → DoesAs meaning looked a a plan (Err e)
-short_here looked a plan e means = record {
-  exact = λ told. subst (λ (s : Stop). MayStop looked (plan a.view) s) (sym means) tt;
-  stays = stays_same a;
-  cause = subst (λ (s : Stop). HasCause a a s) (sym means) tt;
-}
 
 -- what was reached early is reached still
 pub earlier : (looked more most : List ℕ) → Contains looked 9 → Contains ((looked ++ more) ++ most) 9

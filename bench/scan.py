@@ -1,13 +1,13 @@
 #!/usr/bin/env python3
 """Times the parallel scan of a large file beside `cat` and `checkdb check` of the same file, all from the page cache and
-one right behind the other: the sound file of `large.py`, with 1, 2 and 4 workers.
+one right behind the other: the sound file of `large.py`, with 1, 2 and 4 workers, and with one reader without threads,
+which is what `check` does.
 
     bench/scan.py [PAGES ..]     files of so many pages; 131,072 (1 GiB) and 524,288 (4 GiB) where none is named
 
-For each file it prints how many processors there are, the seconds of `cat`, and for `check` and each number of workers
-the seconds, their ratio to `cat`, and the most memory that was held. The yardstick on four idle processors: with 4
-workers at most 0.8 of the time of `cat`, with 1 at most 1.1 of that of `check`; and never more than twice the memory of
-1 worker.
+For each file it prints how many processors there are, the seconds of `cat`, and of each check the seconds, their ratio
+to `cat`, and the most memory that was held. The yardstick on four idle processors: with 4 workers at most 0.8 of the
+time of `cat`, with 1 at most 1.1 of that of `check`; and never more than twice the memory of 1 worker.
 """
 import os
 import subprocess
@@ -17,7 +17,7 @@ import tempfile
 from large import PROGRAM, TOP, cat_seconds, timed, write_file
 
 SCAN = os.path.join(TOP, "crates", "scan_bench", "out", "scan_bench")
-WORKERS = [1, 2, 4]
+WORKERS = {0: "one reader", 1: "1 worker", 2: "2 workers", 4: "4 workers"}
 ROUNDS = 5
 
 
@@ -33,8 +33,8 @@ def measure(path, pages):
     write_file(path, pages, "sound")
     cat_seconds(path)
     kinds = {"check": ([PROGRAM, "check", path], "Msg 8989: ")}
-    for workers in WORKERS:
-        kinds[f"{workers} workers"] = ([SCAN, path, str(workers)], "0 errors")
+    for workers, what in WORKERS.items():
+        kinds[what] = ([SCAN, path, str(workers)], "0 errors")
     cats, times = [], {what: [] for what in kinds}
     for _ in range(ROUNDS):
         cats.append(cat_seconds(path))

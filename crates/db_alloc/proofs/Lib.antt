@@ -20,3 +20,4 @@ pub mod Reaches
 pub mod OwnedSteps
 pub mod DropSteps
 pub mod LastSteps
+pub mod NearPages

@@ -5,3 +5,4 @@ pub mod Maps
 pub mod Searches
 pub mod Drops
 pub mod Objects
+pub mod Near

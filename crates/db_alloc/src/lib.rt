@@ -11,6 +11,7 @@ mod list;
 mod look;
 mod maps;
 mod marks;
+mod near;
 mod object;
 mod owned;
 mod pages;

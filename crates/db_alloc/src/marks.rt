@@ -11,6 +11,7 @@ use crate::Table;
 use crate::chain::Chain;
 use crate::iam::slots_of;
 use crate::list::{has_page, push_if};
+use crate::near::pages_near;
 use arrayvec::ArrayVec;
 use db_locks::PageStop;
 use pg_base::{Geometry, MAPS_START, Page, PageNo, u32_at};
@@ -71,6 +72,26 @@ fn has_byte(g: Geometry, slots: &[PageNo], iams: &[Box<Page>], p: PageNo) -> boo
     is_single(slots, p) || is_marked(g, iams, p)
 }
 
+// Those of these pages whose PFS bytes are read.
+fn with_bytes(
+    alloc: Global,
+    g: Geometry,
+    slots: &[PageNo],
+    iams: &[Box<Page>],
+    near: &[u32],
+) -> Result<Vec<PageNo>, PageStop>
+    requires { numbers slots.now ≡ spec.first_slots (bytes_of iams.now) }
+    ensures pages { IfOk result (λ pages. numbers pages.items ≡ filter (spec.has_byte g (bytes_of iams.now)) near.now) }
+    ensures short { IfErr result (λ e. e ≡ stop.NoMemory) }
+{
+    let mut pages = Vec::new(alloc);
+    for p in near {
+        let yes = has_byte(g, slots, iams, PageNo(*p));
+        push_if(&mut pages, PageNo(*p), yes)?;
+    }
+    Ok(pages)
+}
+
 /// The pages of the file whose PFS bytes are read, rising.
 pub(crate) fn byte_pages(
     alloc: Global,
@@ -83,10 +104,6 @@ pub(crate) fn byte_pages(
     ensures short { IfErr result (λ e. e ≡ stop.NoMemory) }
 {
     let slots = chain_slots(chain);
-    let mut pages = Vec::new(alloc);
-    for p in 0..table.pages {
-        let yes = has_byte(table.geometry, &slots, &chain.pages, PageNo(p));
-        push_if(&mut pages, PageNo(p), yes)?;
-    }
-    Ok(pages)
+    let near = pages_near(alloc, table, &slots, &chain.pages)?;
+    with_bytes(alloc, table.geometry, &slots, &chain.pages, &near)
 }

@@ -92,4 +92,5 @@ def main():
         compare(folder, kept, 2300, 4600, "on one page after another, kept")
 
 
-main()
+if __name__ == "__main__":
+    main()

@@ -11,10 +11,6 @@ use Rattle.spec_script.specs.declared.statement.Statement.{Statement}
 use Rattle.spec_plan.specs.declared.plan.Planned.{Planned}
 use Rattle.spec_plan.specs.Planned.{planned_size}
 use Rattle.spec_plan.specs.Refusals.{log_full}
-use Rattle.spec_script.specs.declared.statement.Statement.TheVariants as statement
-use Rattle.spec_words.specs.NetChanges.{FileShape}
-use Rattle.spec_words.specs.Heaps.{insert_plan, count_plan, select_plan}
-use Rattle.spec_statements.specs.Objects.{create_plan, drop_plan}
 use Rattle.spec_statements.specs.Statements.{Plans, kind_of}
 use Rattle.spec_words.specs.Takes.{changes_at, takes_at}
 use Rattle.spec_words.specs.Views.{View, End, Gives, Stops, Outcome}
@@ -22,14 +18,14 @@ use Rattle.spec_words.specs.Views.{Plan as Words}
 use Rattle.spec_run.specs.Shapes.{Reading, Writing, tran_to_write}
 use Rattle.spec_run.specs.Begun.{Becoming, shape_of, view_at, with_memory, refused, by_changes, by_taken, by_end, by_kind}
 use Rattle.law_statements.specs.Statements.{IsNumbered, IfStops}
-use Rattle.law_statements.proofs.StatementEnds.{statements_are_numbered}
 use Rattle.pg_base.specs.Faults.{Rose}
 use Rattle.db_locks.specs.States.{PlanState}
 use Rattle.db_plan.specs.declared.planned.Plan.{Plan}
 use Rattle.db_plan.specs.declared.planned.Plan.TheVariants as plan
 use Rattle.db_plan.specs.declared.planned.PlanAt.{PlanAt}
 use Rattle.db_plan.specs.Limits.{passes}
-use Rattle.db_plan.specs.Plans.{IsEndAs, EndsAbove, MayRefuse, Stopped, Passed, Failed, Short, MayPlan, HasCauses, IsPlannedAs, is_planned}
+use Rattle.db_plan.specs.Plans.{IsEndAs, EndsAbove, MayRefuse, Stopped, Passed, Failed, Short, MayPlan, HasCauses, IsPlannedAs}
+use Rattle.db_plan.specs.Parts.{StopsNumbered}
 use Rattle.db_core.specs.declared.session.Doing.TheVariants.{Idle}
 use Rattle.db_core.specs.declared.session.Session.{Session}
 use Rattle.db_core.specs.declared.state.State.{State}
@@ -37,10 +33,6 @@ use Rattle.db_core.specs.States.{whole_log}
 use Rattle.db_core.specs.Store.{run_is, log_of, IsGood}
 use Rattle.db_core.specs.Plans.{HasSums, IsByPlan, IsWithinIfPlanned, IsPlanned}
 use Rattle.db_core.proofs.PlanSteps.{used_is, passes_is}
-
--- whatever its view, the plan is refused by a number of its own
-abbrev pub StopsNumbered : Words Reply → Type 0
-StopsNumbered words = (view : View) → IfStops IsNumbered (words view).ending
 
 -- the sums of a log
 record Sums (g : List Record) (u : ℕ) (at : PlanAt) : Type 0 where
@@ -149,17 +141,3 @@ planned st k x s words at old new result good here idle next kind numbered sums 
       within = subst (λ u. IsWithinIfPlanned u st.all st.size result) sums.used (subst (λ a. IsWithinIfPlanned at.used_changes a st.size result) sums.all_is
           (subst (λ z. IsWithinIfPlanned at.used_changes at.announced_changes z result) sums.size_is (within_by at outcome result may)));
     }
-
--- the words of a statement that is planned
-pub record HasWords (shape : FileShape) (s : Statement) : Type 0 where
-  pub words : Words Reply
-  pub kind : kind_of shape s ≡ Plans words
-  pub numbered : StopsNumbered words
-
-pub planned_words : (shape : FileShape) (s : Statement) → is_planned s ≡ true → HasWords shape s
-planned_words shape (statement.CreateHeap table) h = record { words = create_plan shape table; kind = refl; numbered = statements_are_numbered shape (statement.CreateHeap table) }
-planned_words shape (statement.Drop table) h = record { words = drop_plan shape table; kind = refl; numbered = statements_are_numbered shape (statement.Drop table) }
-planned_words shape (statement.Insert table key payload) h = record { words = insert_plan shape table key payload; kind = refl; numbered = statements_are_numbered shape (statement.Insert table key payload) }
-planned_words shape (statement.Count table) h = record { words = count_plan shape table; kind = refl; numbered = statements_are_numbered shape (statement.Count table) }
-planned_words shape (statement.Select table key) h = record { words = select_plan shape table key; kind = refl; numbered = statements_are_numbered shape (statement.Select table key) }
-planned_words shape other h = absurd (cc)

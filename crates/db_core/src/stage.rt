@@ -5,6 +5,7 @@ ghost use Rattle.db_core.specs.Stages.{IsStage, IsStageOf};
 
 use crate::session::{Doing, Session};
 use crate::starts::Word;
+use db_plan::{Part, part_of};
 use spec_script::Statement;
 
 /// What a session's next turn does.
@@ -51,15 +52,11 @@ fn statement_stage(statement: Option<&Statement>) -> Stage
 fn stage_by(statement: &Statement) -> Stage
     ensures { IsStageOf (Some statement.now) result }
 {
-    match statement {
-        Statement::Begin => Stage::Word(Word::Begin),
-        Statement::Commit => Stage::Word(Word::Commit),
-        Statement::Rollback => Stage::Word(Word::Rollback),
-        Statement::Check { .. } => Stage::Check,
-        Statement::CreateHeap(_) => Stage::Planned,
-        Statement::Drop(_) => Stage::Planned,
-        Statement::Insert { .. } => Stage::Planned,
-        Statement::Count(_) => Stage::Planned,
-        Statement::Select { .. } => Stage::Planned,
+    match part_of(statement) {
+        Part::Begin => Stage::Word(Word::Begin),
+        Part::Commit => Stage::Word(Word::Commit),
+        Part::Rollback => Stage::Word(Word::Rollback),
+        Part::Check => Stage::Check,
+        Part::Planned => Stage::Planned,
     }
 }

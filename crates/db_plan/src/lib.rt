@@ -3,10 +3,12 @@
 #![tactic(auto)]
 
 mod limits;
+mod part;
 mod planned;
 mod refusals;
 mod statements;
 
 pub use limits::planned_bytes;
+pub use part::{Part, part_of};
 pub use planned::{Plan, PlanAt};
 pub use statements::plan;

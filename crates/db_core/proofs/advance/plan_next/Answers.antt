@@ -11,7 +11,8 @@ use Rattle.db_core.specs.StatementViews.{state_of}
 use Rattle.db_core.specs.Views.{tran_of_session}
 use Rattle.db_core.proofs.Good.{get_at, get_same}
 use Rattle.db_core.proofs.Advances.{next_is, proper_next}
-use Rattle.db_core.proofs.Planned.{planned_words, planned}
+use Rattle.db_core.proofs.Planned.{planned}
+use Rattle.db_plan.proofs.PlannedWords.{planned_words}
 use Rattle.db_core.proofs.advance.plan_next.Goals as goal
 
 pub plan-requires-clause-geometry : goal.plan-requires-clause-geometry

@@ -1,18 +1,20 @@
-use Rattle.std.proofs.Common.{refl, ap}
-use Rattle.db_plan.specs.Plans.{is_planned}
+use Rattle.std.proofs.Common.{Some, refl, ap, subst}
+use Rattle.db_plan.specs.Parts.{IsPartOf}
 use Rattle.db_core.proofs.stage.stage_by.Goals as goal
 
-pub returns-in-Insert : goal.returns-in-Insert
-returns-in-Insert c = (c.args.statement.now, refl, ap is_planned c.in-Insert.is)
+pub returns-in-Begin : goal.returns-in-Begin
+returns-in-Begin c = ap Some (subst (IsPartOf c.args.statement.now) c.in-Begin.is c.part_of.ensures)
 
-pub returns-in-Count : goal.returns-in-Count
-returns-in-Count c = (c.args.statement.now, refl, ap is_planned c.in-Count.is)
+pub returns-in-Commit : goal.returns-in-Commit
+returns-in-Commit c = ap Some (subst (IsPartOf c.args.statement.now) c.in-Commit.is c.part_of.ensures)
 
-pub returns-in-Select : goal.returns-in-Select
-returns-in-Select c = (c.args.statement.now, refl, ap is_planned c.in-Select.is)
+pub returns-in-Rollback : goal.returns-in-Rollback
+returns-in-Rollback c = ap Some (subst (IsPartOf c.args.statement.now) c.in-Rollback.is c.part_of.ensures)
 
-pub returns-in-CreateHeap : goal.returns-in-CreateHeap
-returns-in-CreateHeap c = (c.args.statement.now, refl, ap is_planned c.in-CreateHeap.is)
+pub returns-in-Check : goal.returns-in-Check
+returns-in-Check c =
+    let is = subst (IsPartOf c.args.statement.now) c.in-Check.is c.part_of.ensures in
+    (is.0, ap Some is.1)
 
-pub returns-in-Drop : goal.returns-in-Drop
-returns-in-Drop c = (c.args.statement.now, refl, ap is_planned c.in-Drop.is)
+pub returns-in-Planned : goal.returns-in-Planned
+returns-in-Planned c = (c.args.statement.now, refl, subst (IsPartOf c.args.statement.now) c.in-Planned.is c.part_of.ensures)

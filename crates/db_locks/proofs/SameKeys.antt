@@ -1,41 +1,12 @@
 -- Two keys are the same exactly where grain and number are, and so the resources are.
-use Rattle.std.proofs.Common.{◌≡◌, ◌≢◌, ◌==◌, Bool, true, false, refl, sym, ap, ◌∙◌, arith, Result, Ok, Err, IsOk, OnOk}
+use Rattle.std.proofs.Common.{◌≡◌, ◌≢◌, ◌==◌, Bool, true, false, refl, sym, ap, ◌∙◌, Result, Ok, Err, IsOk, OnOk}
 use Rattle.std.specs.Cmp.{IsEquivalence, decided}
 use Rattle.std.proofs.lemmas.Bool.{and_parts, and_from, eqb-true, eq-eqb, both_ways}
 use Rattle.std.specs.Bool.{Decides}
 use Rattle.spec_file.specs.declared.data.Resource.{Resource}
-use Rattle.spec_file.specs.declared.data.Resource.TheVariants as resource
-use Rattle.spec_log.specs.Items.{grain_of, number_of}
+use Rattle.law_net.proofs.Takes.{same_resource}
 use Rattle.db_locks.specs.declared.key.ResourceKey.{ResourceKey}
 use Rattle.db_locks.specs.Keys.{key_of, is_same_key}
-
--- grain and number make the resource
-same_resource : (r s : Resource) → grain_of r ≡ grain_of s → number_of r ≡ number_of s → r ≡ s
-same_resource resource.Catalog resource.Catalog e n = refl
-same_resource (resource.Table o) (resource.Table q) e n = ap (λ k. resource.Table (record { 0 = k })) n
-same_resource (resource.Extent o) (resource.Extent q) e n = ap (λ k. resource.Extent (record { 0 = k })) n
-same_resource (resource.Byte o) (resource.Byte q) e n = ap (λ k. resource.Byte (record { 0 = k })) n
-same_resource (resource.Page o) (resource.Page q) e n = ap (λ k. resource.Page (record { 0 = k })) n
-same_resource resource.Catalog (resource.Table q) e n = absurd (omega (arith, e))
-same_resource resource.Catalog (resource.Extent q) e n = absurd (omega (arith, e))
-same_resource resource.Catalog (resource.Byte q) e n = absurd (omega (arith, e))
-same_resource resource.Catalog (resource.Page q) e n = absurd (omega (arith, e))
-same_resource (resource.Table o) resource.Catalog e n = absurd (omega (arith, e))
-same_resource (resource.Table o) (resource.Extent q) e n = absurd (omega (arith, e))
-same_resource (resource.Table o) (resource.Byte q) e n = absurd (omega (arith, e))
-same_resource (resource.Table o) (resource.Page q) e n = absurd (omega (arith, e))
-same_resource (resource.Extent o) resource.Catalog e n = absurd (omega (arith, e))
-same_resource (resource.Extent o) (resource.Table q) e n = absurd (omega (arith, e))
-same_resource (resource.Extent o) (resource.Byte q) e n = absurd (omega (arith, e))
-same_resource (resource.Extent o) (resource.Page q) e n = absurd (omega (arith, e))
-same_resource (resource.Byte o) resource.Catalog e n = absurd (omega (arith, e))
-same_resource (resource.Byte o) (resource.Table q) e n = absurd (omega (arith, e))
-same_resource (resource.Byte o) (resource.Extent q) e n = absurd (omega (arith, e))
-same_resource (resource.Byte o) (resource.Page q) e n = absurd (omega (arith, e))
-same_resource (resource.Page o) resource.Catalog e n = absurd (omega (arith, e))
-same_resource (resource.Page o) (resource.Table q) e n = absurd (omega (arith, e))
-same_resource (resource.Page o) (resource.Extent q) e n = absurd (omega (arith, e))
-same_resource (resource.Page o) (resource.Byte q) e n = absurd (omega (arith, e))
 
 key_parts : (a b : ResourceKey) → is_same_key a b ≡ true → (a.grain ≡ b.grain) × (a.number ≡ b.number)
 key_parts a b h =
@@ -60,7 +31,7 @@ other_key r other ne = by_test (is_same_key (key_of r) (key_of other)) refl
   where
     by_test : (b : Bool) → is_same_key (key_of r) (key_of other) ≡ b → b ≡ false
     by_test false e = refl
-    by_test true e = let (g, n) = key_parts (key_of r) (key_of other) e in absurd (ne (sym (same_resource r other g n)))
+    by_test true e = absurd (ne (sym (same_resource r other e)))
 
 -- what holds on success holds where there is success
 pub where_ok : {T E P : Type 0} (r : Result T E) → IsOk r → OnOk r P → P

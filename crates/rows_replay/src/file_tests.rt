@@ -1,9 +1,8 @@
 // Over which files sessions run: files of both geometries, with tables wherever their chains lead, and damaged ones.
+use crate::heaps::{EMPTY_HEAP, IN_THE_SECOND_INTERVAL};
 use checkdb_top::Status;
 use rows_files::objects::Iam;
-use rows_files::pieces::Piece::{
-    Bytes, Chain, Clustered, Heap, HeapPage, Marks, Owned, Pfs, Slots,
-};
+use rows_files::pieces::Piece::{Bytes, Chain, Clustered, Heap, HeapPage, Owned, Pfs, Slots};
 use rows_files::pieces::{New, ONLY, Piece, made};
 use rows_files::replays::replay;
 use rows_files::still::differs;
@@ -21,15 +20,6 @@ struct Run {
     log: usize,
 }
 
-// Heap `t`, object 1, whose one page is page 10. It has no rows.
-const EMPTY_HEAP: &[Piece] = &[
-    Heap(1, b't', 8),
-    Chain(8, ONLY),
-    Pfs(8, 0x70),
-    HeapPage(10, 1),
-    Owned(8, &[10], 0x60),
-];
-
 // Heap `u`, object 2, whose one page is page 12.
 const OTHER_HEAP: &[Piece] = &[
     Heap(2, b'u', 11),
@@ -39,7 +29,7 @@ const OTHER_HEAP: &[Piece] = &[
     Owned(11, &[12], 0x60),
 ];
 
-// The same, but its page is page 8,080, in extent 1,010. Of the 8,088 bytes of PFS page 1 it has the 8,081st. The extent isn't
+// Heap `t` whose one page is page 8,080, in extent 1,010. Of the 8,088 bytes of PFS page 1 it has the 8,081st. The extent isn't
 // free.
 const FAR_PAGE: &[Piece] = &[
     Heap(1, b't', 8),
@@ -49,29 +39,6 @@ const FAR_PAGE: &[Piece] = &[
     Slots(8, &[8080]),
     Bytes(1, 8176, &[0x60]),
     Bytes(2, 222, &[0b11]),
-];
-
-// The IAM page of the second interval, behind page 8.
-const SECOND: Iam = Iam {
-    object: 1,
-    prev: 8,
-    next: 0,
-    interval: 1,
-    sequence: 1,
-};
-
-// A heap that owns extent 70, the seventh of the second interval: of its pages the first is in use, page 560. Its byte is that
-// of PFS page 528 for the 33rd page.
-const IN_THE_SECOND_INTERVAL: &[Piece] = &[
-    Heap(1, b't', 8),
-    Chain(8, Iam { next: 10, ..ONLY }),
-    Chain(10, SECOND),
-    Pfs(8, 0x70),
-    Pfs(10, 0x70),
-    Bytes(512, 96, &[0xba]),
-    Marks(10, 0b0100_0000),
-    HeapPage(560, 1),
-    Bytes(528, 128, &[0x40]),
 ];
 
 const ONE_ROW: &str = "INSERT t 1 'a'\nCOUNT t\nDBCC CHECKDB\n";

@@ -7,6 +7,8 @@ mod close_tests;
 #[cfg(test)]
 mod file_tests;
 #[cfg(test)]
+mod heaps;
+#[cfg(test)]
 mod refused_tests;
 #[cfg(test)]
 mod session_tests;

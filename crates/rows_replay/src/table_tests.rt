@@ -1,7 +1,7 @@
 // Tables come and go in runs of sessions: what is replied, what is refused, and which file is left.
+use crate::heaps::{EMPTY_HEAP, IN_THE_SECOND_INTERVAL};
 use checkdb_top::Status;
-use rows_files::objects::Iam;
-use rows_files::pieces::Piece::{Bytes, Chain, Heap, HeapPage, Marks, Owned, Pfs};
+use rows_files::pieces::Piece::{Bytes, Chain, Heap, Marks, Pfs};
 use rows_files::pieces::{New, ONLY, Piece, made};
 use rows_files::replays::replay;
 use rows_files::still::differs;
@@ -20,15 +20,6 @@ struct Run {
     stays: bool,
 }
 
-// Heap `t`, object 1, whose one page is page 10. It has no rows.
-const HEAP: &[Piece] = &[
-    Heap(1, b't', 8),
-    Chain(8, ONLY),
-    Pfs(8, 0x70),
-    HeapPage(10, 1),
-    Owned(8, &[10], 0x60),
-];
-
 // Heap `t` without pages, whose chain marks extent 3, of which no page is allocated.
 const MARKING: &[Piece] = &[
     Heap(1, b't', 8),
@@ -36,28 +27,6 @@ const MARKING: &[Piece] = &[
     Pfs(8, 0x70),
     Marks(8, 0b1000),
     Bytes(2, 96, &[0b0100]),
-];
-
-// The IAM page of the second interval, behind page 8.
-const SECOND: Iam = Iam {
-    object: 1,
-    prev: 8,
-    next: 0,
-    interval: 1,
-    sequence: 1,
-};
-
-// A heap that owns extent 70, the seventh of the second interval, of whose pages page 560 is in use.
-const IN_THE_SECOND_INTERVAL: &[Piece] = &[
-    Heap(1, b't', 8),
-    Chain(8, Iam { next: 10, ..ONLY }),
-    Chain(10, SECOND),
-    Pfs(8, 0x70),
-    Pfs(10, 0x70),
-    Bytes(512, 96, &[0xba]),
-    Marks(10, 0b0100_0000),
-    HeapPage(560, 1),
-    Bytes(528, 128, &[0x40]),
 ];
 
 static RUNS: [Run; 12] = [
@@ -85,7 +54,7 @@ static RUNS: [Run; 12] = [
     Run {
         name: "a heap with a page",
         new: New::Small(16),
-        parts: &[HEAP],
+        parts: &[EMPTY_HEAP],
         schedule: "",
         scripts: &["INSERT t 1 'a'\nDROP t\nCOUNT t\nDBCC CHECKDB\n"],
         replies: "1.1 ROWS 1\n1.2 OK\n1.3 MSG 208 t\n1.4 DBCC LSN 13\nMsg 8989: 0 allocation errors, 0 consistency errors\n",
@@ -132,7 +101,7 @@ static RUNS: [Run; 12] = [
     Run {
         name: "a DROP and a CREATE that are rolled back",
         new: New::Small(16),
-        parts: &[HEAP],
+        parts: &[EMPTY_HEAP],
         schedule: "",
         scripts: &["BEGIN\nDROP t\nCREATE HEAP u\nROLLBACK\nCOUNT t\nCOUNT u\n"],
         replies: "1.1 OK\n1.2 OK\n1.3 OK\n1.4 OK\n1.5 ROWS 0\n1.6 MSG 208 u\n",
@@ -142,7 +111,7 @@ static RUNS: [Run; 12] = [
     Run {
         name: "the catalog is held",
         new: New::Small(16),
-        parts: &[HEAP],
+        parts: &[EMPTY_HEAP],
         schedule: "1 5\n2 3\n",
         scripts: &[
             "BEGIN\nCREATE HEAP u\nROLLBACK\n",
@@ -154,7 +123,7 @@ static RUNS: [Run; 12] = [
     Run {
         name: "the table is held",
         new: New::Small(16),
-        parts: &[HEAP],
+        parts: &[EMPTY_HEAP],
         schedule: "1 6\n2 2\n",
         scripts: &["BEGIN\nINSERT t 1 'a'\nROLLBACK\n", "DROP t\nDROP t\n"],
         replies: "1.1 OK\n1.2 ROWS 1\n1.3 OK\n2.1 MSG 1222 TABLE 1 TRAN 1\n2.2 MSG 1222 TABLE 1 TRAN 1\n",

@@ -10,8 +10,8 @@ use Rattle.ck_facts.specs.MapOf.{IsMapOf}
 use Rattle.ck_facts.specs.Owners.{IsOwnerIn}
 use Rattle.ck_scan.specs.declared.findings.Findings.{Findings}
 use Rattle.ck_scan.specs.declared.frame.Frame.{Frame}
-use Rattle.ck_scan.specs.declared.scan.Scan.{Scan}
-use Rattle.ck_scan.specs.declared.scan.Scan.TheVariants.{Unread, Pages}
+use Rattle.ck_scan.specs.declared.stepped.SteppedScan.{SteppedScan}
+use Rattle.ck_scan.specs.declared.stepped.SteppedScan.TheVariants.{Unread, Pages}
 use Rattle.ck_claim.specs.Shown.{numbers_below}
 use Rattle.ck_scan.specs.Found.{AreFound, AreFoundIn, IsLike}
 use Rattle.ck_scan.specs.Frames.{IsFrameOf}
@@ -39,12 +39,12 @@ pages_report m report next frame found by none right image of =
     check_of_rules m.geometry image m.system.items report by.0 of.map.system
     (right image of.map (subst (λ (n : ℕ). AreFound image m (Below n (IsOwnerIn m.geometry image)) found) end of.shows.0))
 
-pub unread_answer : {E : Type 0} (m : AllocMap) (scan : Scan) (r : Result CheckReport E) → scan ≡ Unread → IsScanBy m scan → IfOk r (λ report. report.errors ≡ m.system.items) → IfOk r (λ report. report.tables ≡ [])
+pub unread_answer : {E : Type 0} (m : AllocMap) (scan : SteppedScan) (r : Result CheckReport E) → scan ≡ Unread → IsScanBy m scan → IfOk r (λ report. report.errors ≡ m.system.items) → IfOk r (λ report. report.tables ≡ [])
     → IfOk r (λ report. (image : Image) → IsScanOf image m scan → IsCheckOf m.geometry image report)
 unread_answer {E} m scan (Ok report) is by errors tables = λ image of. unread_report m report (subst (IsScanBy m) is by) errors tables image (subst (IsScanOf image m) is of)
 unread_answer {E} m scan (Err e) is by errors tables = tt
 
-pub pages_answer : {E : Type 0} (m : AllocMap) (scan : Scan) (next : ℕ) (frame : Frame) (found : Findings) (r : Result CheckReport E) → scan ≡ Pages next frame found → IsScanBy m scan → extents_left m scan ≡ 0
+pub pages_answer : {E : Type 0} (m : AllocMap) (scan : SteppedScan) (next : ℕ) (frame : Frame) (found : Findings) (r : Result CheckReport E) → scan ≡ Pages next frame found → IsScanBy m scan → extents_left m scan ≡ 0
     → IfOk r (λ report. (image : Image) → IsMapOf image m → AreFound image m (Below (m.pages / 8) (IsOwnerIn m.geometry image)) found → IsReportOfRules m.geometry image report)
     → IfOk r (λ report. (image : Image) → IsScanOf image m scan → IsCheckOf m.geometry image report)
 pages_answer {E} m scan next frame found (Ok report) is by none right = λ image of.
@@ -70,7 +70,7 @@ next_of told m next frame now found more by some like reads = record {
   left = omega (arith, some);
 }
 
-pub read_answer : (told : Option Image) (m : AllocMap) (scan : Scan) (next : ℕ) (frame now : Frame) (found more : Findings) → scan ≡ Pages next frame found
+pub read_answer : (told : Option Image) (m : AllocMap) (scan : SteppedScan) (next : ℕ) (frame now : Frame) (found more : Findings) → scan ≡ Pages next frame found
     → IsScanBy m scan → 0 < extents_left m scan → IsLike found more
     → ForSome told (λ image. (others : List ℕ) → IsMapOf image m → IsFrameOf image frame → AreFoundIn image m others found
     → AreFoundIn image m (others ++ next ∷ []) more × IsFrameOf image now)

@@ -8,15 +8,15 @@ mod frame;
 mod gate;
 mod pages;
 mod report;
-mod scan;
+mod stepped;
 mod together;
 mod worker;
 
 ghost use Rattle.ck_scan.specs.PartsLaw.{PartsShowTrees};
 
 pub use gate::{Gate, NoGate, Point};
-pub use scan::{Scan, scan_one};
-pub use together::scan_together;
+pub use stepped::{SteppedScan, scan_one};
+pub use together::scan;
 
 /// The facts of all pages that a check sees, taken in whatever order and pieces and in any number of parts, show
 /// exactly the image's errors of trees.

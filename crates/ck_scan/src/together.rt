@@ -40,7 +40,7 @@ fn rules_together<T: Threads + Sync, R: SnapReader + Send, G: Gate + Sync>(
 /// the gate and reads the extent's pages, until all are drawn or a read stops. The report is the written check of the
 /// image that all readers tell, in whatever order they draw; the stop is that of the first reader that has one, or
 /// want of memory. The readers stand in their order, each with its image.
-pub fn scan_together<T: Threads + Sync, R: SnapReader + Send, G: Gate + Sync>(
+pub fn scan<T: Threads + Sync, R: SnapReader + Send, G: Gate + Sync>(
     rt: &T,
     alloc: Global,
     readers: &mut Vec<R>,

@@ -2,15 +2,15 @@
 use Rattle.std.proofs.Common.{◌≡◌, ℕ, ◌+◌, ◌/◌, ◌<◌, ◌≤◌, true, false, length, arith, refl, sym, ap, subst}
 use Rattle.spec_file.specs.Image.{Image}
 use Rattle.ck_facts.specs.declared.map.AllocMap.{AllocMap}
-use Rattle.ck_scan.specs.declared.scan.Scan.{Scan}
-use Rattle.ck_scan.specs.declared.scan.Scan.TheVariants as scans
+use Rattle.ck_scan.specs.declared.stepped.SteppedScan.{SteppedScan}
+use Rattle.ck_scan.specs.declared.stepped.SteppedScan.TheVariants as scans
 use Rattle.ck_scan.specs.Scans.{extents_left}
 use Rattle.db_core.specs.declared.session.Phase.{Phase}
 use Rattle.db_core.specs.declared.session.Phase.TheVariants.{Back, Undone, Scanning}
 use Rattle.db_core.specs.Reading.{is_back, IsScan, IsPhaseOf, BeginsScan, ScansOn, ReadsOn, reads_left}
 
 -- no more extents are left than there are
-extents_few : (map : AllocMap) (scan : Scan) → extents_left map scan ≤ map.pages / 8
+extents_few : (map : AllocMap) (scan : SteppedScan) → extents_left map scan ≤ map.pages / 8
 extents_few map scans.Unread = omega arith
 extents_few map (scans.Pages next frame found) = omega arith
 
@@ -25,7 +25,7 @@ begun_few pages Back b = absurd b
 begun_few pages Undone b = absurd b
 begun_few pages (Scanning map scan) b = let few = extents_few map scan in let count = b.0.count in omega (arith, few, count)
 
-scans_fewer : (pages : Image) (map : AllocMap) (old : Scan) (phase : Phase) → ScansOn pages map old phase → reads_left (length pages) phase < extents_left map old
+scans_fewer : (pages : Image) (map : AllocMap) (old : SteppedScan) (phase : Phase) → ScansOn pages map old phase → reads_left (length pages) phase < extents_left map old
 scans_fewer pages map old Back h = absurd h
 scans_fewer pages map old Undone h = absurd h
 scans_fewer pages map old (Scanning same new) h = let left = h.1.1 in let now = ap (λ m. extents_left m new) h.0 in omega (arith, left, now)
@@ -41,7 +41,7 @@ begun_phase pages Back b = absurd b
 begun_phase pages Undone b = absurd b
 begun_phase pages (Scanning map scan) b = b.0
 
-scans_phase : (pages : Image) (map : AllocMap) (old : Scan) (phase : Phase) → ScansOn pages map old phase → IsPhaseOf pages phase
+scans_phase : (pages : Image) (map : AllocMap) (old : SteppedScan) (phase : Phase) → ScansOn pages map old phase → IsPhaseOf pages phase
 scans_phase pages map old Back h = absurd h
 scans_phase pages map old Undone h = absurd h
 scans_phase pages map old (Scanning same new) h = subst (λ m. IsScan pages m new) (sym h.0) h.1.0

@@ -5,7 +5,7 @@ use Rattle.spec_file.specs.Image.{Image}
 use Rattle.spec_file.specs.Places.{HasShape}
 use Rattle.ck_facts.specs.declared.map.AllocMap.{AllocMap}
 use Rattle.ck_facts.specs.MapOf.{IsMapOf}
-use Rattle.ck_scan.specs.declared.scan.Scan.{Scan}
+use Rattle.ck_scan.specs.declared.stepped.SteppedScan.{SteppedScan}
 use Rattle.ck_scan.specs.Scans.{extents_left, IsBegun, IsScanBy, IsScanOf}
 use Rattle.db_core.specs.declared.session.Phase.{Phase}
 use Rattle.db_core.specs.declared.session.Phase.TheVariants.{Back, Undone, Scanning}
@@ -29,7 +29,7 @@ pub record AreMapsOf (pages : Image) (map : AllocMap) : Type 0 where
   pub of : IsMapOf pages map
 
 -- a scan of these pages that is under way
-pub record IsScan (pages : Image) (map : AllocMap) (scan : Scan) : Type 0 where
+pub record IsScan (pages : Image) (map : AllocMap) (scan : SteppedScan) : Type 0 where
   pub geometry : map.geometry ≡ geometry_said pages
   pub count : map.pages ≡ length pages
   pub by : IsScanBy map scan
@@ -42,7 +42,7 @@ IsPhaseOf pages Undone = Unit {0}
 IsPhaseOf pages (Scanning map scan) = IsScan pages map scan
 
 -- one extent more of the pages is read
-abbrev pub ReadsExtent : Image → AllocMap → Scan → Scan → Type 0
+abbrev pub ReadsExtent : Image → AllocMap → SteppedScan → SteppedScan → Type 0
 ReadsExtent pages map old new = IsScan pages map new × (extents_left map old ≡ extents_left map new + 1)
 
 -- the maps are read, and no extent yet
@@ -52,7 +52,7 @@ BeginsScan pages Undone = ⊥
 BeginsScan pages (Scanning map scan) = IsScan pages map scan × IsBegun map scan
 
 -- a scan goes on by the same maps
-abbrev pub ScansOn : Image → AllocMap → Scan → Phase → Type 0
+abbrev pub ScansOn : Image → AllocMap → SteppedScan → Phase → Type 0
 ScansOn pages map old Back = ⊥
 ScansOn pages map old Undone = ⊥
 ScansOn pages map old (Scanning same new) = (same ≡ map) × ReadsExtent pages map old new

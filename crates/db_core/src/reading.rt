@@ -11,7 +11,7 @@ ghost use Rattle.db_core.specs.Reading.{AreMapsOf, BeginsScan, IsScan, MayRead, 
 use crate::session::Phase;
 use ck_alloc::read_maps;
 use ck_facts::AllocMap;
-use ck_scan::Scan;
+use ck_scan::SteppedScan;
 use pg_base::{Geometry, ReadStop};
 use spec_check::CheckReport;
 use spec_file::NoMemory;
@@ -68,7 +68,7 @@ fn begin_scan(alloc: Global, pages: &Frames) -> Result<Phase, NoMemory>
     let Ok(map) = maps_of(alloc, pages) else {
         return Err(NoMemory);
     };
-    let scan = Scan::begin(alloc, &map)?;
+    let scan = SteppedScan::begin(alloc, &map)?;
     Ok(Phase::Scanning { map, scan })
 }
 
@@ -77,7 +77,7 @@ fn read_extent(
     alloc: Global,
     pages: &Frames,
     map: &AllocMap,
-    scan: &mut Scan,
+    scan: &mut SteppedScan,
 ) -> Result<(), ReadStop>
     requires scan { IsScan pages.now map.now scan.old }
     requires more { 0 < extents_left map.now scan.old }
@@ -89,7 +89,12 @@ fn read_extent(
 }
 
 /// Reads the next extent, which stops for want of memory alone.
-fn scan_on(alloc: Global, pages: &Frames, map: &AllocMap, scan: &mut Scan) -> Result<(), NoMemory>
+fn scan_on(
+    alloc: Global,
+    pages: &Frames,
+    map: &AllocMap,
+    scan: &mut SteppedScan,
+) -> Result<(), NoMemory>
     requires scan { IsScan pages.now map.now scan.old }
     requires more { 0 < extents_left map.now scan.old }
     ensures { OnOk result (ReadsExtent pages.now map.now scan.old scan.new) }

@@ -1,7 +1,7 @@
 //! What the core keeps of each session.
 
 use ck_facts::AllocMap;
-use ck_scan::Scan;
+use ck_scan::SteppedScan;
 use spec_file::Resource;
 use spec_plan::Planned;
 use spec_script::{Reply, Statement};
@@ -15,7 +15,7 @@ pub enum Phase {
     /// It was found that none is left.
     Undone,
     /// The maps are read, and extents are being read by them.
-    Scanning { map: AllocMap, scan: Scan },
+    Scanning { map: AllocMap, scan: SteppedScan },
 }
 
 /// A check that is under way.

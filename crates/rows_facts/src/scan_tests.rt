@@ -3,7 +3,7 @@ ghost use Rattle.std.specs.Prelude.{◌≡◌, None, false, []};
 
 use crate::made::{HEAP, MARKED, MIXED, MadeMap, MadeRow, TAKEN, WRONG, expect_errors, map_of};
 use ck_facts::{AllocMap, CheckError, CheckReport, PageUse, TableLine};
-use ck_scan::{Scan, scan_one};
+use ck_scan::{SteppedScan, scan_one};
 use pg_base::{Header, ObjId, Page, PageNo, ReadStop, SnapReader, put_u16, write_header};
 use std::alloc::Global;
 use std::process::Abort;
@@ -282,7 +282,7 @@ fn stepped(alloc: Global, map: &AllocMap) -> Result<(Vec<u32>, CheckReport), Fai
         reads: 0,
     };
     let mut reads = Vec::new(alloc);
-    let mut scan = Scan::begin(alloc, map)?;
+    let mut scan = SteppedScan::begin(alloc, map)?;
     'extents: while scan.has_more(map) {
         scan.read_next(alloc, &mut reader, map)
             .ok()

@@ -4,7 +4,7 @@ ghost use Rattle.std.specs.Prelude.{◌≡◌, ◌<◌, ◌≤◌, All, None, If
 use crate::made::{HEAP, MARKED, MIXED, MadeMap, MadeRow, TAKEN, WRONG, expect_errors, map_of};
 use crate::scan_tests::{expect_tables, heap_page, line};
 use ck_facts::{AllocMap, CheckError, CheckReport, PageUse};
-use ck_scan::{Gate, NoGate, Point, scan_together};
+use ck_scan::{Gate, NoGate, Point, scan};
 use pg_base::{NoMemory, Page, PageNo, ReadStop, SnapReader};
 use std::alloc::Global;
 use std::process::Abort;
@@ -150,7 +150,7 @@ fn scanned<T: Threads + Sync, G: Gate + Sync>(
 {
     let map = five_extents(alloc)?;
     let mut all = readers(alloc, count, failing)?;
-    let answer = scan_together(rt, alloc, &mut all, &map, gate);
+    let answer = scan(rt, alloc, &mut all, &map, gate);
     Ok((answer, all))
 }
 

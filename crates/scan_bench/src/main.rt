@@ -10,7 +10,7 @@ mod reader;
 
 use ck_alloc::read_maps;
 use ck_facts::{AllocMap, CheckReport};
-use ck_scan::{NoGate, scan_one, scan_together};
+use ck_scan::{NoGate, scan, scan_one};
 use pg_base::{Geometry, NoMemory, ReadStop};
 use reader::{FileReader, push_reader};
 use std::alloc::Global;
@@ -81,7 +81,7 @@ fn by_many<F: Read + Write + Seek + Drop + Send, R: Files<File = F> + Threads + 
     requires few { count ≤ 16 }
 {
     let mut all = readers(rt, alloc, name, map.pages, count)?;
-    scan_together(rt, alloc, &mut all, map, &NoGate)
+    scan(rt, alloc, &mut all, map, &NoGate)
 }
 
 fn main(rt: HostRuntime) -> anyhow::Result<()> {

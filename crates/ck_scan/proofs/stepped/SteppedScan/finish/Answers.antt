@@ -1,5 +1,5 @@
 use Rattle.ck_scan.proofs.ScanReports.{unread_answer, pages_answer}
-use Rattle.ck_scan.proofs.scan.Scan.finish.Goals as goal
+use Rattle.ck_scan.proofs.stepped.SteppedScan.finish.Goals as goal
 
 pub returns-in-Unread : goal.returns-in-Unread
 returns-in-Unread c = unread_answer c.args.map.now c.args.self c.system_report.result c.in-Unread.is c.requires.by c.system_report.ensures.errors c.system_report.ensures.tables

@@ -3,7 +3,7 @@ use Rattle.std.specs.Option.{ForSome}
 use Rattle.pg_base.specs.Reading.{OnlyReads}
 use Rattle.ck_facts.specs.MapOf.{IsMapOf}
 use Rattle.ck_scan.specs.Scans.{extents_left, IsScanBy, IsScanOf}
-use Rattle.ck_scan.proofs.scan.scan_one.Given as goal
+use Rattle.ck_scan.proofs.stepped.scan_one.Given as goal
 
 abbrev pub invariant-extents : goal.invariant-extents
 invariant-extents g l = record {

@@ -1,6 +1,6 @@
 use Rattle.std.proofs.Common.{◌∙◌}
 use Rattle.pg_base.proofs.ReadingLaws.{reads_none, reads_then}
-use Rattle.ck_scan.proofs.scan.scan_one.Goals as goal
+use Rattle.ck_scan.proofs.stepped.scan_one.Goals as goal
 
 pub extents-init : goal.extents-init
 extents-init g c = record {

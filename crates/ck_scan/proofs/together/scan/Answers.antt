@@ -2,7 +2,7 @@ use Rattle.std.proofs.Common.{◌≡◌, ◌<◌, length, arith}
 use Rattle.std.proofs.lemmas.Bool.Decides.{nat_tests}
 use Rattle.ck_scan.proofs.ReaderLaws.{read_none, want_exit}
 use Rattle.ck_scan.proofs.Reports.{check_of_system, checked_together, empty_list}
-use Rattle.ck_scan.proofs.together.scan_together.Goals as goal
+use Rattle.ck_scan.proofs.together.scan.Goals as goal
 
 pub returns-in_err-system_report-clause-reads : goal.returns-in_err-system_report-clause-reads
 returns-in_err-system_report-clause-reads g c = want_exit g.R.SnapReader c.args.readers.now.items c.from_residual.result c.from_residual.ensures.1

@@ -1,5 +1,5 @@
 use Rattle.ck_scan.proofs.ScanReports.{read_answer}
-use Rattle.ck_scan.proofs.scan.Scan.read_next.Goals as goal
+use Rattle.ck_scan.proofs.stepped.SteppedScan.read_next.Goals as goal
 
 pub returns-clause-next : goal.returns-clause-next
 returns-clause-next g c =

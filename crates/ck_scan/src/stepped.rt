@@ -17,7 +17,7 @@ use std::alloc::Global;
 
 /// A check of a still file, extent by extent. Each call takes the maps that it was begun by.
 #[derive(Drop)]
-pub enum Scan {
+pub enum SteppedScan {
     /// The maps have system errors, which stand alone: no page is read.
     Unread,
     /// The extents before the next one are read.
@@ -28,15 +28,15 @@ pub enum Scan {
     },
 }
 
-impl Scan {
+impl SteppedScan {
     /// A check that has read no page yet.
-    pub fn begin(alloc: Global, map: &AllocMap) -> Result<Scan, NoMemory>
+    pub fn begin(alloc: Global, map: &AllocMap) -> Result<SteppedScan, NoMemory>
         ensures { IfOk result (IsBegun map.now) }
     {
         if !map.system_errors().is_empty() {
-            return Ok(Scan::Unread);
+            return Ok(SteppedScan::Unread);
         }
-        Ok(Scan::Pages {
+        Ok(SteppedScan::Pages {
             next: 0,
             frame: Frame::begin(alloc)?,
             found: Findings::begin(alloc, map, 1)?,
@@ -48,8 +48,8 @@ impl Scan {
         ensures { IsTrue result ↔ 0 < extents_left map.now self.now }
     {
         match self {
-            Scan::Unread => false,
-            Scan::Pages { next, .. } => *next < map.extents(),
+            SteppedScan::Unread => false,
+            SteppedScan::Pages { next, .. } => *next < map.extents(),
         }
     }
 
@@ -68,8 +68,8 @@ impl Scan {
         ensures reads { OnlyReads R.SnapReader reader.old reader.new (stop_of result) }
     {
         match self {
-            Scan::Unread => unreachable!(),
-            Scan::Pages { next, frame, found } => {
+            SteppedScan::Unread => unreachable!(),
+            SteppedScan::Pages { next, frame, found } => {
                 find_in_extent(alloc, reader, map, *next, frame, found)?;
                 *next += 1;
                 Ok(())
@@ -84,8 +84,8 @@ impl Scan {
         ensures { IfOk result (λ report. (image : Image) → IsScanOf image map.now self → IsCheckOf map.now.geometry image report) }
     {
         match self {
-            Scan::Unread => system_report(alloc, map),
-            Scan::Pages { found, .. } => report_of(alloc, map, found),
+            SteppedScan::Unread => system_report(alloc, map),
+            SteppedScan::Pages { found, .. } => report_of(alloc, map, found),
         }
     }
 }
@@ -102,7 +102,7 @@ pub fn scan_one<R: SnapReader>(
     ensures report { IfOk result (λ report. IfSome (R.image reader.old) (λ image. IsCheckOf map.now.geometry image report)) }
     ensures reads { OnlyReads R.SnapReader reader.old reader.new (stop_of result) }
 {
-    let mut scan = Scan::begin(alloc, map)?;
+    let mut scan = SteppedScan::begin(alloc, map)?;
     'extents: while scan.has_more(map) {
         scan.read_next(alloc, reader, map)?;
     }

@@ -75,7 +75,7 @@ marked_finds shape chain path =
     (λ p own. marked_gives shape (chain ++ path) p own)
 
 -- where no page is to be had nothing is given
-none_leads : (shape : FileShape) (v : View) (K : ℕ → View → Type 0) → Leads (no_page shape) v K
+pub none_leads : (shape : FileShape) (v : View) (K : ℕ → View → Type 0) → Leads (no_page shape) v K
 none_leads shape v K =
     let ask : ℕ → Plan (Unit {0}) = λ e. unless_held (resource.Extent (record { 0 = e })) in
     leads_then (for_each ask (extents_of shape)) (λ _. refuse no_room) v K
@@ -143,7 +143,7 @@ extent_gives shape row chain path p own is v g =
 extent_finds : (shape : FileShape) (row : CatalogRow) (chain path : List ℕ) → IsChainOf shape chain → FindsPage shape (extent_page shape row chain path)
 extent_finds shape row chain path own =
     found_finds shape (search shape (is_unused shape) (first_page_of shape)) (extent_marked shape row chain path)
-    (λ v. search_reads shape (is_unused shape) (first_page_of shape) (IsOwn shape) v (free_own shape v)) (λ p is. extent_gives shape row chain path p own is)
+    (λ v. search_reads shape (is_unused shape) (first_page_of shape) (IsOwn shape) v (λ e lt fit. free_own shape v e lt)) (λ p is. extent_gives shape row chain path p own is)
 
 object_gives : (shape : FileShape) (row : CatalogRow) (path : List ℕ) → GivesPage shape (object_page shape row path)
 object_gives shape row path v g =

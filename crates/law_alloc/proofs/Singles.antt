@@ -127,9 +127,9 @@ pub single_finds : (shape : FileShape) (byte : ℕ) → byte < 256 → FindsPage
 single_finds shape byte low =
     either_finds shape _ _
     (found_finds shape (search shape (is_shared shape) (spare_page shape)) (of_mixed shape byte)
-    (λ v. search_reads shape (is_shared shape) (spare_page shape) (IsOwn shape) v (spare_own shape v)) (λ p own. mixed_gives shape byte p low own))
+    (λ v. search_reads shape (is_shared shape) (spare_page shape) (IsOwn shape) v (λ e lt fit. spare_own shape v e lt)) (λ p own. mixed_gives shape byte p low own))
     (found_finds shape (search shape (is_unused shape) (first_page_of shape)) (of_free shape byte)
-    (λ v. search_reads shape (is_unused shape) (first_page_of shape) (IsOwn shape) v (free_own shape v)) (λ p own. free_gives shape byte p low own))
+    (λ v. search_reads shape (is_unused shape) (first_page_of shape) (IsOwn shape) v (λ e lt fit. free_own shape v e lt)) (λ p own. free_gives shape byte p low own))
 
 pub single_keeps_good : SingleKeepsGood
 single_keeps_good v byte low good =

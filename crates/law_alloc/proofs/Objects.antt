@@ -26,7 +26,7 @@ use Rattle.law_net.proofs.RowBytes.{low_bytes}
 use Rattle.law_net.proofs.InsertKeeps.{IsGoodOf}
 use Rattle.law_alloc.specs.Keeps.{IfFound, IsOwn, ObjectPageKeepsGood}
 use Rattle.law_alloc.proofs.Searches.{Any, sees_reads, leads_from, search_reads}
-use Rattle.law_alloc.proofs.Singles.{Found, Given, FindsPage, GivesPage, either_finds, found_finds, single_finds, first_own, free_own, gam_keeps, pfs_keeps, page_keeps, good_then, extent_in}
+use Rattle.law_alloc.proofs.Singles.{Found, Given, FindsPage, GivesPage, either_finds, found_finds, single_finds, first_kept, free_own, gam_keeps, pfs_keeps, page_keeps, good_then, extent_in}
 use Rattle.law_alloc.proofs.Chains.{AllOwn, IsChainOf, chain_reads_now, taken_gives, slot_keeps, next_keeps, mark_keeps, low_iam}
 
 -- what is found, and what is given of it
@@ -70,8 +70,8 @@ marked_finds : (shape : FileShape) (chain path : List ℕ) → FindsPage shape (
 marked_finds shape chain path =
     found_finds shape (sees (lowest_marked shape chain)) (marked_page_taken shape (chain ++ path))
     (λ v. sees_reads (lowest_marked shape chain) v (IfFound (IsOwn shape))
-    (first_own shape (λ p. is_marked shape.geometry v.now chain p && is_spare shape v p) shape.pages 0 (omega arith)
-    (λ p test. (and_parts (is_ordinary shape.geometry p) _ (and_parts (is_marked shape.geometry v.now chain p) (is_spare shape v p) test).1).0)))
+    (first_kept (IsOwn shape) (λ p. is_marked shape.geometry v.now chain p && is_spare shape v p) shape.pages 0
+    (λ p low high test. (omega (arith, high), (and_parts (is_ordinary shape.geometry p) _ (and_parts (is_marked shape.geometry v.now chain p) (is_spare shape v p) test).1).0))))
     (λ p own. marked_gives shape (chain ++ path) p own)
 
 -- where no page is to be had nothing is given

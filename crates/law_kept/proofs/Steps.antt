@@ -63,6 +63,9 @@ goes_within shape a b v w within goes = record { file = goes.file; same = goes.s
 abbrev pub nothing : Changed
 nothing = record { free = λ e. ⊥; mixed = λ e. ⊥; bytes = λ p. ⊥; pages = λ q. ⊥ }
 
+pub nothing_within : (changed : Changed) → IsWithin nothing changed
+nothing_within changed = record { free = λ e c. absurd c; mixed = λ e c. absurd c; bytes = λ p c. absurd c; pages = λ q c. absurd c }
+
 pub goes_nowhere : (shape : FileShape) (v : View) → IsFile shape v.now → Goes shape nothing v v
 goes_nowhere shape v f = record {
   file = f;

@@ -1,0 +1,38 @@
+-- What taking a single page, and the page of a new chain, does to an image.
+use Rattle.std.specs.Prelude.{◌≡◌, ◌↔◌, ℕ, ◌/◌, false, true, IsTrue}
+use Rattle.spec_file.specs.declared.geometry.Geometry.{Geometry}
+use Rattle.spec_file.specs.declared.pfs.PfsKind.TheVariants.{Iam}
+use Rattle.spec_file.specs.Image.{Image, page}
+use Rattle.spec_file.specs.Pfs.{is_allocated_byte}
+use Rattle.spec_file.specs.Places.{is_free, is_mixed}
+use Rattle.spec_chain.specs.Uses.{pfs_byte}
+use Rattle.spec_words.specs.Views.{View}
+use Rattle.spec_alloc.specs.SinglePages.{single_page}
+use Rattle.spec_alloc.specs.Objects.{new_chain}
+use Rattle.spec_steps.specs.AtMost.{AtMost, page_of, either, maps_of}
+use Rattle.spec_steps.specs.IamPages.{IsOnlyIam}
+use Rattle.spec_steps.specs.Taking.{HasOpenPage, IsTakeable, IsTakenAs}
+use Rattle.law_net.specs.GoodViews.{Leads}
+use Rattle.law_alloc.specs.Keeps.{IfFound}
+use Rattle.law_kept.specs.Views.{IsCleanView}
+
+-- page p, which nobody has, gets this PFS byte. Its extent isn't free then, and mixed exactly where a page is left to take;
+-- nothing else changes
+pub record TakesPage (g : Geometry) (value p : ℕ) (image image' : Image) : Type 0 where
+  pub takeable : IsTakeable g image p
+  pub most : AtMost g (maps_of p) image image'
+  pub free : is_free g image' (p / 8) ≡ false
+  pub mixed : IsTrue (is_mixed g image' (p / 8)) ↔ HasOpenPage g image' (p / 8)
+  pub byte : pfs_byte g image' p ≡ value
+
+-- where a single page is found on a clean view, it is taken so
+abbrev pub SingleIsTaken : Type 0
+SingleIsTaken = (view : View) (byte : ℕ) → is_allocated_byte byte ≡ true → IsCleanView view →
+    Leads (single_page view.shape byte) view (λ found after. IfFound (λ p. TakesPage view.shape.geometry byte p view.now after.now) found)
+
+-- the page of a new chain is a single page, and the one IAM page of the object of this id, which owns nothing else
+pub record TakesIam (g : Geometry) (id p : ℕ) (image image' : Image) : Type 0 where
+  pub takeable : IsTakeable g image p
+  pub most : AtMost g (either (maps_of p) (page_of p)) image image'
+  pub taken : IsTakenAs g image' p Iam
+  pub new : IsOnlyIam id p (page image' p)

@@ -1,3 +1,5 @@
 pub mod Steps
 pub mod Words
 pub mod Singles
+pub mod NewPages
+pub mod NewChains

@@ -106,7 +106,7 @@ lower_goes shape e v inside f mixed unheld bare =
         let same = ap is_allocated_byte (goes.most.bytes q (in_extent shape v e q f inside at) (λ c. c)) in
         both_ways (left v) left_none (any_in (is_spare shape v) e q at (spare_from shape v q ordinary (sym same ∙ un) (bare q at ordinary (sym same ∙ un) unheld)))
 
-page_extent : (shape : FileShape) (v : View) (p : ℕ) → IsFile shape v.now → p < shape.pages → p / 8 < shape.pages / 8
+pub page_extent : (shape : FileShape) (v : View) (p : ℕ) → IsFile shape v.now → p < shape.pages → p / 8 < shape.pages / 8
 page_extent shape v p f inside = let file = f.file in let whole = file.whole in omega (arith, inside, whole)
 
 -- page p of a mixed extent is taken

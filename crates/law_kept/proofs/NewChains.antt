@@ -1,0 +1,101 @@
+-- The page of a new chain is taken, and is the one IAM page of its object.
+use Rattle.std.proofs.Common.{◌≡◌, ◌⊎◌, ℕ, ◌+◌, ◌*◌, ◌/◌, ◌^◌, ◌<◌, ◌≤◌, ◌==◌, not, List, [], length, Option, Some, None, refl, sym, ap, subst, ◌∙◌, inl, inr, ⊎_elim, arith}
+use Rattle.std.specs.List.{list_any}
+use Rattle.spec_file.specs.declared.data.Resource.TheVariants as resource
+use Rattle.spec_file.specs.declared.geometry.Geometry.{Geometry}
+use Rattle.spec_file.specs.declared.geometry.Geometry.TheVariants.{Standard, Small}
+use Rattle.spec_file.specs.declared.pfs.PfsKind.TheVariants.{Iam}
+use Rattle.spec_file.specs.Image.{page}
+use Rattle.spec_file.specs.Pfs.{expected, is_allocated_byte}
+use Rattle.spec_file.specs.Places.{page_limit, extent_count}
+use Rattle.spec_chain.specs.Uses.{pfs_byte, is_allocated}
+use Rattle.spec_words.specs.NetChanges.{FileShape}
+use Rattle.spec_words.specs.Views.{View, Plan}
+use Rattle.spec_words.specs.Words.{◌then◌, give, where_good, look, put_page, found_or}
+use Rattle.spec_alloc.specs.SinglePages.{single_page, no_page}
+use Rattle.spec_alloc.specs.Chains.{page_taken, new_iam_page}
+use Rattle.spec_alloc.specs.Objects.{new_chain}
+use Rattle.spec_extents.specs.Extents.{Fits}
+use Rattle.spec_steps.specs.AtMost.{page_of, either, maps_of}
+use Rattle.spec_steps.specs.IamPages.{IsOnlyIam}
+use Rattle.law_frames.proofs.Held.{IsStart}
+use Rattle.law_net.specs.GoodViews.{Leads}
+use Rattle.law_net.proofs.WordLaws.{leads_then, leads_give, leads_good, leads_look, leads_weaker}
+use Rattle.law_alloc.proofs.Objects.{none_leads}
+use Rattle.law_kept.specs.Singles.{TakesIam}
+use Rattle.law_kept.proofs.Steps.{IsFile, page_in, Goes, goes_both}
+use Rattle.law_kept.proofs.Words.{page_goes}
+use Rattle.law_kept.proofs.Singles.{AreBare, Finds, Takes, single_goes, page_extent}
+use Rattle.law_kept.proofs.Steps.{extent_in}
+use Rattle.law_kept.proofs.NewPages.{page_long, only_iam, whole_put}
+
+-- a page that is taken is read, and stays as it is
+pub taken_reads : (standing : List ℕ) (p : ℕ) (v : View) → Leads (page_taken standing p) v (λ q w. (q ≡ p) × (w ≡ v))
+taken_reads standing p v =
+    let K : ℕ → View → Type 0 = λ q w. (q ≡ p) × (w ≡ v) in
+    leads_then (look (resource.Page (record { 0 = p })) p) _ v K (leads_look (resource.Page (record { 0 = p })) p v _ (λ free.
+    leads_then (where_good (not (list_any (λ q. q == p) standing)) p) _ v K (leads_good (not (list_any (λ q. q == p) standing)) p v _ (λ good. leads_give p v K (refl, refl)))))
+
+iam_fits : (byte : ℕ) → byte ≡ expected Iam 0 → Fits byte Iam
+iam_fits byte same = subst (λ b. Fits b Iam) (sym same) (record { flags = refl; fullness = λ holds. refl })
+
+number_low : (g : Geometry) (p n : ℕ) → p < n → n ≤ page_limit g → p < 256 ^ 4
+number_low Standard p n low few = omega (arith, low, few)
+number_low Small p n low few = omega (arith, low, few)
+
+module _ (shape : FileShape) (id : ℕ) (v : View) (f : IsFile shape v.now) (start : IsStart shape.geometry v.now) (bare : AreBare shape v) (low_id : id < 256 ^ 4) where
+  abbrev pub Chains : ℕ → View → Type 0
+  Chains q w = Goes shape (either (maps_of q) (page_of q)) v w × TakesIam shape.geometry id q v.now w.now
+
+  page_put : (q : ℕ) (w : View) → Takes shape v f start bare (expected Iam 0) q w → Leads (put_page q (new_iam_page id q 0 0 0)) w (λ u x. Chains q x)
+  page_put q w h =
+      let g = shape.geometry in
+      let takeable = h.0 in
+      let t = h.1 in
+      let goes = t.goes in
+      let after = goes.file in
+      let inside : q < shape.pages = subst (λ n. q < n) f.pages takeable.inside in
+      let extent = extent_in shape w.now (q / 8) after (page_extent shape v q f inside) in
+      let file = f.file in
+      let low = number_low g q shape.pages inside file.high in
+      leads_weaker (put_page q (new_iam_page id q 0 0 0)) w _ (λ u x. Chains q x) (λ u x k.
+      let put = k.0 in
+      let is : page x.now q ≡ new_iam_page id q 0 0 0 =
+      k.1 ∙ whole_put (page w.now q) (new_iam_page id q 0 0 0) (page_long id q low_id low ∙ sym (after.whole q [] (page_in shape w.now q after inside))) in
+      let both = goes_both shape (maps_of q) (page_of q) v w x goes put in
+      let byte = put.most.bytes in
+      let mixed = put.most.mixed (q / 8) extent (λ c. c) in (both, record {
+        takeable = takeable;
+        most = both.most;
+        taken = record {
+          free = put.most.free (q / 8) extent (λ c. c) ∙ t.free;
+          mixed = (
+            λ m. let o = t.mixed.0 (sym mixed ∙ m) in (o.0, o.1, o.2, same_open w x q extent put o.0 o.1 ∙ o.3),
+            λ o. mixed ∙ t.mixed.1 (o.0, o.1, o.2, sym (same_open w x q extent put o.0 o.1) ∙ o.3),
+          );
+          byte = iam_fits (pfs_byte g x.now q) (byte q (page_in shape w.now q after inside) (λ c. c) ∙ t.byte);
+        };
+        new = subst (IsOnlyIam id q) (sym is) (only_iam id q low_id low);
+      }))
+      (page_goes shape (resource.Page (record { 0 = q })) q 0 (new_iam_page id q 0 0 0) w inside (inr takeable.ordinary) after)
+    where
+      same_open : (w x : View) (q : ℕ) → q / 8 < extent_count w.now → Goes shape (page_of q) w x → (p : ℕ) → p / 8 ≡ q / 8 →
+          is_allocated shape.geometry x.now p ≡ is_allocated shape.geometry w.now p
+      same_open w x q inside put p at = ap is_allocated_byte (put.most.bytes p (omega (arith, inside, at)) (λ c. c))
+
+  pub chain_goes : Leads (new_chain shape id) v Chains
+  chain_goes =
+      let put : ℕ → Plan ℕ = λ q. page_taken [] q then (λ _. put_page q (new_iam_page id q 0 0 0) then (λ _. give q)) in
+      leads_then (single_page shape (expected Iam 0)) _ v Chains
+      (leads_weaker (single_page shape (expected Iam 0)) v (Finds v (Takes shape v f start bare (expected Iam 0))) (λ found w. Leads (found_or found (no_page shape) then put) w Chains)
+      by_found (single_goes shape v f start bare (expected Iam 0) refl))
+    where
+      by_found : (found : Option ℕ) (w : View) → Finds v (Takes shape v f start bare (expected Iam 0)) found w →
+          Leads (found_or found (no_page shape) then (λ q. page_taken [] q then (λ _. put_page q (new_iam_page id q 0 0 0) then (λ _. give q)))) w Chains
+      by_found None w h = leads_then (no_page shape) _ w Chains (none_leads shape w _)
+      by_found (Some q) w h =
+          leads_then (give q) _ w Chains (leads_give q w _
+          (leads_then (page_taken [] q) _ w Chains (leads_weaker (page_taken [] q) w _ _ (λ r x k.
+          leads_then (put_page q (new_iam_page id q 0 0 0)) _ x Chains (leads_weaker (put_page q (new_iam_page id q 0 0 0)) x (λ u y. Chains q y) _ (λ u y l. leads_give q y Chains l)
+          (subst (λ y. Leads (put_page q (new_iam_page id q 0 0 0)) y (λ u z. Chains q z)) (sym k.1) (page_put q w h))))
+          (taken_reads [] q w))))

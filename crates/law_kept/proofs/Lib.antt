@@ -3,3 +3,5 @@ pub mod Words
 pub mod Singles
 pub mod NewPages
 pub mod NewChains
+pub mod EntryPages
+pub mod NewEntries

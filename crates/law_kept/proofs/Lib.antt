@@ -5,3 +5,4 @@ pub mod NewPages
 pub mod NewChains
 pub mod EntryPages
 pub mod NewEntries
+pub mod Created

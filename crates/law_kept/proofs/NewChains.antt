@@ -1,9 +1,10 @@
 -- The page of a new chain is taken, and is the one IAM page of its object.
-use Rattle.std.proofs.Common.{◌≡◌, ◌⊎◌, ℕ, ◌+◌, ◌*◌, ◌/◌, ◌^◌, ◌<◌, ◌≤◌, ◌==◌, not, List, [], length, Option, Some, None, refl, sym, ap, subst, ◌∙◌, inl, inr, ⊎_elim, arith}
+use Rattle.std.proofs.Common.{◌≡◌, ℕ, ◌/◌, ◌^◌, ◌<◌, ◌≤◌, ◌==◌, not, List, [], Option, Some, None, refl, sym, ap, subst, ◌∙◌, inr, arith}
 use Rattle.std.specs.List.{list_any}
 use Rattle.spec_file.specs.declared.data.Resource.TheVariants as resource
 use Rattle.spec_file.specs.declared.geometry.Geometry.{Geometry}
 use Rattle.spec_file.specs.declared.geometry.Geometry.TheVariants.{Standard, Small}
+use Rattle.spec_file.specs.declared.pfs.PfsKind.{PfsKind}
 use Rattle.spec_file.specs.declared.pfs.PfsKind.TheVariants.{Iam}
 use Rattle.spec_file.specs.Image.{page}
 use Rattle.spec_file.specs.Pfs.{expected, is_allocated_byte}
@@ -18,14 +19,15 @@ use Rattle.spec_alloc.specs.Objects.{new_chain}
 use Rattle.spec_extents.specs.Extents.{Fits}
 use Rattle.spec_steps.specs.AtMost.{page_of, either, maps_of}
 use Rattle.spec_steps.specs.IamPages.{IsOnlyIam}
+use Rattle.spec_steps.specs.Taking.{IsTakenAs}
 use Rattle.law_frames.proofs.Held.{IsStart}
 use Rattle.law_net.specs.GoodViews.{Leads}
 use Rattle.law_net.proofs.WordLaws.{leads_then, leads_give, leads_good, leads_look, leads_weaker}
 use Rattle.law_alloc.proofs.Objects.{none_leads}
-use Rattle.law_kept.specs.Singles.{TakesIam}
+use Rattle.law_kept.specs.Singles.{TakesIam, ChainIsTaken}
 use Rattle.law_kept.proofs.Steps.{IsFile, page_in, Goes, goes_both}
 use Rattle.law_kept.proofs.Words.{page_goes}
-use Rattle.law_kept.proofs.Singles.{AreBare, Finds, Takes, single_goes, page_extent}
+use Rattle.law_kept.proofs.Singles.{AreBare, Finds, Takes, single_goes, page_extent, bare_from, file_of, start_of}
 use Rattle.law_kept.proofs.Steps.{extent_in}
 use Rattle.law_kept.proofs.NewPages.{page_long, only_iam, whole_put}
 
@@ -36,10 +38,28 @@ taken_reads standing p v =
     leads_then (look (resource.Page (record { 0 = p })) p) _ v K (leads_look (resource.Page (record { 0 = p })) p v _ (λ free.
     leads_then (where_good (not (list_any (λ q. q == p) standing)) p) _ v K (leads_good (not (list_any (λ q. q == p) standing)) p v _ (λ good. leads_give p v K (refl, refl)))))
 
+-- what is taken as such a page is so still where a page is written
+pub taken_on : (shape : FileShape) (r p : ℕ) (kind : PfsKind) (w x : View) → p < shape.pages → IsFile shape w.now → Goes shape (page_of r) w x → IsTakenAs shape.geometry w.now p kind →
+    IsTakenAs shape.geometry x.now p kind
+taken_on shape r p kind w x inside f put taken =
+    let g = shape.geometry in
+    let extent = extent_in shape w.now (p / 8) f (page_extent shape w p f inside) in
+    let mixed = put.most.mixed (p / 8) extent (λ c. c) in record {
+      free = put.most.free (p / 8) extent (λ c. c) ∙ taken.free;
+      mixed = (
+        λ m. let o = taken.mixed.0 (sym mixed ∙ m) in (o.0, o.1, o.2, same_open extent o.0 o.1 ∙ o.3),
+        λ o. mixed ∙ taken.mixed.1 (o.0, o.1, o.2, sym (same_open extent o.0 o.1) ∙ o.3),
+      );
+      byte = subst (λ b. Fits b kind) (sym (put.most.bytes p (page_in shape w.now p f inside) (λ c. c))) taken.byte;
+    }
+  where
+    same_open : p / 8 < extent_count w.now → (q : ℕ) → q / 8 ≡ p / 8 → is_allocated shape.geometry x.now q ≡ is_allocated shape.geometry w.now q
+    same_open inside q at = ap is_allocated_byte (put.most.bytes q (omega (arith, inside, at)) (λ c. c))
+
 iam_fits : (byte : ℕ) → byte ≡ expected Iam 0 → Fits byte Iam
 iam_fits byte same = subst (λ b. Fits b Iam) (sym same) (record { flags = refl; fullness = λ holds. refl })
 
-number_low : (g : Geometry) (p n : ℕ) → p < n → n ≤ page_limit g → p < 256 ^ 4
+pub number_low : (g : Geometry) (p n : ℕ) → p < n → n ≤ page_limit g → p < 256 ^ 4
 number_low Standard p n low few = omega (arith, low, few)
 number_low Small p n low few = omega (arith, low, few)
 
@@ -49,39 +69,26 @@ module _ (shape : FileShape) (id : ℕ) (v : View) (f : IsFile shape v.now) (sta
 
   page_put : (q : ℕ) (w : View) → Takes shape v f start bare (expected Iam 0) q w → Leads (put_page q (new_iam_page id q 0 0 0)) w (λ u x. Chains q x)
   page_put q w h =
-      let g = shape.geometry in
       let takeable = h.0 in
       let t = h.1 in
       let goes = t.goes in
       let after = goes.file in
       let inside : q < shape.pages = subst (λ n. q < n) f.pages takeable.inside in
-      let extent = extent_in shape w.now (q / 8) after (page_extent shape v q f inside) in
       let file = f.file in
-      let low = number_low g q shape.pages inside file.high in
+      let low = number_low shape.geometry q shape.pages inside file.high in
       leads_weaker (put_page q (new_iam_page id q 0 0 0)) w _ (λ u x. Chains q x) (λ u x k.
-      let put = k.0 in
       let is : page x.now q ≡ new_iam_page id q 0 0 0 =
       k.1 ∙ whole_put (page w.now q) (new_iam_page id q 0 0 0) (page_long id q low_id low ∙ sym (after.whole q [] (page_in shape w.now q after inside))) in
-      let both = goes_both shape (maps_of q) (page_of q) v w x goes put in
-      let byte = put.most.bytes in
-      let mixed = put.most.mixed (q / 8) extent (λ c. c) in (both, record {
-        takeable = takeable;
-        most = both.most;
-        taken = record {
-          free = put.most.free (q / 8) extent (λ c. c) ∙ t.free;
-          mixed = (
-            λ m. let o = t.mixed.0 (sym mixed ∙ m) in (o.0, o.1, o.2, same_open w x q extent put o.0 o.1 ∙ o.3),
-            λ o. mixed ∙ t.mixed.1 (o.0, o.1, o.2, sym (same_open w x q extent put o.0 o.1) ∙ o.3),
-          );
-          byte = iam_fits (pfs_byte g x.now q) (byte q (page_in shape w.now q after inside) (λ c. c) ∙ t.byte);
-        };
-        new = subst (IsOnlyIam id q) (sym is) (only_iam id q low_id low);
-      }))
+      let both = goes_both shape (maps_of q) (page_of q) v w x goes k.0 in (
+        both,
+        record {
+          takeable = takeable;
+          most = both.most;
+          taken = taken_on shape q q Iam w x inside after k.0 (record { free = t.free; mixed = t.mixed; byte = iam_fits (pfs_byte shape.geometry w.now q) t.byte });
+          new = subst (IsOnlyIam id q) (sym is) (only_iam id q low_id low);
+        },
+      ))
       (page_goes shape (resource.Page (record { 0 = q })) q 0 (new_iam_page id q 0 0 0) w inside (inr takeable.ordinary) after)
-    where
-      same_open : (w x : View) (q : ℕ) → q / 8 < extent_count w.now → Goes shape (page_of q) w x → (p : ℕ) → p / 8 ≡ q / 8 →
-          is_allocated shape.geometry x.now p ≡ is_allocated shape.geometry w.now p
-      same_open w x q inside put p at = ap is_allocated_byte (put.most.bytes p (omega (arith, inside, at)) (λ c. c))
 
   pub chain_goes : Leads (new_chain shape id) v Chains
   chain_goes =
@@ -99,3 +106,7 @@ module _ (shape : FileShape) (id : ℕ) (v : View) (f : IsFile shape v.now) (sta
           leads_then (put_page q (new_iam_page id q 0 0 0)) _ x Chains (leads_weaker (put_page q (new_iam_page id q 0 0 0)) x (λ u y. Chains q y) _ (λ u y l. leads_give q y Chains l)
           (subst (λ y. Leads (put_page q (new_iam_page id q 0 0 0)) y (λ u z. Chains q z)) (sym k.1) (page_put q w h))))
           (taken_reads [] q w))))
+
+pub chain_is_taken : ChainIsTaken
+chain_is_taken v id low clean =
+    leads_weaker (new_chain v.shape id) v _ _ (λ q w h. h.1) (chain_goes v.shape id v (file_of v clean) (start_of v clean) (bare_from v clean.others) low)

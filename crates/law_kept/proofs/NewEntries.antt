@@ -1,6 +1,6 @@
 -- The entry of a new heap: its bytes are those of a row, and no other entry has its id or its name.
-use Rattle.std.proofs.Common.{◌≡◌, ◌≢◌, ℕ, zero, suc, ◌+◌, ◌-◌, ◌*◌, ◌^◌, ◌<◌, ◌≤◌, ◌==◌, ◌&&◌, not, Bool, true, false, List, [], ◌∷◌, ◌++◌, length, take, drop, map, filter, replicate, Option, Some, None, refl, sym, ap, subst, ◌∙◌, arith, append_assoc, length-append}
-use Rattle.std.specs.Prelude.{IsTrue, bytes_eq, is_some, nat_le, slice_index, slice_range}
+use Rattle.std.proofs.Common.{◌≡◌, ℕ, zero, suc, ◌+◌, ◌-◌, ◌*◌, ◌^◌, ◌<◌, ◌≤◌, ◌==◌, ◌&&◌, not, Bool, true, false, List, [], ◌∷◌, ◌++◌, length, take, drop, map, filter, replicate, Option, Some, None, refl, sym, ap, subst, ◌∙◌, arith, append_assoc, length-append}
+use Rattle.std.specs.Prelude.{bytes_eq, is_some, nat_le, slice_index, slice_range}
 use Rattle.std.specs.List.{list_any, list_all, range_with_len}
 use Rattle.std.proofs.lemmas.Bool.{and_parts, both_ways, eq-eqb, ne_eqb, leb-true, le-leb, not-true}
 use Rattle.std.proofs.lemmas.List.{drop_at, take_at, drop-drop, length-replicate, length-map}
@@ -8,17 +8,16 @@ use Rattle.std.proofs.lemmas.List.Filters.{length-filter_both}
 use Rattle.std.proofs.lemmas.List.FromFn.{length-map-range_with_len}
 use Rattle.std.proofs.lemmas.Slice.Eq.{bytes_eq-Decides}
 use Rattle.byteorder.specs.Endian.{little_bytes}
-use Rattle.spec_file.specs.Catalog.{entry_count, entry_at, entry_id, entry_name, name_length, is_name, is_letter, is_name_byte, is_row, is_zeros, has_kind, has_name, IsUsed}
+use Rattle.spec_file.specs.Catalog.{entry_count, entry_at, entry_id, entry_name, is_name, is_letter, is_name_byte, is_row, is_zeros, has_kind, has_name}
 use Rattle.spec_file.specs.CatalogBytes.{kind_byte, entry_bytes}
-use Rattle.spec_file.specs.CatalogRows.{CatalogRow, is_used, row_of_entry, rows_before, rows_of}
-use Rattle.spec_file.specs.declared.data.Kind.TheVariants.{Heap}
+use Rattle.spec_file.specs.CatalogRows.{CatalogRow, is_used, row_of_entry, rows_of}
 use Rattle.spec_file.specs.Image.{number_at}
 use Rattle.spec_file.proofs.CatalogLaws.{used_row}
 use Rattle.spec_file.proofs.EntryLaws.{Fits, id_back, name_back, name_length_back, row_back, entry_size, row_used}
 use Rattle.spec_plan.specs.Reading.{named_among}
 use Rattle.spec_alloc.specs.Objects.{free_id, free_entry}
 use Rattle.spec_statements.specs.Objects.{new_heap}
-use Rattle.spec_steps.specs.Entries.{IsEntrySet, AddsEntry}
+use Rattle.spec_steps.specs.Entries.{AddsEntry}
 use Rattle.spec_log.specs.Cells.{with_bytes}
 use Rattle.law_alloc.specs.Keeps.{IfFound}
 use Rattle.law_alloc.proofs.Singles.{first_kept}

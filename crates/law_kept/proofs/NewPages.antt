@@ -1,5 +1,5 @@
 -- What a new IAM page says, and a page that is put as a whole.
-use Rattle.std.proofs.Common.{◌≡◌, ℕ, ◌+◌, ◌-◌, ◌*◌, ◌/◌, ◌%◌, ◌^◌, ◌<◌, ◌≤◌, ◌==◌, ◌&&◌, leb, ltb, Bool, true, false, List, length, replicate, drop, ext_get_or, refl, sym, ap, subst, ◌∙◌, inl, inr, arith, length-drop}
+use Rattle.std.proofs.Common.{◌≡◌, ℕ, ◌+◌, ◌-◌, ◌*◌, ◌/◌, ◌%◌, ◌^◌, ◌<◌, ◌≤◌, ◌==◌, ◌&&◌, leb, ltb, true, List, length, replicate, drop, ext_get_or, refl, sym, ap, subst, ◌∙◌, inl, inr, arith, length-drop}
 use Rattle.std.specs.Prelude.{slice_index}
 use Rattle.std.specs.Int.{bit_at}
 use Rattle.std.proofs.lemmas.Bool.{cases_lt, cond_both, eq-eqb}
@@ -7,11 +7,9 @@ use Rattle.std.proofs.lemmas.Bool.Decides.{nat_tests}
 use Rattle.std.proofs.lemmas.List.{get_or-replicate, get_or_past, get_or-drop, length-replicate}
 use Rattle.std.proofs.lemmas.List.FromFn.{length-map-range_with_len, get_or-map-range_with_len}
 use Rattle.std.proofs.lemmas.Nat.Bits.{bit_at-zero}
-use Rattle.byteorder.specs.Endian.{little_bytes, little_number}
 use Rattle.byteorder.specs.Numbers.{little_number-reads_back}
 use Rattle.spec_file.specs.declared.page_type.TheConstants.{IAM_TYPE}
 use Rattle.spec_file.specs.Header.{says, page_id}
-use Rattle.spec_file.specs.Iam.{single_slot_count, iam_slot, iam_mark}
 use Rattle.spec_file.specs.Image.{number_at, page_size}
 use Rattle.spec_log.specs.Cells.{with_bytes, byte_with}
 use Rattle.spec_alloc.specs.Chains.{new_iam_page}

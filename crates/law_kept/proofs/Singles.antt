@@ -1,8 +1,8 @@
 -- A single page that is found is taken.
-use Rattle.std.proofs.Common.{◌≡◌, ◌↔◌, ◌⊎◌, ℕ, ◌+◌, ◌*◌, ◌/◌, ◌%◌, ◌<◌, ◌==◌, ◌&&◌, ◌||◌, not, Bool, true, false, List, length, Option, Some, None, refl, sym, ap, subst, ◌∙◌, inl, inr, ⊎_elim, arith}
-use Rattle.std.specs.Prelude.{if◌then◌else◌, IsTrue, is_some}
+use Rattle.std.proofs.Common.{◌≡◌, ◌↔◌, ◌⊎◌, ℕ, ◌+◌, ◌*◌, ◌/◌, ◌%◌, ◌<◌, ◌||◌, not, Bool, true, false, length, Option, Some, None, refl, sym, ap, subst, ◌∙◌, inl, inr, ⊎_elim, arith}
+use Rattle.std.specs.Prelude.{if◌then◌else◌, IsTrue}
 use Rattle.std.specs.List.{list_any, range_with_len}
-use Rattle.std.proofs.lemmas.Bool.{and_parts, cond_both, both_ways, cases_eq, not-true, or_cases, false_from_ne_true}
+use Rattle.std.proofs.lemmas.Bool.{and_parts, cond_both, both_ways, not-true}
 use Rattle.std.proofs.lemmas.List.Folds.{Any-from_list_any, list_any_at}
 use Rattle.std.proofs.lemmas.List.FromFn.{length-range_with_len, get_or-range_with_len}
 use Rattle.spec_file.specs.declared.data.Resource.TheVariants as resource
@@ -29,7 +29,7 @@ use Rattle.law_alloc.proofs.Searches.{sees_reads, leads_from, search_reads}
 use Rattle.law_alloc.proofs.Singles.{first_kept}
 use Rattle.law_kept.specs.Views.{OthersHoldExtents, IsCleanView}
 use Rattle.law_kept.specs.Singles.{TakesPage, SingleIsTaken}
-use Rattle.law_kept.proofs.Steps.{IsFile, file_shape, page_in, extent_in, Goes, goes_both, goes_within, IsWithin, nothing, nothing_within, goes_nowhere}
+use Rattle.law_kept.proofs.Steps.{IsFile, file_shape, page_in, extent_in, Goes, goes_both, goes_within, nothing, nothing_within, goes_nowhere}
 use Rattle.law_kept.proofs.Words.{take_goes, gam_goes, sgam_goes, pfs_goes}
 
 -- the pages of an extent
@@ -136,20 +136,23 @@ mixed_goes shape value p v inside allocated f mixed free bare =
     let mixed_x = b.most.mixed e low_w (λ c. c) ∙ ap (λ i. is_mixed g i e) h.1 ∙ mixed in
     let free_x = b.most.free e low_w (λ c. c) ∙ ap (λ i. is_free g i e) h.1 ∙ free in
     let opens = λ (q : ℕ) (at : q / 8 ≡ e) (un : is_allocated g x.now q ≡ false). let is : is_allocated g v.now q ≡ false =
-        sym (ap is_allocated_byte (both.most.bytes q (in_extent shape v e q f low at) (λ c. ⊎_elim (λ none. none)
-        (λ here. both_ways (is_allocated g x.now q) un (ap (λ n. is_allocated g x.now n) here ∙ ap is_allocated_byte k.1 ∙ allocated)) c))) ∙ un in is in
+    sym (ap is_allocated_byte (both.most.bytes q (in_extent shape v e q f low at) (λ c. ⊎_elim (λ none. none)
+    (λ here. both_ways (is_allocated g x.now q) un (ap (λ n. is_allocated g x.now n) here ∙ ap is_allocated_byte k.1 ∙ allocated)) c))) ∙ un in is in
     leads_then (lower_sgam shape e) (λ _. give p) x K (leads_weaker (lower_sgam shape e) x _ (λ t y. Leads (give p) y K) (λ t y l.
-    leads_give p y K (refl, record {
-      goes = goes_within shape (either (either nothing (byte_of p)) (mixed_bit e)) (maps_of p) v y (record {
-        free = λ f c. absurd (neither (⊎_elim (λ c. inl (neither c)) (λ c. inr c) c));
-        mixed = λ f c. inr (inl (⊎_elim (λ c. absurd (neither c)) (λ c. c) c));
-        bytes = λ q c. inr (inr (⊎_elim (λ c. ⊎_elim (λ c. absurd c) (λ c. c) c) (λ c. absurd c) c));
-        pages = λ q c. absurd (neither (⊎_elim (λ c. inl (neither c)) (λ c. inr c) c));
-      }) (goes_both shape (either nothing (byte_of p)) (mixed_bit e) v x y both l.0);
-      free = (l.0).most.free e (extent_in shape x.now e b.file low) (λ c. c) ∙ free_x;
-      mixed = l.1;
-      byte = (l.0).most.bytes p (page_in shape x.now p b.file inside) (λ c. c) ∙ k.1;
-    }))
+    leads_give p y K (
+      refl,
+      record {
+        goes = goes_within shape (either (either nothing (byte_of p)) (mixed_bit e)) (maps_of p) v y (record {
+          free = λ f c. absurd (neither (⊎_elim (λ c. inl (neither c)) (λ c. inr c) c));
+          mixed = λ f c. inr (inl (⊎_elim (λ c. absurd (neither c)) (λ c. c) c));
+          bytes = λ q c. inr (inr (⊎_elim (λ c. ⊎_elim (λ c. absurd c) (λ c. c) c) (λ c. absurd c) c));
+          pages = λ q c. absurd (neither (⊎_elim (λ c. inl (neither c)) (λ c. inr c) c));
+        }) (goes_both shape (either nothing (byte_of p)) (mixed_bit e) v x y both l.0);
+        free = (l.0).most.free e (extent_in shape x.now e b.file low) (λ c. c) ∙ free_x;
+        mixed = l.1;
+        byte = (l.0).most.bytes p (page_in shape x.now p b.file inside) (λ c. c) ∙ k.1;
+      },
+    ))
     (lower_goes shape e x low b.file mixed_x (ap (λ o. o extent) both.other ∙ h.2) (bare_on shape v x e both.other opens bare))))
     (pfs_goes shape p value w inside a.file)))
     (take_goes shape extent v f))
@@ -169,19 +172,22 @@ free_goes shape value p v inside allocated f bare =
     let both = goes_both shape (free_bit e) (mixed_bit e) v w x a b in
     let free_x = b.most.free e (extent_in shape w.now e a.file low) (λ c. c) ∙ h.1 in
     let opens = λ (q : ℕ) (at : q / 8 ≡ e) (un : is_allocated g x.now q ≡ false). let is : is_allocated g v.now q ≡ false =
-        sym (ap is_allocated_byte (both.most.bytes q (in_extent shape v e q f low at) neither)) ∙ un in is in
+    sym (ap is_allocated_byte (both.most.bytes q (in_extent shape v e q f low at) neither)) ∙ un in is in
     leads_weaker (of_mixed shape value p) x _ K (λ q y l.
-    let t = l.1 in (l.0, record {
-      goes = goes_within shape (either (either (free_bit e) (mixed_bit e)) (maps_of p)) (maps_of p) v y (record {
-        free = λ f c. ⊎_elim (λ c. ⊎_elim (λ c. inl c) (λ c. absurd c) c) (λ c. c) c;
-        mixed = λ f c. ⊎_elim (λ c. ⊎_elim (λ c. absurd c) (λ c. inr (inl c)) c) (λ c. c) c;
-        bytes = λ q c. ⊎_elim (λ c. absurd (neither c)) (λ c. c) c;
-        pages = λ q c. ⊎_elim (λ c. absurd (neither c)) (λ c. c) c;
-      }) (goes_both shape (either (free_bit e) (mixed_bit e)) (maps_of p) v x y both t.goes);
-      free = t.free;
-      mixed = t.mixed;
-      byte = t.byte;
-    }))
+    let t = l.1 in (
+      l.0,
+      record {
+        goes = goes_within shape (either (either (free_bit e) (mixed_bit e)) (maps_of p)) (maps_of p) v y (record {
+          free = λ f c. ⊎_elim (λ c. ⊎_elim (λ c. inl c) (λ c. absurd c) c) (λ c. c) c;
+          mixed = λ f c. ⊎_elim (λ c. ⊎_elim (λ c. absurd c) (λ c. inr (inl c)) c) (λ c. c) c;
+          bytes = λ q c. ⊎_elim (λ c. absurd (neither c)) (λ c. c) c;
+          pages = λ q c. ⊎_elim (λ c. absurd (neither c)) (λ c. c) c;
+        }) (goes_both shape (either (free_bit e) (mixed_bit e)) (maps_of p) v x y both t.goes);
+        free = t.free;
+        mixed = t.mixed;
+        byte = t.byte;
+      },
+    ))
     (mixed_goes shape value p x inside allocated b.file k.1 free_x (bare_on shape v x e both.other opens bare)))
     (sgam_goes shape e true w low a.file)))
     (gam_goes shape e false v low f))
@@ -216,6 +222,11 @@ pub bare_from : (v : View) → OthersHoldExtents v → AreBare v.shape v
 bare_from v others e inside unmarked q at ordinary un =
     subst (λ f. v.other (resource.Extent (record { 0 = f })) ≡ None → v.other (resource.Byte (record { 0 = q })) ≡ None) at
     (others q (omega (arith, inside, at)) ordinary un (λ marked. unmarked (subst (HasMarker v.shape.geometry v.now) at marked)))
+
+pub bare_same : (shape : FileShape) (v w : View) → w.other ≡ v.other → w.now ≡ v.now → AreBare shape v → AreBare shape w
+bare_same shape v w same now bare e inside unmarked =
+    bare_on shape v w e same (λ q at un. subst (λ image. is_allocated shape.geometry image q ≡ false) now un)
+    (bare e inside (λ m. unmarked (subst (λ image. HasMarker shape.geometry image e) (sym now) m)))
 
 -- what the two searches look for
 record IsSpareOf (shape : FileShape) (v : View) (p : ℕ) : Type 0 where

@@ -1,5 +1,5 @@
 -- What words leave of a view: its file's form, who holds what, and all but a few places of its image.
-use Rattle.std.proofs.Common.{◌≡◌, ℕ, ◌/◌, ◌<◌, length, refl, sym, subst, ◌∙◌, inl, inr}
+use Rattle.std.proofs.Common.{◌≡◌, ℕ, ◌/◌, ◌<◌, length, refl, sym, subst, ◌∙◌}
 use Rattle.spec_file.specs.Image.{Image}
 use Rattle.spec_file.specs.Places.{HasShape, extent_count}
 use Rattle.spec_log.specs.Cells.{HasWholePages}

@@ -1,5 +1,5 @@
 -- What taking a single page, and the page of a new chain, does to an image.
-use Rattle.std.specs.Prelude.{◌≡◌, ◌↔◌, ℕ, ◌/◌, false, true, IsTrue}
+use Rattle.std.specs.Prelude.{◌≡◌, ◌↔◌, ℕ, ◌/◌, ◌^◌, ◌<◌, false, true, IsTrue}
 use Rattle.spec_file.specs.declared.geometry.Geometry.{Geometry}
 use Rattle.spec_file.specs.declared.pfs.PfsKind.TheVariants.{Iam}
 use Rattle.spec_file.specs.Image.{Image, page}
@@ -36,3 +36,8 @@ pub record TakesIam (g : Geometry) (id p : ℕ) (image image' : Image) : Type 0 
   pub most : AtMost g (either (maps_of p) (page_of p)) image image'
   pub taken : IsTakenAs g image' p Iam
   pub new : IsOnlyIam id p (page image' p)
+
+-- where CREATE's first page is given on a clean view, it is taken so
+abbrev pub ChainIsTaken : Type 0
+ChainIsTaken = (view : View) (id : ℕ) → id < 256 ^ 4 → IsCleanView view →
+    Leads (new_chain view.shape id) view (λ p after. TakesIam view.shape.geometry id p view.now after.now)

@@ -1,2 +1,20 @@
 //! Laws of CREATE HEAP and of DROP as they are planned: they are the steps that leave a clean file clean.
 #![tactic(auto)]
+
+ghost use Rattle.law_kept.specs.Creates.{CreateCreates, CreateLeavesMapsClean, CreateLeavesFileClean, CreateLeavesSgamExact};
+ghost use Rattle.law_kept.specs.Singles.{SingleIsTaken, ChainIsTaken};
+
+/// A single page that is found on a clean view is a page that nobody has, and is taken; and so is the page of a new
+/// chain, which is the one IAM page of its object.
+pub fn taking_laws()
+    ensures single { SingleIsTaken }
+    ensures chain { ChainIsTaken }
+{}
+
+/// CREATE HEAP creates a heap, and so leaves clean maps clean, a clean file clean, and SGAM exact.
+pub fn create_laws()
+    ensures creates { CreateCreates }
+    ensures maps { CreateLeavesMapsClean }
+    ensures file { CreateLeavesFileClean }
+    ensures sgam { CreateLeavesSgamExact }
+{}

@@ -6,3 +6,4 @@ pub mod NewChains
 pub mod EntryPages
 pub mod NewEntries
 pub mod Created
+pub mod Freed

@@ -72,7 +72,7 @@ pub bare_on : (shape : FileShape) (v w : View) (e : ℕ) → w.other ≡ v.other
 bare_on shape v w e same opens bare q at ordinary un =
     subst (λ o. o (resource.Extent (record { 0 = e })) ≡ None → o (resource.Byte (record { 0 = q })) ≡ None) (sym same) (bare q at ordinary (opens q at un))
 
-in_extent : (shape : FileShape) (v : View) (e q : ℕ) → IsFile shape v.now → e < shape.pages / 8 → q / 8 ≡ e → q < length v.now
+pub in_extent : (shape : FileShape) (v : View) (e q : ℕ) → IsFile shape v.now → e < shape.pages / 8 → q / 8 ≡ e → q < length v.now
 in_extent shape v e q f inside at = page_in shape v.now q f (omega (arith, inside, at))
 
 -- SGAM is exact of extent e
@@ -116,7 +116,7 @@ pub record IsTaken (shape : FileShape) (value p : ℕ) (v w : View) : Type 0 whe
   pub mixed : IsExact shape (p / 8) w
   pub byte : pfs_byte shape.geometry w.now p ≡ value
 
-neither : ⊥ ⊎ ⊥ → ⊥
+pub neither : ⊥ ⊎ ⊥ → ⊥
 neither h = ⊎_elim (λ x. x) (λ x. x) h
 
 mixed_goes : (shape : FileShape) (value p : ℕ) (v : View) → p < shape.pages → is_allocated_byte value ≡ true → IsFile shape v.now → is_mixed shape.geometry v.now (p / 8) ≡ true →

@@ -7,3 +7,4 @@ pub mod EntryPages
 pub mod NewEntries
 pub mod Created
 pub mod Freed
+pub mod ReadTables

@@ -8,3 +8,4 @@ pub mod NewEntries
 pub mod Created
 pub mod Freed
 pub mod ReadTables
+pub mod Dropping

@@ -55,13 +55,12 @@ pub record IsAt (p : ℕ) (changed : Changed) : Type 0 where
   pub mixed : (e : ℕ) → changed.mixed e → e ≡ p / 8
   pub bytes : (q : ℕ) → changed.bytes q → q ≡ p
 
--- an object of a clean view, all of whose allocated pages are ordinary
+-- an object of a clean view
 pub record IsTable (shape : FileShape) (v : View) (row : CatalogRow) : Type 0 where
   pub file : IsFile shape v.now
   pub start : IsStart shape.geometry v.now
   pub object : IsObject v.now row
   pub bare : AreBare shape v
-  pub ordinary : (p : ℕ) → IsAllocatedTo shape.geometry v.now row p → IsTrue (is_ordinary shape.geometry p)
 
 module _ (shape : FileShape) (v : View) (row : CatalogRow) (table : IsTable shape v row) where
   abbrev f : IsFile shape v.now
@@ -105,10 +104,6 @@ module _ (shape : FileShape) (v : View) (row : CatalogRow) (table : IsTable shap
   own_inside p (inl (inr marked)) = subst (λ n. p < n) f.pages marked.0
   own_inside p (inr chain) = subst (λ q. q < shape.pages) chain.2 (let there = held shape.geometry v.now row chain.0 table.start table.object chain.1 in
       subst (λ n. pointer v.now row chain.0 < n) f.pages there.inside)
-
-  own_ordinary : (p : ℕ) → Own p → IsTrue (is_ordinary shape.geometry p)
-  own_ordinary p (inl allocated) = table.ordinary p allocated
-  own_ordinary p (inr chain) = subst (λ q. IsTrue (is_ordinary shape.geometry q)) chain.2 (held shape.geometry v.now row chain.0 table.start table.object chain.1).ordinary
 
   nine_allocated : is_allocated shape.geometry v.now 9 ≡ true
   nine_allocated =

@@ -9,3 +9,4 @@ pub mod Created
 pub mod Freed
 pub mod ReadTables
 pub mod Dropping
+pub mod PagesDropped

@@ -1,5 +1,5 @@
 -- CREATE HEAP creates an object.
-use Rattle.std.proofs.Common.{◌≡◌, ◌≢◌, ℕ, ◌+◌, ◌*◌, ◌<◌, true, false, List, [], refl, sym, ap, subst, ◌∙◌, inl, inr, ⊎_elim, arith}
+use Rattle.std.proofs.Common.{◌≡◌, ◌≢◌, ℕ, ◌+◌, ◌*◌, ◌<◌, true, false, List, [], refl, sym, ap, subst, ◌∙◌, inl, inr, ⊎_elim}
 use Rattle.std.specs.Prelude.{is_some, if◌then◌else◌}
 use Rattle.std.proofs.lemmas.Bool.{cond_both}
 use Rattle.spec_file.specs.declared.data.Resource.TheVariants as resource
@@ -30,7 +30,7 @@ use Rattle.law_net.proofs.ReadingLeaves.{Reads}
 use Rattle.law_alloc.proofs.Searches.{give_reads, leads_from}
 use Rattle.law_kept.specs.Singles.{TakesIam}
 use Rattle.law_kept.specs.Creates.{CreatesHeap, CreateCreates, CreateLeavesMapsClean, CreateLeavesFileClean, CreateLeavesSgamExact}
-use Rattle.law_kept.proofs.Steps.{IsFile, page_in, Goes, goes_both, goes_within, nothing}
+use Rattle.law_kept.proofs.Steps.{IsFile, page_in, nine_inside, Goes, goes_both, goes_within, nothing}
 use Rattle.law_kept.proofs.Words.{take_goes, page_goes}
 use Rattle.law_kept.proofs.Singles.{AreBare, bare_same, bare_from, file_of, start_of}
 use Rattle.law_kept.proofs.NewChains.{chain_goes, taken_on, number_low}
@@ -47,9 +47,6 @@ record IsReady (boot name : List ℕ) (id i : ℕ) : Type 0 where
   within : i < entry_count
   empty : is_zeros (entry_at boot i) ≡ true
   unnamed : is_some (named_among (rows_of boot) name) ≡ false
-
-nine_inside : (shape : FileShape) (v : View) → IsFile shape v.now → 9 < shape.pages
-nine_inside shape v f = let file = f.file in let low = file.low in omega (arith, low)
 
 module _ (shape : FileShape) (name : List ℕ) (named : is_name name ≡ true) where
   -- the page of the chain is taken, and then the entry is put
@@ -86,7 +83,7 @@ module _ (shape : FileShape) (name : List ℕ) (named : is_name name ≡ true) w
           place = i;
           entry = entry;
           adds = subst (AddsEntry i entry boot) (sym (is ∙ ap (λ b. with_bytes b (96 + 40 * i) entry) same))
-              (heap_added id name q free.some free.low named low boot i (f.whole 9 [] (page_in shape w.now 9 f (nine_inside shape w f))) ready.within ready.empty free.new
+              (heap_added id name q free.some free.low named low boot i (f.whole 9 [] (page_in shape w.now 9 f (nine_inside shape w.now f))) ready.within ready.empty free.new
               (name_is_free (rows_of boot) name ready.unnamed));
           is = sym (heap_back id name q free.some free.low named low);
           first = refl;
@@ -124,7 +121,7 @@ module _ (shape : FileShape) (name : List ℕ) (named : is_name name ≡ true) w
           leads_then (entry_put i (new_heap id name q)) (λ _. give Done) y K
           (leads_weaker (entry_put i (new_heap id name q)) y _ _ (λ s z m. leads_give Done z K
           (subst (λ image. CreatesHeap g name image z.now) now (heap_made id i q w y z file ready_w chained k.1 m.0 m.1)))
-          (page_goes shape resource.Catalog 9 (96 + 40 * i) (entry_bytes (new_heap id name q)) y (nine_inside shape y chained.file) (inl refl) chained.file)))
+          (page_goes shape resource.Catalog 9 (96 + 40 * i) (entry_bytes (new_heap id name q)) y (nine_inside shape y.now chained.file) (inl refl) chained.file)))
           (chain_goes shape id w file start_w bare_w free.low))
 
 pub create_creates : CreateCreates

@@ -1,6 +1,5 @@
 -- What holds while the pages of an object are given back, page by page and extent by extent.
-use Rattle.std.proofs.Common.{◌≡◌, ◌≢◌, ◌⊎◌, ℕ, zero, suc, ◌+◌, ◌*◌, ◌/◌, ◌%◌, ◌<◌, Bool, true, false, length, None, refl, sym, ap, subst, ◌∙◌, inl, inr, ⊎_elim, arith}
-use Rattle.std.specs.Prelude.{IsTrue}
+use Rattle.std.proofs.Common.{◌≡◌, ◌≢◌, ◌⊎◌, ℕ, zero, suc, ◌+◌, ◌/◌, ◌%◌, ◌<◌, true, false, length, None, refl, sym, ap, subst, ◌∙◌, inl, inr, ⊎_elim, arith}
 use Rattle.std.proofs.lemmas.Bool.{cases_Bool, cases_eq, both_ways, false_from_ne_true}
 use Rattle.spec_file.specs.declared.geometry.Geometry.{Geometry}
 use Rattle.spec_file.specs.declared.geometry.Geometry.TheVariants.{Standard, Small}
@@ -8,17 +7,17 @@ use Rattle.spec_file.specs.declared.data.Resource.TheVariants as resource
 use Rattle.spec_file.specs.declared.pfs.PfsKind.TheVariants as kinds
 use Rattle.spec_file.specs.CatalogRows.{CatalogRow}
 use Rattle.spec_file.specs.Pfs.{is_allocated_byte}
-use Rattle.spec_file.specs.Places.{is_free, is_mixed, extent_count}
+use Rattle.spec_file.specs.Places.{is_free}
 use Rattle.spec_file.specs.Roles.{is_ordinary, is_system_extent}
 use Rattle.spec_chain.specs.Chains.{IsObject, pointer}
 use Rattle.spec_chain.specs.Marks.{IsMarked, HasMarker}
-use Rattle.spec_chain.specs.Uses.{Use, IsUse, IsUseBy, IsAllocatedTo, pfs_byte, is_allocated}
+use Rattle.spec_chain.specs.Uses.{IsUseBy, pfs_byte, is_allocated}
 use Rattle.spec_chain.proofs.Pointers.{inside_below}
 use Rattle.spec_check.specs.Pages.{kind_of_role}
 use Rattle.spec_words.specs.NetChanges.{FileShape}
 use Rattle.spec_words.specs.Views.{View}
 use Rattle.spec_extents.specs.Extents.{extent_of, HoldsUse, IsGoodExtent}
-use Rattle.spec_steps.specs.AtMost.{Changed, free_bit, byte_of, either, maps_of}
+use Rattle.spec_steps.specs.AtMost.{Changed, either}
 use Rattle.spec_steps.specs.Freeing.{HasAllocated, IsFreedShared}
 use Rattle.spec_steps.specs.Tables.{Has, UsesOf}
 use Rattle.law_extents.proofs.GoodKinds.{all_ordinary, boot_allocated, boot_role, zero_not}
@@ -26,7 +25,7 @@ use Rattle.law_frames.proofs.Held.{IsStart, goods, held}
 use Rattle.law_kept.specs.Drops.{maps_dropped}
 use Rattle.law_kept.proofs.Steps.{IsFile, page_in, extent_in, Goes, goes_both, goes_within, IsWithin, nothing, nothing_within, goes_nowhere}
 use Rattle.law_kept.proofs.Singles.{AreBare}
-use Rattle.law_kept.proofs.Freed.{IsUnheldOf, FreesShared, FreesMarked}
+use Rattle.law_kept.proofs.Freed.{IsUnheldOf, freed_same}
 
 -- every page of the boot page's extent but that one is ordinary
 eight_ordinary : (g : Geometry) (r : ℕ) → r < 8 → r ≢ 1 → is_ordinary g (8 + r) ≡ true
@@ -182,18 +181,9 @@ module _ (shape : FileShape) (v : View) (row : CatalogRow) (table : IsTable shap
     same_free : (e : ℕ) → e < shape.pages / 8 → e ≢ p / 8 → is_free shape.geometry x.now e ≡ is_free shape.geometry w.now e
     same_free e low other = step.most.free e (extent_in shape w.now e file low) (λ c. other (at.free e c))
 
-    same_mixed : (e : ℕ) → e < shape.pages / 8 → e ≢ p / 8 → is_mixed shape.geometry x.now e ≡ is_mixed shape.geometry w.now e
-    same_mixed e low other = step.most.mixed e (extent_in shape w.now e file low) (λ c. other (at.mixed e c))
-
     still_freed : (e : ℕ) → e < shape.pages / 8 → e ≢ p / 8 → IsFreedShared shape.geometry w.now e → IsFreedShared shape.geometry x.now e
-    still_freed e low other old =
-        let free = same_free e low other in
-        let mixed = same_mixed e low other in
-        let back : HasAllocated shape.geometry x.now e → HasAllocated shape.geometry w.now e = λ h. (h.0, h.1, sym (ap is_allocated_byte (same_byte e h.0 low h.1 other)) ∙ h.2) in
-        let on : HasAllocated shape.geometry w.now e → HasAllocated shape.geometry x.now e = λ h. (h.0, h.1, ap is_allocated_byte (same_byte e h.0 low h.1 other) ∙ h.2) in record {
-          free = ((λ h has. old.free.0 (sym free ∙ h) (back has)), (λ none. free ∙ old.free.1 (λ has. none (on has))));
-          mixed = ((λ h. on (old.mixed.0 (sym mixed ∙ h))), (λ has. mixed ∙ old.mixed.1 (back has)));
-        }
+    still_freed e low other =
+        freed_same shape.geometry w.now x.now e (same_free e low other) (step.most.mixed e (extent_in shape w.now e file low) (λ c. other (at.mixed e c))) (λ q there. same_byte e q low there other)
 
     was_allocated : (q : ℕ) → q < shape.pages → is_allocated shape.geometry x.now q ≡ true → is_allocated shape.geometry w.now q ≡ true
     was_allocated q low allocated = ⊎_elim (λ same. sym (ap is_allocated_byte same) ∙ allocated) (λ none. absurd (zero_not (pfs_byte shape.geometry x.now q) none allocated)) (fall q low)

@@ -1,14 +1,16 @@
 -- A page is given back: of a mixed extent, or of a marked one.
-use Rattle.std.proofs.Common.{◌≡◌, ◌≢◌, ◌↔◌, ◌⊎◌, ℕ, ◌*◌, ◌/◌, ◌<◌, ◌||◌, Bool, true, false, Option, Some, None, refl, sym, ap, subst, ◌∙◌, inl, inr, ⊎_elim, arith}
-use Rattle.std.specs.Prelude.{IsTrue, is_some, if◌then◌else◌}
-use Rattle.std.proofs.lemmas.Bool.{cases_Bool, cases_eq, cond_both, both_ways, or_cases, or_left}
+use Rattle.std.proofs.Common.{◌≡◌, ◌≢◌, ◌⊎◌, ℕ, ◌/◌, ◌<◌, ◌||◌, Bool, true, false, Option, Some, None, refl, sym, ap, subst, ◌∙◌, inl, inr, ⊎_elim}
+use Rattle.std.specs.Prelude.{is_some}
+use Rattle.std.proofs.lemmas.Bool.{cases_Bool, cases_eq, both_ways, or_left}
 use Rattle.spec_file.specs.declared.data.Resource.TheVariants as resource
+use Rattle.spec_file.specs.declared.geometry.Geometry.{Geometry}
+use Rattle.spec_file.specs.Image.{Image}
 use Rattle.spec_file.specs.Pfs.{is_allocated_byte}
 use Rattle.spec_file.specs.Places.{is_free, is_mixed}
 use Rattle.spec_chain.specs.Uses.{pfs_byte, is_allocated}
 use Rattle.spec_words.specs.NetChanges.{FileShape}
-use Rattle.spec_words.specs.Views.{View, Plan}
-use Rattle.spec_words.specs.Words.{◌then◌, give, sees, take, put_gam, put_sgam, put_pfs}
+use Rattle.spec_words.specs.Views.{View}
+use Rattle.spec_words.specs.Words.{give, sees, take, put_gam, put_sgam, put_pfs}
 use Rattle.spec_alloc.specs.Search.{gam_read, sgam_read, pfs_read, is_held, counts_as_allocated}
 use Rattle.spec_alloc.specs.Freeing.{is_in_use, put_bits, shared_freed, extent_freed, marked_freed}
 use Rattle.spec_alloc.specs.Objects.{left_freed}
@@ -52,6 +54,16 @@ pub record FreesShared (shape : FileShape) (p : ℕ) (v w : View) : Type 0 where
   pub byte : pfs_byte shape.geometry w.now p ≡ 0
   pub unheld : v.other (resource.Byte (record { 0 = p })) ≡ None
   pub freed : IsFreedShared shape.geometry w.now (p / 8)
+
+-- what is said of an extent of single pages stays where its bits and bytes stay
+pub freed_same : (g : Geometry) (image image' : Image) (e : ℕ) → is_free g image' e ≡ is_free g image e → is_mixed g image' e ≡ is_mixed g image e →
+    ((q : ℕ) → q / 8 ≡ e → pfs_byte g image' q ≡ pfs_byte g image q) → IsFreedShared g image e → IsFreedShared g image' e
+freed_same g image image' e free mixed bytes old =
+    let back : HasAllocated g image' e → HasAllocated g image e = λ h. (h.0, h.1, sym (ap is_allocated_byte (bytes h.0 h.1)) ∙ h.2) in
+    let on : HasAllocated g image e → HasAllocated g image' e = λ h. (h.0, h.1, ap is_allocated_byte (bytes h.0 h.1) ∙ h.2) in record {
+      free = ((λ h has. old.free.0 (sym free ∙ h) (back has)), (λ none. free ∙ old.free.1 (λ has. none (on has))));
+      mixed = ((λ h. on (old.mixed.0 (sym mixed ∙ h))), (λ has. mixed ∙ old.mixed.1 (back has)));
+    }
 
 -- what the maps say where nothing is left to allocate, and where something is
 freed_from : (shape : FileShape) (e : ℕ) (v w : View) → ((q : ℕ) → q / 8 ≡ e → is_allocated shape.geometry w.now q ≡ is_allocated shape.geometry v.now q) →
@@ -109,13 +121,17 @@ shared_goes shape p v inside f unheld busy =
     let put = k.0 in
     let both = goes_both shape nothing (byte_of p) v w x taken put in
     let same = λ (q : ℕ) (at : q / 8 ≡ e) (other : q ≢ p). let is : pfs_byte g x.now q ≡ pfs_byte g v.now q =
-        both.most.bytes q (in_extent shape v e q f low at) (λ c. ⊎_elim (λ c. c) (λ here. other here) c) in is in
+    both.most.bytes q (in_extent shape v e q f low at) (λ c. ⊎_elim (λ c. c) (λ here. other here) c) in is in
     let unheld_x : IsUnheldOf shape x e = (λ q at un free. ap (λ o. o (resource.Byte (record { 0 = q }))) both.other ∙ ⊎_elim
-        (λ here. ap (λ n. v.other (resource.Byte (record { 0 = n }))) here ∙ ap (λ o. o (resource.Byte (record { 0 = p }))) (sym taken.other) ∙ k.2)
-        (λ other. unheld q at (sym (ap is_allocated_byte (same q at other)) ∙ un) h.2) (cases_eq q p)) in
-    let was : HasAllocated g x.now e → HasAllocated g v.now e = (λ has. (has.0, has.1, ⊎_elim
-        (λ here. absurd (zero_not (pfs_byte g x.now has.0) (ap (pfs_byte g x.now) here ∙ k.1) has.2))
-        (λ other. sym (ap is_allocated_byte (same has.0 has.1 other)) ∙ has.2) (cases_eq has.0 p))) in
+    (λ here. ap (λ n. v.other (resource.Byte (record { 0 = n }))) here ∙ ap (λ o. o (resource.Byte (record { 0 = p }))) (sym taken.other) ∙ k.2)
+    (λ other. unheld q at (sym (ap is_allocated_byte (same q at other)) ∙ un) h.2) (cases_eq q p)) in
+    let was : HasAllocated g x.now e → HasAllocated g v.now e = (λ has. (
+      has.0,
+      has.1,
+      ⊎_elim
+          (λ here. absurd (zero_not (pfs_byte g x.now has.0) (ap (pfs_byte g x.now) here ∙ k.1) has.2))
+          (λ other. sym (ap is_allocated_byte (same has.0 has.1 other)) ∙ has.2) (cases_eq has.0 p),
+    )) in
     leads_from (sees (is_in_use shape e)) (put_bits shape e) x (λ b. is_in_use shape e x ≡ b) K (sees_reads (is_in_use shape e) x (λ b. is_in_use shape e x ≡ b) refl) (λ in_use is.
     leads_weaker (put_bits shape e in_use) x _ K (λ t y l.
     let bits = l.0 in record {

@@ -10,3 +10,4 @@ pub mod Freed
 pub mod ReadTables
 pub mod Dropping
 pub mod PagesDropped
+pub mod Dropped

@@ -1,24 +1,24 @@
 -- All that an object has is given back.
-use Rattle.std.proofs.Common.{◌≡◌, ◌≢◌, ◌⊎◌, ℕ, zero, ◌+◌, ◌*◌, ◌/◌, ◌%◌, ◌<◌, ◌==◌, ◌&&◌, ◌||◌, not, Bool, true, false, List, [], ◌∷◌, filter, map, length, Contains, Option, Some, None, refl, sym, ap, subst, ◌∙◌, inl, inr, ⊎_elim, arith}
+use Rattle.std.proofs.Common.{◌≡◌, ◌≢◌, ◌⊎◌, ℕ, zero, ◌*◌, ◌/◌, ◌%◌, ◌<◌, ◌==◌, ◌&&◌, ◌||◌, not, Bool, true, false, List, [], ◌∷◌, length, Contains, Option, Some, None, refl, sym, ap, subst, ◌∙◌, inl, inr, ⊎_elim, arith}
 use Rattle.std.specs.Prelude.{IsTrue, is_some, if◌then◌else◌}
 use Rattle.std.specs.List.{list_any, range_with_len}
-use Rattle.std.proofs.lemmas.Bool.{and_parts, and_from, cond_both, both_ways, cases_eq, or_cases, or_left, or_right, false_from_ne_true, not_from_false, eqb-true, eq-eqb}
+use Rattle.std.proofs.lemmas.Bool.{and_parts, and_from, both_ways, cases_eq, or_cases, or_left, or_right, false_from_ne_true, not_from_false, eqb-true}
 use Rattle.spec_file.specs.declared.data.Resource.TheVariants as resource
 use Rattle.spec_file.specs.declared.geometry.Geometry.{Geometry}
 use Rattle.spec_file.specs.CatalogRows.{CatalogRow}
 use Rattle.spec_file.specs.Iam.{single_slot_count, iam_interval, iam_mark, iam_slots}
-use Rattle.spec_file.specs.Image.{Image, page}
+use Rattle.spec_file.specs.Image.{page}
 use Rattle.spec_file.specs.Pfs.{is_allocated_byte}
 use Rattle.spec_file.specs.Places.{is_free, interval_size, interval_of_page}
 use Rattle.spec_file.specs.Roles.{is_ordinary}
-use Rattle.spec_chain.specs.Chains.{IsObject, IsInChain, pointer}
+use Rattle.spec_chain.specs.Chains.{IsInChain, pointer}
 use Rattle.spec_chain.specs.Marks.{IsMarked}
 use Rattle.spec_chain.specs.Uses.{IsUseBy, IsAllocatedTo, pfs_byte, is_allocated}
 use Rattle.spec_chain.proofs.ChainLaws.{below_page, page_below}
-use Rattle.spec_check.proofs.Members.{nothing_there, cons_here, cons_there, filter_from, filter_in, map_from, map_in, range_from, range_in}
-use Rattle.spec_plan.specs.Reading.{first_page, is_single, is_marked}
+use Rattle.spec_check.proofs.Members.{cons_here, cons_there, filter_from, filter_in, map_from, map_in, range_from, range_in}
+use Rattle.spec_plan.specs.Reading.{is_single, is_marked}
 use Rattle.spec_words.specs.NetChanges.{FileShape, extents_of, pages_of}
-use Rattle.spec_words.specs.Views.{View, Plan}
+use Rattle.spec_words.specs.Views.{View}
 use Rattle.spec_words.specs.Words.{◌then◌, give, sees, where_good, for_each}
 use Rattle.spec_words.specs.Tables.{byte_pages, object_pages}
 use Rattle.spec_alloc.specs.Search.{is_held, counts_as_allocated}
@@ -31,14 +31,14 @@ use Rattle.spec_steps.specs.Tables.{Has, UsesOf}
 use Rattle.law_chains.specs.Laws.{chain_pages, IsWhole}
 use Rattle.law_chains.proofs.Allocated.{some_page, first_is, slot_from, slot_in, mark_from, mark_in, pages_are_allocated}
 use Rattle.law_extents.proofs.GoodKinds.{zero_not}
-use Rattle.law_frames.proofs.Held.{IsStart, held}
+use Rattle.law_frames.proofs.Held.{held}
 use Rattle.law_net.specs.GoodViews.{Leads}
 use Rattle.law_net.proofs.WordLaws.{leads_then, leads_give, leads_weaker}
 use Rattle.law_alloc.proofs.Searches.{sees_reads, leads_from}
 use Rattle.law_kept.specs.Drops.{maps_dropped, GivesBack, PagesAreGivenBack}
-use Rattle.law_kept.proofs.Steps.{IsFile, page_in, extent_in, IsWithin}
-use Rattle.law_kept.proofs.Singles.{any_from, page_extent, neither, file_of, start_of, bare_from, AreBare}
-use Rattle.law_kept.proofs.Freed.{FreesShared, FreesMarked, shared_goes, marked_goes, left_goes, IsUnheldOf}
+use Rattle.law_kept.proofs.Steps.{IsFile, page_in, extent_in, Goes, IsWithin}
+use Rattle.law_kept.proofs.Singles.{any_from, page_extent, neither, file_of, start_of, bare_from}
+use Rattle.law_kept.proofs.Freed.{shared_goes, marked_goes, left_goes}
 use Rattle.law_kept.proofs.ReadTables.{each_does, each_tested, IsReadChain, chain_now_reads}
 use Rattle.law_kept.proofs.Dropping.{IsTable, Drops, IsDone, IsAt, BytesFall, Settles, drops_none, drops_on, done_on, not_both, use_owns, own_inside}
 
@@ -83,7 +83,7 @@ module _ (shape : FileShape) (v : View) (row : CatalogRow) (table : IsTable shap
         bytes = λ q c. ⊎_elim (λ c. absurd c) (λ c. ⊎_elim (λ c. absurd c) (λ c. c) c) c;
       } in
       let same = λ (q : ℕ) (inside_ : q < shape.pages) (other : q ≢ p). let is : pfs_byte g x.now q ≡ pfs_byte g w.now q =
-          moved.most.bytes q (page_in shape w.now q goes.file inside_) (λ c. other (at.bytes q c)) in is in
+      moved.most.bytes q (page_in shape w.now q goes.file inside_) (λ c. other (at.bytes q c)) in is in
       let settles : Settles shape v row table p x = record {
         freed = step.freed;
         unheld = λ q there un free. ap (λ o. o (resource.Byte (record { 0 = q }))) moved.other ∙ ⊎_elim
@@ -121,7 +121,7 @@ module _ (shape : FileShape) (v : View) (row : CatalogRow) (table : IsTable shap
         pages = λ q c. neither c;
       } in
       let fall : BytesFall shape v row table w x = λ q inside_. ⊎_elim (λ here. inr (ap (pfs_byte g x.now) here ∙ step.byte))
-          (λ other. inl (moved.most.bytes q (page_in shape w.now q goes.file inside_) (λ c. other (at.bytes q c)))) (cases_eq q p) in
+      (λ other. inl (moved.most.bytes q (page_in shape w.now q goes.file inside_) (λ c. other (at.bytes q c)))) (cases_eq q p) in
       let settles = λ (uses : UsesOf g v.now row (p / 8)). absurd {A = Settles shape v row table p x} (not_both shape v row table (p / 8) low uses marked) in (
         drops_on shape v row table p c w x inside drops moved within at fall settles,
         record { inside = inside; byte = step.byte; shared = λ place by. absurd (not_both shape v row table (p / 8) low (p, refl, place, by) marked) },
@@ -233,6 +233,9 @@ module _ (v : View) (row : CatalogRow) (table : IsTable v.shape v row) (n : ℕ)
   chain_step q w there drops = shared_step v.shape v row table q single_slot_count w (inr (refl, in_chain q there)) drops
 
   -- all that the object has is given back
+  abbrev pub Back : Unit {0} → View → Type 0
+  Back u y = Goes v.shape (maps_dropped v.shape.geometry v.now row) v y × GivesBack v.shape.geometry v.now y.now row
+
   abbrev AllGiven : View → Type 0
   AllGiven w = (p : ℕ) → Has v.shape.geometry v.now row p → Given p w
 
@@ -277,22 +280,25 @@ module _ (v : View) (row : CatalogRow) (table : IsTable v.shape v row) (n : ℕ)
 
     -- the extents that are left
     left_goes_all : (z : View) → Falls z → AllGiven z → ((p : ℕ) → IsAllocatedTo v.shape.geometry v.now row p → IsTrue (is_ordinary v.shape.geometry p)) →
-        Leads (sees (left_extents v.shape (chain_pages v.now row n)) then for_each (left_freed v.shape)) z (λ u y. GivesBack v.shape.geometry v.now y.now row)
+        Leads (sees (left_extents v.shape (chain_pages v.now row n)) then for_each (left_freed v.shape)) z Back
     left_goes_all z drops given ordinary =
-        let K : Unit {0} → View → Type 0 = λ u y. GivesBack v.shape.geometry v.now y.now row in
+        let K : Unit {0} → View → Type 0 = Back in
         let left = left_extents v.shape (chain_pages v.now row n) in
         leads_from (sees left) (for_each (left_freed v.shape)) z (λ es. es ≡ left z) K (sees_reads left z (λ es. es ≡ left z) refl) (λ es same.
         leads_weaker (for_each (left_freed v.shape) es) z _ K (λ u y l.
         let file = table.file in
         let end = l.0.0 in
-        let goes = end.goes in record {
-          ordinary = ordinary;
-          most = goes.most;
-          bytes = λ p inside own. let gone = l.0.1 p own in gone.byte;
-          marked = λ e low marked. (l.1 e (subst (λ list. Contains list e) (sym same) (left_in e z (subst (λ m. e < m / 8) file.pages low) marked drops given))).1;
-          shared = λ e low uses. let gone = l.0.1 uses.0 (use_owns v.shape v row table uses.0 uses.2 uses.3) in
-              subst (IsFreedShared v.shape.geometry y.now) uses.1 (gone.shared uses.2 uses.3);
-        })
+        let goes = end.goes in (
+          goes,
+          record {
+            ordinary = ordinary;
+            most = goes.most;
+            bytes = λ p inside own. let gone = l.0.1 p own in gone.byte;
+            marked = λ e low marked. (l.1 e (subst (λ list. Contains list e) (sym same) (left_in e z (subst (λ m. e < m / 8) file.pages low) marked drops given))).1;
+            shared = λ e low uses. let gone = l.0.1 uses.0 (use_owns v.shape v row table uses.0 uses.2 uses.3) in
+                subst (IsFreedShared v.shape.geometry y.now) uses.1 (gone.shared uses.2 uses.3);
+          },
+        ))
         (each_does (left_freed v.shape) es (λ y. Falls y × AllGiven y) (Freed v.shape v row table) z (λ e y there keeps.
         let at = left_from e z drops (subst (λ list. Contains list e) same there) in
         leads_weaker (left_freed v.shape e) y _ _ (λ u x h. ((h.0.0, (λ p own. h.0.1 p (keeps.1 p own))), h.1, h.2)) (left_step v.shape v row table e y at.0 at.1 keeps.0))
@@ -302,16 +308,16 @@ module _ (v : View) (row : CatalogRow) (table : IsTable v.shape v row) (n : ℕ)
         for_each (λ p. where_good (is_ordinary v.shape.geometry p) p) pages then (λ _.
         for_each (page_dropped v.shape (chain_pages v.now row n)) pages then (λ _.
         for_each (shared_freed v.shape) (chain_pages v.now row n) then (λ _.
-        sees (left_extents v.shape (chain_pages v.now row n)) then for_each (left_freed v.shape)))))) v (λ u y. GivesBack v.shape.geometry v.now y.now row)
+        sees (left_extents v.shape (chain_pages v.now row n)) then for_each (left_freed v.shape)))))) v Back
     pages_go =
-        let K : Unit {0} → View → Type 0 = λ u y. GivesBack v.shape.geometry v.now y.now row in
+        let K : Unit {0} → View → Type 0 = Back in
         let mine = object_pages v.shape (chain_pages v.now row n) in
         let file = table.file in
         leads_from (sees mine) _ v (λ pages. pages ≡ mine v) K (sees_reads mine v (λ pages. pages ≡ mine v) refl) (λ pages same.
         let from = λ (p : ℕ) (there : Contains pages p). let is : IsAllocatedTo v.shape.geometry v.now row p =
-            (pages_are_allocated v row n p file.pages whole).0 (subst (λ list. Contains list p) same there) in is in
+        (pages_are_allocated v row n p file.pages whole).0 (subst (λ list. Contains list p) same there) in is in
         let into = λ (p : ℕ) (allocated : IsAllocatedTo v.shape.geometry v.now row p). let there : Contains pages p =
-            subst (λ list. Contains list p) (sym same) ((pages_are_allocated v row n p file.pages whole).1 allocated) in there in
+        subst (λ list. Contains list p) (sym same) ((pages_are_allocated v row n p file.pages whole).1 allocated) in there in
         leads_from (for_each (λ p. where_good (is_ordinary v.shape.geometry p) p) pages) _ v (λ u. (p : ℕ) → Contains pages p → is_ordinary v.shape.geometry p ≡ true) K
         (each_tested (is_ordinary v.shape.geometry) (λ p. p) pages v) (λ u tested.
         leads_then (for_each (page_dropped v.shape (chain_pages v.now row n)) pages) _ v K
@@ -322,9 +328,10 @@ module _ (v : View) (row : CatalogRow) (table : IsTable v.shape v row) (n : ℕ)
         (each_does (shared_freed v.shape) (chain_pages v.now row n) Falls Given w (λ q y there keeps. chain_step q y there keeps) h.0)))
         (each_does (page_dropped v.shape (chain_pages v.now row n)) pages Falls Given v (λ p y there keeps. page_step p y (from p there) keeps) (drops_none v.shape v row table)))))
 
-pub pages_give_back : (v : View) (row : CatalogRow) → IsTable v.shape v row → Leads (pages_dropped v.shape row) v (λ u y. GivesBack v.shape.geometry v.now y.now row)
+pub pages_give_back : (v : View) (row : CatalogRow) → IsTable v.shape v row →
+    Leads (pages_dropped v.shape row) v (λ u y. Goes v.shape (maps_dropped v.shape.geometry v.now row) v y × GivesBack v.shape.geometry v.now y.now row)
 pages_give_back v row table =
-    let K : Unit {0} → View → Type 0 = λ u y. GivesBack v.shape.geometry v.now y.now row in
+    let K : Unit {0} → View → Type 0 = λ u y. Goes v.shape (maps_dropped v.shape.geometry v.now row) v y × GivesBack v.shape.geometry v.now y.now row in
     let file = table.file in
     let form = file.file in
     let low = form.low in
@@ -336,4 +343,6 @@ pages_give_back v row table =
     sees (left_extents v.shape c) then for_each (left_freed v.shape)))))) v K) (sym read.is) (pages_go v row table read.count read.whole) read.unheld)
 
 pub pages_are_given_back : PagesAreGivenBack
-pages_are_given_back v row clean object = pages_give_back v row (record { file = file_of v clean; start = start_of v clean; object = object; bare = bare_from v clean.others })
+pages_are_given_back v row clean object =
+    leads_weaker (pages_dropped v.shape row) v _ _ (λ u y h. h.1)
+    (pages_give_back v row (record { file = file_of v clean; start = start_of v clean; object = object; bare = bare_from v clean.others }))

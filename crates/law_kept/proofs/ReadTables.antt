@@ -1,5 +1,5 @@
 -- What a statement reads of a table before it gives its pages back; and what it does to each of a list.
-use Rattle.std.proofs.Common.{◌≡◌, ℕ, zero, suc, ◌*◌, ◌/◌, ◌<◌, ◌==◌, ◌&&◌, ◌||◌, Bool, true, false, List, [], ◌∷◌, length, Contains, Option, Some, None, refl, sym, ap, subst, ◌∙◌, inl, inr, ⊎_elim, arith}
+use Rattle.std.proofs.Common.{◌≡◌, ℕ, ◌<◌, Bool, true, false, List, [], ◌∷◌, length, Contains, Some, None, refl, sym, ap, subst, ◌∙◌, ⊎_elim}
 use Rattle.std.specs.Prelude.{bytes_eq, if◌then◌else◌}
 use Rattle.std.proofs.lemmas.Slice.Eq.{bytes_eq-Decides}
 use Rattle.spec_file.specs.declared.data.Resource.TheVariants as resource
@@ -13,7 +13,7 @@ use Rattle.spec_check.proofs.Members.{nothing_there, cons_cases, cons_here, cons
 use Rattle.spec_plan.specs.Reading.{is_catalog, named_among}
 use Rattle.spec_plan.specs.Refusals.{no_table}
 use Rattle.spec_words.specs.NetChanges.{FileShape}
-use Rattle.spec_words.specs.Views.{View, End, Gives, Stops, Plan}
+use Rattle.spec_words.specs.Views.{View, End, Plan}
 use Rattle.spec_words.specs.Words.{◌then◌, give, refuse, sees, unless_held, where_good, look, found_or, for_each}
 use Rattle.spec_words.specs.Tables.{table_of, chain_of, bytes_read, byte_pages}
 use Rattle.spec_alloc.specs.Chains.{chain_now}

@@ -1,5 +1,5 @@
 -- What words leave of a view: its file's form, who holds what, and all but a few places of its image.
-use Rattle.std.proofs.Common.{◌≡◌, ℕ, ◌/◌, ◌<◌, length, refl, sym, subst, ◌∙◌}
+use Rattle.std.proofs.Common.{◌≡◌, ℕ, ◌/◌, ◌<◌, length, refl, sym, subst, ◌∙◌, arith}
 use Rattle.spec_file.specs.Image.{Image}
 use Rattle.spec_file.specs.Places.{HasShape, extent_count}
 use Rattle.spec_log.specs.Cells.{HasWholePages}
@@ -23,6 +23,9 @@ page_in shape image p f inside = subst (λ n. p < n) (sym f.pages) inside
 
 pub extent_in : (shape : FileShape) (image : Image) (e : ℕ) → IsFile shape image → e < shape.pages / 8 → e < extent_count image
 extent_in shape image e f inside = subst (λ n. e < n / 8) (sym f.pages) inside
+
+pub nine_inside : (shape : FileShape) (image : Image) → IsFile shape image → 9 < shape.pages
+nine_inside shape image f = let file = f.file in let low = file.low in omega (arith, low)
 
 -- from one view to a later one of the same statement
 pub record Goes (shape : FileShape) (changed : Changed) (v w : View) : Type 0 where

@@ -2,6 +2,7 @@
 #![tactic(auto)]
 
 ghost use Rattle.law_kept.specs.Creates.{CreateCreates, CreateLeavesMapsClean, CreateLeavesFileClean, CreateLeavesSgamExact};
+ghost use Rattle.law_kept.specs.Drops.{PagesAreGivenBack, DropDrops, DropLeavesMapsClean, DropLeavesFileClean, DropLeavesSgamExact};
 ghost use Rattle.law_kept.specs.Singles.{SingleIsTaken, ChainIsTaken};
 
 /// A single page that is found on a clean view is a page that nobody has, and is taken; and so is the page of a new
@@ -17,4 +18,17 @@ pub fn create_laws()
     ensures maps { CreateLeavesMapsClean }
     ensures file { CreateLeavesFileClean }
     ensures sgam { CreateLeavesSgamExact }
+{}
+
+/// Where the pages of an object are dropped on a clean view, all that it has is given back.
+pub fn freeing_law()
+    ensures { PagesAreGivenBack }
+{}
+
+/// DROP drops the object of its name, and so leaves clean maps clean, a clean file clean, and SGAM exact.
+pub fn drop_laws()
+    ensures drops { DropDrops }
+    ensures maps { DropLeavesMapsClean }
+    ensures file { DropLeavesFileClean }
+    ensures sgam { DropLeavesSgamExact }
 {}

@@ -33,10 +33,10 @@ use Rattle.law_alloc.proofs.Singles.{first_kept}
 use Rattle.law_kept.specs.Drops.{maps_dropped, GivesBack, DropsTable, DropDrops, DropLeavesMapsClean, DropLeavesFileClean, DropLeavesSgamExact}
 use Rattle.law_kept.proofs.Steps.{IsFile, page_in, nine_inside, Goes, goes_both, goes_within, nothing}
 use Rattle.law_kept.proofs.Words.{take_goes, page_goes}
-use Rattle.law_kept.proofs.Singles.{neither, bare_same, file_of, start_of, bare_from}
+use Rattle.law_kept.proofs.Singles.{neither, file_of, start_of}
 use Rattle.law_kept.proofs.EntryPages.{entry_set}
 use Rattle.law_kept.proofs.ReadTables.{table_found}
-use Rattle.law_kept.proofs.Freed.{freed_same}
+use Rattle.law_kept.proofs.Freed.{left_same}
 use Rattle.law_kept.proofs.Dropping.{IsTable}
 use Rattle.law_kept.proofs.PagesDropped.{pages_give_back}
 
@@ -93,7 +93,7 @@ drop_made shape row i v y z b f start object entry gone given taken put is =
       bytes = λ p low own. last.most.bytes p (inside p low) neither ∙ given.bytes p low own;
       marked = λ e low marked. last.most.free e (extent e low) neither ∙ given.marked e low marked;
       shared = λ e low uses.
-          freed_same g y.now b.now e (last.most.free e (extent e low) neither) (last.most.mixed e (extent e low) neither)
+          left_same g y.now b.now e (last.most.free e (extent e low) neither) (last.most.mixed e (extent e low) neither)
           (λ q at. last.most.bytes q (inside q (omega (arith, at, low))) neither) (given.shared e low uses);
       place = i;
       empties = record {
@@ -160,7 +160,6 @@ drop_drops v name clean =
       file = taken.file;
       start = subst (IsStart g) (sym h.1) (start_of v clean);
       object = subst (λ image. IsObject image row) (sym h.1) found.0;
-      bare = bare_same v.shape v w taken.other h.1 (bare_from v clean.others);
     } in
     subst (λ image. Leads (dropping v.shape row) w (λ reply z. DropsTable g name image z.now)) h.1
     (subst (λ s. Leads (dropping s row) w (λ reply z. DropsTable s.geometry name w.now z.now)) taken.same

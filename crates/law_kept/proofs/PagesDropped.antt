@@ -8,7 +8,6 @@ use Rattle.spec_file.specs.declared.geometry.Geometry.{Geometry}
 use Rattle.spec_file.specs.CatalogRows.{CatalogRow}
 use Rattle.spec_file.specs.Iam.{single_slot_count, iam_interval, iam_mark, iam_slots}
 use Rattle.spec_file.specs.Image.{page}
-use Rattle.spec_file.specs.Pfs.{is_allocated_byte}
 use Rattle.spec_file.specs.Places.{is_free, interval_size, interval_of_page}
 use Rattle.spec_file.specs.Roles.{is_ordinary}
 use Rattle.spec_chain.specs.Chains.{IsInChain, pointer}
@@ -26,8 +25,7 @@ use Rattle.spec_alloc.specs.Chains.{chain_now}
 use Rattle.spec_alloc.specs.Freeing.{is_in_use, shared_freed, marked_freed, is_shared_page}
 use Rattle.spec_alloc.specs.Objects.{page_dropped, left_extents, left_freed, pages_dropped}
 use Rattle.spec_steps.specs.AtMost.{free_bit, byte_of, either, maps_of}
-use Rattle.spec_steps.specs.Freeing.{IsFreedShared}
-use Rattle.spec_steps.specs.Tables.{Has, UsesOf}
+use Rattle.spec_steps.specs.Tables.{Has, UsesOf, IsLeftShared}
 use Rattle.law_chains.specs.Laws.{chain_pages, IsWhole}
 use Rattle.law_chains.proofs.Allocated.{some_page, first_is, slot_from, slot_in, mark_from, mark_in, pages_are_allocated}
 use Rattle.law_extents.proofs.GoodKinds.{zero_not}
@@ -37,7 +35,7 @@ use Rattle.law_net.proofs.WordLaws.{leads_then, leads_give, leads_weaker}
 use Rattle.law_alloc.proofs.Searches.{sees_reads, leads_from}
 use Rattle.law_kept.specs.Drops.{maps_dropped, GivesBack, PagesAreGivenBack}
 use Rattle.law_kept.proofs.Steps.{IsFile, page_in, extent_in, Goes, IsWithin}
-use Rattle.law_kept.proofs.Singles.{any_from, page_extent, neither, file_of, start_of, bare_from}
+use Rattle.law_kept.proofs.Singles.{any_from, page_extent, neither, file_of, start_of}
 use Rattle.law_kept.proofs.Freed.{shared_goes, marked_goes, left_goes}
 use Rattle.law_kept.proofs.ReadTables.{each_does, each_tested, IsReadChain, chain_now_reads}
 use Rattle.law_kept.proofs.Dropping.{IsTable, Drops, IsDone, IsAt, BytesFall, Settles, drops_none, drops_on, done_on, not_both, use_owns, own_inside}
@@ -84,13 +82,7 @@ module _ (shape : FileShape) (v : View) (row : CatalogRow) (table : IsTable shap
       } in
       let same = λ (q : ℕ) (inside_ : q < shape.pages) (other : q ≢ p). let is : pfs_byte g x.now q ≡ pfs_byte g w.now q =
       moved.most.bytes q (page_in shape w.now q goes.file inside_) (λ c. other (at.bytes q c)) in is in
-      let settles : Settles shape v row table p x = record {
-        freed = step.freed;
-        unheld = λ q there un free. ap (λ o. o (resource.Byte (record { 0 = q }))) moved.other ∙ ⊎_elim
-            (λ here. subst (λ n. w.other (resource.Byte (record { 0 = n })) ≡ None) (sym here) step.unheld)
-            (λ other. drops.unheld (p / 8) low uses q there (sym (ap is_allocated_byte (same q (omega (arith, there, low)) other)) ∙ un)
-            (ap (λ o. o (resource.Extent (record { 0 = p / 8 }))) (sym moved.other) ∙ free)) (cases_eq q p);
-      } in
+      let settles : Settles shape v row table p x = record { left = step.left; busy = step.busy } in
       let within : IsWithin (maps_of p) (maps_dropped g v.now row) = record {
         free = λ e c. inr (subst (UsesOf g v.now row) (sym (at.free e c)) uses);
         mixed = λ e c. subst (UsesOf g v.now row) (sym (at.mixed e c)) uses;
@@ -99,10 +91,10 @@ module _ (shape : FileShape) (v : View) (row : CatalogRow) (table : IsTable shap
       } in
       let fall : BytesFall shape v row table w x = λ q inside_. ⊎_elim (λ here. inr (ap (pfs_byte g x.now) here ∙ step.byte)) (λ other. inl (same q inside_ other)) (cases_eq q p) in (
         drops_on shape v row table p (maps_of p) w x inside drops moved within at fall (λ h. settles),
-        record { inside = inside; byte = step.byte; shared = λ place_ by_. step.freed },
+        record { inside = inside; byte = step.byte; shared = λ place_ by_. step.left },
         done_on shape v row table p (maps_of p) w x inside drops moved within at fall (λ h. settles),
       ))
-      (shared_goes shape p w inside goes.file (drops.unheld (p / 8) low uses) (drops.busy (p / 8) low uses))
+      (shared_goes shape p w inside goes.file (drops.busy (p / 8) low uses))
 
   marked_step : (p : ℕ) (w : View) → IsMarked shape.geometry v.now row (p / 8) → Has shape.geometry v.now row p → Dropped w → Leads (marked_freed shape p) w (λ in_use x. Step p w x)
   marked_step p w marked own drops =
@@ -296,7 +288,7 @@ module _ (v : View) (row : CatalogRow) (table : IsTable v.shape v row) (n : ℕ)
             bytes = λ p inside own. let gone = l.0.1 p own in gone.byte;
             marked = λ e low marked. (l.1 e (subst (λ list. Contains list e) (sym same) (left_in e z (subst (λ m. e < m / 8) file.pages low) marked drops given))).1;
             shared = λ e low uses. let gone = l.0.1 uses.0 (use_owns v.shape v row table uses.0 uses.2 uses.3) in
-                subst (IsFreedShared v.shape.geometry y.now) uses.1 (gone.shared uses.2 uses.3);
+                subst (IsLeftShared v.shape.geometry y.now) uses.1 (gone.shared uses.2 uses.3);
           },
         ))
         (each_does (left_freed v.shape) es (λ y. Falls y × AllGiven y) (Freed v.shape v row table) z (λ e y there keeps.
@@ -345,4 +337,4 @@ pages_give_back v row table =
 pub pages_are_given_back : PagesAreGivenBack
 pages_are_given_back v row clean object =
     leads_weaker (pages_dropped v.shape row) v _ _ (λ u y h. h.1)
-    (pages_give_back v row (record { file = file_of v clean; start = start_of v clean; object = object; bare = bare_from v clean.others }))
+    (pages_give_back v row (record { file = file_of v clean; start = start_of v clean; object = object }))

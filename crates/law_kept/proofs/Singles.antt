@@ -16,11 +16,10 @@ use Rattle.spec_words.specs.Views.{View, Plan}
 use Rattle.spec_words.specs.Words.{◌then◌, give, sees, take, put_gam, put_sgam, put_pfs, or_later}
 use Rattle.spec_alloc.specs.Search.{where_found, either as either_of, is_held, is_spare, pages_in, search}
 use Rattle.spec_alloc.specs.SinglePages.{is_shared, is_unused, spare_page, first_page_of, lower_sgam, of_mixed, of_free, single_page}
-use Rattle.spec_extents.specs.Extents.{extent_of}
 use Rattle.spec_steps.specs.AtMost.{free_bit, mixed_bit, byte_of, either, maps_of}
 use Rattle.spec_steps.specs.Taking.{HasOpenPage, IsTakeable}
-use Rattle.law_extents.proofs.GoodKinds.{first_ordinary, free_kind}
-use Rattle.law_frames.proofs.Held.{IsStart, goods}
+use Rattle.law_frames.proofs.Held.{IsStart}
+use Rattle.law_steps.proofs.Owners.{takeable_is_nobodys, free_is_takeable}
 use Rattle.law_net.specs.GoodViews.{Leads}
 use Rattle.law_net.proofs.WordLaws.{leads_then, leads_give, leads_weaker}
 use Rattle.law_net.proofs.ReadingLeaves.{Reads}
@@ -28,7 +27,7 @@ use Rattle.law_alloc.specs.Keeps.{IfFound}
 use Rattle.law_alloc.proofs.Searches.{sees_reads, leads_from, search_reads}
 use Rattle.law_alloc.proofs.Singles.{first_kept}
 use Rattle.law_kept.specs.Views.{OthersHoldExtents, IsCleanView}
-use Rattle.law_kept.specs.Singles.{TakesPage, SingleIsTaken}
+use Rattle.law_kept.specs.Singles.{TakesPage, SingleIsTaken, SingleSetsSgam}
 use Rattle.law_kept.proofs.Steps.{IsFile, file_shape, page_in, extent_in, Goes, goes_both, goes_within, nothing, nothing_within, goes_nowhere}
 use Rattle.law_kept.proofs.Words.{take_goes, gam_goes, sgam_goes, pfs_goes}
 
@@ -80,17 +79,17 @@ abbrev pub IsExact : FileShape → ℕ → View → Type 0
 IsExact shape e w = IsTrue (is_mixed shape.geometry w.now e) ↔ HasOpenPage shape.geometry w.now e
 
 abbrev Lowers : FileShape → ℕ → View → Unit {0} → View → Type 0
-Lowers shape e v u w = Goes shape (mixed_bit e) v w × IsExact shape e w
+Lowers shape e v u w = Goes shape (mixed_bit e) v w × (IsBare shape v e → IsExact shape e w)
 
 -- SGAM falls where no page of the extent is left
 lower_goes : (shape : FileShape) (e : ℕ) (v : View) → e < shape.pages / 8 → IsFile shape v.now → is_mixed shape.geometry v.now e ≡ true → v.other (resource.Extent (record { 0 = e })) ≡ None →
-    IsBare shape v e → Leads (lower_sgam shape e) v (Lowers shape e v)
-lower_goes shape e v inside f mixed unheld bare =
+    Leads (lower_sgam shape e) v (Lowers shape e v)
+lower_goes shape e v inside f mixed unheld =
     leads_from (sees left) (λ (b : Bool). if b then give tt else put_sgam shape e 0) v (λ b. b ≡ left v) (Lowers shape e v) (sees_reads left v (λ b. b ≡ left v) refl)
     (λ b same. cond_both b (give tt) (put_sgam shape e 0) (λ plan. Leads plan v (Lowers shape e v))
     (λ h. leads_give tt v (Lowers shape e v) (stays (sym same ∙ h)))
     (λ h. leads_weaker (put_sgam shape e 0) v _ (Lowers shape e v)
-    (λ u w k. (k.0, ((λ m. absurd (both_ways (is_mixed shape.geometry w.now e) k.1 m)), (λ o. absurd (none w k.0 o (sym same ∙ h)))))) (sgam_goes shape e false v inside f)))
+    (λ u w k. (k.0, (λ bare. ((λ m. absurd (both_ways (is_mixed shape.geometry w.now e) k.1 m)), (λ o. absurd (none w k.0 o (sym same ∙ h) bare)))))) (sgam_goes shape e false v inside f)))
   where
     left : View → Bool
     left view = list_any (is_spare shape view) (pages_in e)
@@ -98,11 +97,11 @@ lower_goes shape e v inside f mixed unheld bare =
     stays : left v ≡ true → Lowers shape e v tt v
     stays any = (
       goes_within shape nothing (mixed_bit e) v v (nothing_within (mixed_bit e)) (goes_nowhere shape v f),
-      ((λ m. let found = any_from (is_spare shape v) e any in let parts = spare_parts shape v found.0 found.2 in (found.0, found.1, parts.0, parts.1)), (λ o. mixed)),
+      (λ bare. ((λ m. let found = any_from (is_spare shape v) e any in let parts = spare_parts shape v found.0 found.2 in (found.0, found.1, parts.0, parts.1)), (λ o. mixed))),
     )
 
-    none : (w : View) → Goes shape (mixed_bit e) v w → HasOpenPage shape.geometry w.now e → left v ≡ false → ⊥
-    none w goes (q, at, ordinary, un) left_none =
+    none : (w : View) → Goes shape (mixed_bit e) v w → HasOpenPage shape.geometry w.now e → left v ≡ false → IsBare shape v e → ⊥
+    none w goes (q, at, ordinary, un) left_none bare =
         let same = ap is_allocated_byte (goes.most.bytes q (in_extent shape v e q f inside at) (λ c. c)) in
         both_ways (left v) left_none (any_in (is_spare shape v) e q at (spare_from shape v q ordinary (sym same ∙ un) (bare q at ordinary (sym same ∙ un) unheld)))
 
@@ -113,15 +112,15 @@ page_extent shape v p f inside = let file = f.file in let whole = file.whole in 
 pub record IsTaken (shape : FileShape) (value p : ℕ) (v w : View) : Type 0 where
   pub goes : Goes shape (maps_of p) v w
   pub free : is_free shape.geometry w.now (p / 8) ≡ false
-  pub mixed : IsExact shape (p / 8) w
+  pub mixed : IsBare shape v (p / 8) → IsExact shape (p / 8) w
   pub byte : pfs_byte shape.geometry w.now p ≡ value
 
 pub neither : ⊥ ⊎ ⊥ → ⊥
 neither h = ⊎_elim (λ x. x) (λ x. x) h
 
 mixed_goes : (shape : FileShape) (value p : ℕ) (v : View) → p < shape.pages → is_allocated_byte value ≡ true → IsFile shape v.now → is_mixed shape.geometry v.now (p / 8) ≡ true →
-    is_free shape.geometry v.now (p / 8) ≡ false → IsBare shape v (p / 8) → Leads (of_mixed shape value p) v (λ q w. (q ≡ p) × IsTaken shape value p v w)
-mixed_goes shape value p v inside allocated f mixed free bare =
+    is_free shape.geometry v.now (p / 8) ≡ false → Leads (of_mixed shape value p) v (λ q w. (q ≡ p) × IsTaken shape value p v w)
+mixed_goes shape value p v inside allocated f mixed free =
     let g = shape.geometry in
     let e = p / 8 in
     let extent = resource.Extent (record { 0 = e }) in
@@ -149,18 +148,18 @@ mixed_goes shape value p v inside allocated f mixed free bare =
           pages = λ q c. absurd (neither (⊎_elim (λ c. inl (neither c)) (λ c. inr c) c));
         }) (goes_both shape (either nothing (byte_of p)) (mixed_bit e) v x y both l.0);
         free = (l.0).most.free e (extent_in shape x.now e b.file low) (λ c. c) ∙ free_x;
-        mixed = l.1;
+        mixed = λ bare. l.1 (bare_on shape v x e both.other opens bare);
         byte = (l.0).most.bytes p (page_in shape x.now p b.file inside) (λ c. c) ∙ k.1;
       },
     ))
-    (lower_goes shape e x low b.file mixed_x (ap (λ o. o extent) both.other ∙ h.2) (bare_on shape v x e both.other opens bare))))
+    (lower_goes shape e x low b.file mixed_x (ap (λ o. o extent) both.other ∙ h.2))))
     (pfs_goes shape p value w inside a.file)))
     (take_goes shape extent v f))
 
 -- page p is the first of a free extent, which is mixed from here on
-free_goes : (shape : FileShape) (value p : ℕ) (v : View) → p < shape.pages → is_allocated_byte value ≡ true → IsFile shape v.now → IsBare shape v (p / 8) →
+free_goes : (shape : FileShape) (value p : ℕ) (v : View) → p < shape.pages → is_allocated_byte value ≡ true → IsFile shape v.now →
     Leads (of_free shape value p) v (λ q w. (q ≡ p) × IsTaken shape value p v w)
-free_goes shape value p v inside allocated f bare =
+free_goes shape value p v inside allocated f =
     let g = shape.geometry in
     let e = p / 8 in
     let low = page_extent shape v p f inside in
@@ -184,11 +183,11 @@ free_goes shape value p v inside allocated f bare =
           pages = λ q c. ⊎_elim (λ c. absurd (neither c)) (λ c. c) c;
         }) (goes_both shape (either (free_bit e) (mixed_bit e)) (maps_of p) v x y both t.goes);
         free = t.free;
-        mixed = t.mixed;
+        mixed = λ bare. t.mixed (bare_on shape v x e both.other opens bare);
         byte = t.byte;
       },
     ))
-    (mixed_goes shape value p x inside allocated b.file k.1 free_x (bare_on shape v x e both.other opens bare)))
+    (mixed_goes shape value p x inside allocated b.file k.1 free_x))
     (sgam_goes shape e true w low a.file)))
     (gam_goes shape e false v low f))
 
@@ -223,76 +222,54 @@ bare_from v others e inside unmarked q at ordinary un =
     subst (λ f. v.other (resource.Extent (record { 0 = f })) ≡ None → v.other (resource.Byte (record { 0 = q })) ≡ None) at
     (others q (omega (arith, inside, at)) ordinary un (λ marked. unmarked (subst (HasMarker v.shape.geometry v.now) at marked)))
 
-pub bare_same : (shape : FileShape) (v w : View) → w.other ≡ v.other → w.now ≡ v.now → AreBare shape v → AreBare shape w
-bare_same shape v w same now bare e inside unmarked =
-    bare_on shape v w e same (λ q at un. subst (λ image. is_allocated shape.geometry image q ≡ false) now un)
-    (bare e inside (λ m. unmarked (subst (λ image. HasMarker shape.geometry image e) (sym now) m)))
+-- nor is one of the extent of a page that can be taken
+pub bare_at : (shape : FileShape) (v : View) (p : ℕ) → IsFile shape v.now → IsStart shape.geometry v.now → AreBare shape v → IsTakeable shape.geometry v.now p → IsBare shape v (p / 8)
+bare_at shape v p f start bare takeable =
+    bare (p / 8) (page_extent shape v p f (subst (λ n. p < n) f.pages takeable.inside))
+    (λ m. takeable_is_nobodys shape.geometry v.now start p takeable m.1.0 m.1.1 (inr m.1.3))
 
--- what the two searches look for
-record IsSpareOf (shape : FileShape) (v : View) (p : ℕ) : Type 0 where
-  inside : p < shape.pages
-  takeable : IsTakeable shape.geometry v.now p
-  bare : IsBare shape v (p / 8)
-
+-- a page of a mixed extent that can be taken
 record IsOfMixed (shape : FileShape) (v : View) (p : ℕ) : Type 0 where
-  spare : IsSpareOf shape v p
+  takeable : IsTakeable shape.geometry v.now p
   mixed : is_mixed shape.geometry v.now (p / 8) ≡ true
   free : is_free shape.geometry v.now (p / 8) ≡ false
 
-module _ (shape : FileShape) (v : View) (f : IsFile shape v.now) (start : IsStart shape.geometry v.now) (bare : AreBare shape v) where
+module _ (shape : FileShape) (v : View) (f : IsFile shape v.now) (start : IsStart shape.geometry v.now) where
   mixed_found : (e : ℕ) → e < shape.pages / 8 → is_shared shape v e ≡ true → IfFound (IsOfMixed shape v) (spare_page shape v e)
   mixed_found e inside shared =
       let g = shape.geometry in
       let bits = and_parts (not (is_free g v.now e)) (is_mixed g v.now e) shared in
-      let free = not-true (is_free g v.now e) bits.0 in
-      let unmarked = λ (m : HasMarker g v.now e). let none : ⊥ = (goods g v.now start e (extent_in shape v.now e f inside)).mixed_marked (inr (bits.1, free)) m in none in
       first_kept (IsOfMixed shape v) (is_spare shape v) 8 (8 * e) (λ p low high spare.
       let at : e ≡ p / 8 = omega (arith, low, high) in
       let parts = spare_parts shape v p spare in
-      subst (λ n. is_mixed g v.now n ≡ true → is_free g v.now n ≡ false → IsBare shape v n → IsOfMixed shape v p) (sym at) (λ mixed free bare_. record {
-        spare = record {
-          inside = omega (arith, inside, high);
-          takeable = record { inside = page_in shape v.now p f (omega (arith, inside, high)); ordinary = parts.0; unallocated = parts.1; extent = inl mixed };
-          bare = bare_;
-        };
+      let mixed = subst (λ n. is_mixed g v.now n ≡ true) at bits.1 in record {
+        takeable = record { inside = page_in shape v.now p f (omega (arith, inside, high)); ordinary = parts.0; unallocated = parts.1; extent = inl mixed };
         mixed = mixed;
-        free = free;
-      }) bits.1 free (bare e inside unmarked))
+        free = subst (λ n. is_free g v.now n ≡ false) at (not-true (is_free g v.now e) bits.0);
+      })
 
-  free_found : (e : ℕ) → e < shape.pages / 8 → is_unused shape v e ≡ true → IfFound (IsSpareOf shape v) (first_page_of shape v e)
+  free_found : (e : ℕ) → e < shape.pages / 8 → is_unused shape v e ≡ true → IfFound (IsTakeable shape.geometry v.now) (first_page_of shape v e)
   free_found e inside unused =
       let g = shape.geometry in
       let bits = and_parts (is_free g v.now e) (not (is_mixed g v.now e)) unused in
-      let kind = free_kind g e (extent_of g v.now e) (goods g v.now start e (extent_in shape v.now e f inside)) bits.0 in
-      let at : e ≡ 8 * e / 8 = omega arith in
-      let low : 8 * e < shape.pages = omega (arith, inside) in
-      cond_both (is_system_extent g e) None (Some (8 * e)) (IfFound (IsSpareOf shape v)) (λ h. tt) (λ h.
-      let ordinary = first_ordinary g e h in record {
-        inside = low;
-        takeable = record {
-          inside = page_in shape v.now (8 * e) f low;
-          ordinary = ordinary;
-          unallocated = ap is_allocated_byte (kind.bytes (8 * e) (sym at) ordinary);
-          extent = inr (subst (λ n. is_free g v.now n ≡ true) at bits.0);
-        };
-        bare = subst (IsBare shape v) at (bare e inside kind.unmarked);
-      })
+      cond_both (is_system_extent g e) None (Some (8 * e)) (IfFound (IsTakeable g v.now)) (λ h. tt)
+      (λ h. free_is_takeable g v.now start e (extent_in shape v.now e f inside) bits.0)
 
   abbrev pub Takes : ℕ → ℕ → View → Type 0
   Takes value p w = IsTakeable shape.geometry v.now p × IsTaken shape value p v w
 
   pub single_goes : (value : ℕ) → is_allocated_byte value ≡ true → Leads (single_page shape value) v (Finds v (Takes value))
   single_goes value allocated =
+      let low = λ (p : ℕ) (takeable : IsTakeable shape.geometry v.now p). let inside : p < shape.pages = subst (λ n. p < n) f.pages takeable.inside in inside in
       either_leads _ _ v (Takes value)
       (found_leads (search shape (is_shared shape) (spare_page shape)) (of_mixed shape value) v (IsOfMixed shape v) (Takes value)
       (search_reads shape (is_shared shape) (spare_page shape) (IsOfMixed shape v) v mixed_found) (λ p is.
-      let spare = is.spare in
-      leads_weaker (of_mixed shape value p) v _ (Takes value) (λ q w h. subst (λ r. Takes value r w) (sym h.0) (spare.takeable, h.1))
-      (mixed_goes shape value p v spare.inside allocated f is.mixed is.free spare.bare)))
-      (found_leads (search shape (is_unused shape) (first_page_of shape)) (of_free shape value) v (IsSpareOf shape v) (Takes value)
-      (search_reads shape (is_unused shape) (first_page_of shape) (IsSpareOf shape v) v free_found) (λ p spare.
-      leads_weaker (of_free shape value p) v _ (Takes value) (λ q w h. subst (λ r. Takes value r w) (sym h.0) (spare.takeable, h.1))
-      (free_goes shape value p v spare.inside allocated f spare.bare)))
+      leads_weaker (of_mixed shape value p) v _ (Takes value) (λ q w h. subst (λ r. Takes value r w) (sym h.0) (is.takeable, h.1))
+      (mixed_goes shape value p v (low p is.takeable) allocated f is.mixed is.free)))
+      (found_leads (search shape (is_unused shape) (first_page_of shape)) (of_free shape value) v (IsTakeable shape.geometry v.now) (Takes value)
+      (search_reads shape (is_unused shape) (first_page_of shape) (IsTakeable shape.geometry v.now) v free_found) (λ p takeable.
+      leads_weaker (of_free shape value p) v _ (Takes value) (λ q w h. subst (λ r. Takes value r w) (sym h.0) (takeable, h.1))
+      (free_goes shape value p v (low p takeable) allocated f)))
 
 pub file_of : (v : View) → IsCleanView v → IsFile v.shape v.now
 file_of v clean = let image = clean.image in record { file = image.file; pages = image.pages; whole = image.whole }
@@ -300,12 +277,22 @@ file_of v clean = let image = clean.image in record { file = image.file; pages =
 pub start_of : (v : View) → IsCleanView v → IsStart v.shape.geometry v.now
 start_of v clean = record { shape = file_shape v.shape v.now (file_of v clean); clean = clean.maps }
 
+-- what holds of each page that is taken holds of what is found
+found_holds : (Holds : ℕ → View → Type 0) (v : View) (clean : IsCleanView v) (value : ℕ) → is_allocated_byte value ≡ true →
+    ((p : ℕ) (w : View) → Takes v.shape v (file_of v clean) (start_of v clean) value p w → Holds p w) → Leads (single_page v.shape value) v (λ found w. IfFound (λ p. Holds p w) found)
+found_holds Holds v clean value allocated holds =
+    leads_weaker (single_page v.shape value) v _ (λ found w. IfFound (λ p. Holds p w) found) by_found (single_goes v.shape v (file_of v clean) (start_of v clean) value allocated)
+  where
+    by_found : (found : Option ℕ) (w : View) → Finds v (Takes v.shape v (file_of v clean) (start_of v clean) value) found w → IfFound (λ p. Holds p w) found
+    by_found None w h = tt
+    by_found (Some p) w h = holds p w h
+
 pub single_is_taken : SingleIsTaken
 single_is_taken v value allocated clean =
-    leads_weaker (single_page v.shape value) v _ (λ found w. IfFound (λ p. TakesPage v.shape.geometry value p v.now w.now) found) by_found
-    (single_goes v.shape v (file_of v clean) (start_of v clean) (bare_from v clean.others) value allocated)
-  where
-    by_found : (found : Option ℕ) (w : View) → Finds v (Takes v.shape v (file_of v clean) (start_of v clean) (bare_from v clean.others) value) found w →
-        IfFound (λ p. TakesPage v.shape.geometry value p v.now w.now) found
-    by_found None w h = tt
-    by_found (Some p) w h = let t = h.1 in let goes = t.goes in record { takeable = h.0; most = goes.most; free = t.free; mixed = t.mixed; byte = t.byte }
+    found_holds (λ p w. TakesPage v.shape.geometry value p v.now w.now) v clean value allocated
+    (λ p w h. let t = h.1 in let goes = t.goes in record { takeable = h.0; most = goes.most; free = t.free; byte = t.byte })
+
+pub single_sets_sgam : SingleSetsSgam
+single_sets_sgam v value allocated clean others =
+    found_holds (λ p w. IsExact v.shape (p / 8) w) v clean value allocated
+    (λ p w h. let t = h.1 in t.mixed (bare_at v.shape v p (file_of v clean) (start_of v clean) (bare_from v others) h.0))

@@ -11,7 +11,7 @@ use Rattle.spec_clean.specs.CleanFiles.{HasCleanMaps, IsClean}
 use Rattle.spec_steps.specs.Sgam.{HasExactSgam}
 use Rattle.spec_steps.specs.Tables.{CreatesObject}
 use Rattle.law_net.specs.GoodViews.{Leads}
-use Rattle.law_kept.specs.Views.{IsCleanView}
+use Rattle.law_kept.specs.Views.{IsCleanView, OthersHoldExtents}
 
 -- a heap of this name is created, with one page
 pub record CreatesHeap (g : Geometry) (name : List ℕ) (image image' : Image) : Type 0 where
@@ -36,7 +36,7 @@ abbrev pub CreateLeavesFileClean : Type 0
 CreateLeavesFileClean = (view : View) (name : List ℕ) → is_name name ≡ true → IsCleanView view → IsClean view.shape.geometry view.now →
     Leads (create_plan view.shape name) view (λ reply after. IsClean view.shape.geometry after.now)
 
--- and SGAM exact, where it was
+-- and SGAM exact, where it was, and others hold extents with bytes
 abbrev pub CreateLeavesSgamExact : Type 0
-CreateLeavesSgamExact = (view : View) (name : List ℕ) → is_name name ≡ true → IsCleanView view → HasExactSgam view.shape.geometry view.now →
+CreateLeavesSgamExact = (view : View) (name : List ℕ) → is_name name ≡ true → IsCleanView view → OthersHoldExtents view → HasExactSgam view.shape.geometry view.now →
     Leads (create_plan view.shape name) view (λ reply after. HasExactSgam view.shape.geometry after.now)

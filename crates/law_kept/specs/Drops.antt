@@ -13,9 +13,8 @@ use Rattle.spec_alloc.specs.Objects.{pages_dropped}
 use Rattle.spec_statements.specs.Objects.{drop_plan}
 use Rattle.spec_clean.specs.CleanFiles.{HasCleanMaps, IsClean}
 use Rattle.spec_steps.specs.AtMost.{Changed, AtMost}
-use Rattle.spec_steps.specs.Freeing.{IsFreedShared}
 use Rattle.spec_steps.specs.Sgam.{HasExactSgam}
-use Rattle.spec_steps.specs.Tables.{Has, UsesOf, DropsObject}
+use Rattle.spec_steps.specs.Tables.{Has, UsesOf, IsLeftShared, DropsObject}
 use Rattle.law_net.specs.GoodViews.{Leads}
 use Rattle.law_kept.specs.Views.{IsCleanView}
 
@@ -35,7 +34,7 @@ pub record GivesBack (g : Geometry) (image image' : Image) (row : CatalogRow) : 
   pub most : AtMost g (maps_dropped g image row) image image'
   pub bytes : (p : ℕ) → p < length image → Has g image row p → pfs_byte g image' p ≡ 0
   pub marked : (e : ℕ) → e < extent_count image → IsMarked g image row e → is_free g image' e ≡ true
-  pub shared : (e : ℕ) → e < extent_count image → UsesOf g image row e → IsFreedShared g image' e
+  pub shared : (e : ℕ) → e < extent_count image → UsesOf g image row e → IsLeftShared g image' e
 
 -- where the pages of an object are dropped on a clean view, all that it has is given back
 abbrev pub PagesAreGivenBack : Type 0

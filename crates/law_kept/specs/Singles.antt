@@ -11,18 +11,17 @@ use Rattle.spec_alloc.specs.SinglePages.{single_page}
 use Rattle.spec_alloc.specs.Objects.{new_chain}
 use Rattle.spec_steps.specs.AtMost.{AtMost, page_of, either, maps_of}
 use Rattle.spec_steps.specs.IamPages.{IsOnlyIam}
-use Rattle.spec_steps.specs.Taking.{HasOpenPage, IsTakeable, IsTakenAs}
+use Rattle.spec_steps.specs.Taking.{HasOpenPage, IsTakeable, IsHeldAs}
 use Rattle.law_net.specs.GoodViews.{Leads}
 use Rattle.law_alloc.specs.Keeps.{IfFound}
-use Rattle.law_kept.specs.Views.{IsCleanView}
+use Rattle.law_kept.specs.Views.{IsCleanView, OthersHoldExtents}
 
--- page p, which nobody has, gets this PFS byte. Its extent isn't free then, and mixed exactly where a page is left to take;
--- nothing else changes
+-- page p, which nobody has, gets this PFS byte, and its extent isn't free then. Nothing but that byte and the extent's bits
+-- changes
 pub record TakesPage (g : Geometry) (value p : ℕ) (image image' : Image) : Type 0 where
   pub takeable : IsTakeable g image p
   pub most : AtMost g (maps_of p) image image'
   pub free : is_free g image' (p / 8) ≡ false
-  pub mixed : IsTrue (is_mixed g image' (p / 8)) ↔ HasOpenPage g image' (p / 8)
   pub byte : pfs_byte g image' p ≡ value
 
 -- where a single page is found on a clean view, it is taken so
@@ -30,11 +29,17 @@ abbrev pub SingleIsTaken : Type 0
 SingleIsTaken = (view : View) (byte : ℕ) → is_allocated_byte byte ≡ true → IsCleanView view →
     Leads (single_page view.shape byte) view (λ found after. IfFound (λ p. TakesPage view.shape.geometry byte p view.now after.now) found)
 
+-- and its extent is mixed exactly where a page is left to take, where others hold extents with bytes
+abbrev pub SingleSetsSgam : Type 0
+SingleSetsSgam = (view : View) (byte : ℕ) → is_allocated_byte byte ≡ true → IsCleanView view → OthersHoldExtents view →
+    Leads (single_page view.shape byte) view (λ found after.
+    IfFound (λ p. IsTrue (is_mixed view.shape.geometry after.now (p / 8)) ↔ HasOpenPage view.shape.geometry after.now (p / 8)) found)
+
 -- the page of a new chain is a single page, and the one IAM page of the object of this id, which owns nothing else
 pub record TakesIam (g : Geometry) (id p : ℕ) (image image' : Image) : Type 0 where
   pub takeable : IsTakeable g image p
   pub most : AtMost g (either (maps_of p) (page_of p)) image image'
-  pub taken : IsTakenAs g image' p Iam
+  pub taken : IsHeldAs g image' p Iam
   pub new : IsOnlyIam id p (page image' p)
 
 -- where CREATE's first page is given on a clean view, it is taken so

@@ -3,16 +3,18 @@
 
 ghost use Rattle.law_kept.specs.Creates.{CreateCreates, CreateLeavesMapsClean, CreateLeavesFileClean, CreateLeavesSgamExact};
 ghost use Rattle.law_kept.specs.Drops.{PagesAreGivenBack, DropDrops, DropLeavesMapsClean, DropLeavesFileClean, DropLeavesSgamExact};
-ghost use Rattle.law_kept.specs.Singles.{SingleIsTaken, ChainIsTaken};
+ghost use Rattle.law_kept.specs.Singles.{SingleIsTaken, SingleSetsSgam, ChainIsTaken};
 
 /// A single page that is found on a clean view is a page that nobody has, and is taken; and so is the page of a new
-/// chain, which is the one IAM page of its object.
+/// chain, which is the one IAM page of its object. SGAM is right then, where others hold extents with bytes.
 pub fn taking_laws()
     ensures single { SingleIsTaken }
+    ensures sgam { SingleSetsSgam }
     ensures chain { ChainIsTaken }
 {}
 
-/// CREATE HEAP creates a heap, and so leaves clean maps clean, a clean file clean, and SGAM exact.
+/// CREATE HEAP creates a heap, and so leaves clean maps clean and a clean file clean; and SGAM exact, where others
+/// hold extents with bytes.
 pub fn create_laws()
     ensures creates { CreateCreates }
     ensures maps { CreateLeavesMapsClean }

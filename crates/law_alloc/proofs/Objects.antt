@@ -26,7 +26,7 @@ use Rattle.law_net.proofs.RowBytes.{low_bytes}
 use Rattle.law_net.proofs.InsertKeeps.{IsGoodOf}
 use Rattle.law_alloc.specs.Keeps.{IfFound, IsOwn, ObjectPageKeepsGood}
 use Rattle.law_alloc.proofs.Searches.{Any, sees_reads, leads_from, search_reads}
-use Rattle.law_alloc.proofs.Singles.{Found, Given, FindsPage, GivesPage, either_finds, found_finds, single_finds, first_own, free_own, gam_keeps, pfs_keeps, page_keeps, good_then, extent_in}
+use Rattle.law_alloc.proofs.Singles.{Found, Given, FindsPage, GivesPage, either_finds, found_finds, single_finds, first_kept, free_own, gam_keeps, pfs_keeps, page_keeps, good_then, extent_in}
 use Rattle.law_alloc.proofs.Chains.{AllOwn, IsChainOf, chain_reads_now, taken_gives, slot_keeps, next_keeps, mark_keeps, low_iam}
 
 -- what is found, and what is given of it
@@ -70,12 +70,12 @@ marked_finds : (shape : FileShape) (chain path : List ℕ) → FindsPage shape (
 marked_finds shape chain path =
     found_finds shape (sees (lowest_marked shape chain)) (marked_page_taken shape (chain ++ path))
     (λ v. sees_reads (lowest_marked shape chain) v (IfFound (IsOwn shape))
-    (first_own shape (λ p. is_marked shape.geometry v.now chain p && is_spare shape v p) shape.pages 0 (omega arith)
-    (λ p test. (and_parts (is_ordinary shape.geometry p) _ (and_parts (is_marked shape.geometry v.now chain p) (is_spare shape v p) test).1).0)))
+    (first_kept (IsOwn shape) (λ p. is_marked shape.geometry v.now chain p && is_spare shape v p) shape.pages 0
+    (λ p low high test. (omega (arith, high), (and_parts (is_ordinary shape.geometry p) _ (and_parts (is_marked shape.geometry v.now chain p) (is_spare shape v p) test).1).0))))
     (λ p own. marked_gives shape (chain ++ path) p own)
 
 -- where no page is to be had nothing is given
-none_leads : (shape : FileShape) (v : View) (K : ℕ → View → Type 0) → Leads (no_page shape) v K
+pub none_leads : (shape : FileShape) (v : View) (K : ℕ → View → Type 0) → Leads (no_page shape) v K
 none_leads shape v K =
     let ask : ℕ → Plan (Unit {0}) = λ e. unless_held (resource.Extent (record { 0 = e })) in
     leads_then (for_each ask (extents_of shape)) (λ _. refuse no_room) v K
@@ -143,7 +143,7 @@ extent_gives shape row chain path p own is v g =
 extent_finds : (shape : FileShape) (row : CatalogRow) (chain path : List ℕ) → IsChainOf shape chain → FindsPage shape (extent_page shape row chain path)
 extent_finds shape row chain path own =
     found_finds shape (search shape (is_unused shape) (first_page_of shape)) (extent_marked shape row chain path)
-    (λ v. search_reads shape (is_unused shape) (first_page_of shape) (IsOwn shape) v (free_own shape v)) (λ p is. extent_gives shape row chain path p own is)
+    (λ v. search_reads shape (is_unused shape) (first_page_of shape) (IsOwn shape) v (λ e lt fit. free_own shape v e lt)) (λ p is. extent_gives shape row chain path p own is)
 
 object_gives : (shape : FileShape) (row : CatalogRow) (path : List ℕ) → GivesPage shape (object_page shape row path)
 object_gives shape row path v g =

@@ -1,5 +1,5 @@
 -- A search reads, leaves the view, and finds a page of an extent of the file.
-use Rattle.std.proofs.Common.{◌≡◌, ℕ, zero, suc, ◌+◌, ◌*◌, ◌/◌, ◌<◌, ◌≤◌, Bool, Option, Some, None, refl, sym, subst, arith}
+use Rattle.std.proofs.Common.{◌≡◌, ℕ, zero, suc, ◌+◌, ◌*◌, ◌/◌, ◌<◌, ◌≤◌, Bool, true, Option, Some, None, refl, sym, ◌∙◌, subst, arith}
 use Rattle.std.specs.Prelude.{if◌then◌else◌}
 use Rattle.std.specs.List.{range_with_len}
 use Rattle.std.proofs.lemmas.Bool.{cond_both}
@@ -43,8 +43,8 @@ map_reads type p v =
     reads_then (reach p) (λ bytes. where_good (says type p bytes) p) v Any Any (leads_reach p v (λ x w. (w ≡ v) × Unit {0}) (refl, tt))
     (λ bytes u. leads_good (says type p bytes) p v (λ x w. (w ≡ v) × Unit {0}) (λ e. (refl, tt)))
 
--- what a search finds in one extent is what it looks for there
-at_reads : (shape : FileShape) (fits : View → ℕ → Bool) (find : View → ℕ → Option ℕ) (Q : ℕ → Type 0) (e : ℕ) (v : View) → IfFound Q (find v e) →
+-- what a search finds in one extent is what it looks for there, and the extent's bits fit
+at_reads : (shape : FileShape) (fits : View → ℕ → Bool) (find : View → ℕ → Option ℕ) (Q : ℕ → Type 0) (e : ℕ) (v : View) → (fits v e ≡ true → IfFound Q (find v e)) →
     Reads (search_at shape fits find e) v (IfFound Q)
 at_reads shape fits find Q e v found =
     let last : View → Option ℕ = λ view. find view e in
@@ -57,9 +57,9 @@ at_reads shape fits find Q e v found =
     (λ h u. cond_both h (give None) maps (λ plan. Reads plan v (IfFound Q)) (λ b. give_reads None v (IfFound Q) tt) (λ b.
     reads_then (gam_read shape e) (λ _. sgam_read shape e then (λ _. bits)) v Any (IfFound Q) (map_reads _ _ v) (λ x y.
     reads_then (sgam_read shape e) (λ _. bits) v Any (IfFound Q) (map_reads _ _ v) (λ x y.
-    reads_then (sees fit) (λ (b : Bool). if b then rest else give None) v Any (IfFound Q) (sees_reads fit v Any tt) (λ c u.
+    reads_then (sees fit) (λ (b : Bool). if b then rest else give None) v (λ c. c ≡ fits v e) (IfFound Q) (sees_reads fit v (λ c. c ≡ fits v e) refl) (λ c same.
     cond_both c rest (give None) (λ plan. Reads plan v (IfFound Q))
-    (λ b. reads_then (pfs_read shape (8 * e)) (λ _. sees last) v Any (IfFound Q) (map_reads _ _ v) (λ x y. sees_reads last v (IfFound Q) found))
+    (λ b. reads_then (pfs_read shape (8 * e)) (λ _. sees last) v Any (IfFound Q) (map_reads _ _ v) (λ x y. sees_reads last v (IfFound Q) (found (sym same ∙ b))))
     (λ b. give_reads None v (IfFound Q) tt))))))
 
 first_reads : (Q : ℕ → Type 0) (try : ℕ → Plan (Option ℕ)) (n lo most : ℕ) (v : View) → lo + n ≤ most → ((x : ℕ) → x < most → Reads (try x) v (IfFound Q)) →
@@ -76,8 +76,8 @@ first_reads Q try (suc n) lo most v le each =
     by_found None w e f ih = subst (λ u. Leads (first_of try (range_with_len (lo + 1) n)) u (λ x y. (y ≡ v) × IfFound Q x)) (sym e) ih
     by_found (Some q) w e f ih = leads_give (Some q) w (λ y u. (u ≡ v) × IfFound Q y) (e, f)
 
--- a search finds what it looks for in some extent of the file
+-- a search finds what it looks for in some extent of the file whose bits fit
 pub search_reads : (shape : FileShape) (fits : View → ℕ → Bool) (find : View → ℕ → Option ℕ) (Q : ℕ → Type 0) (v : View) →
-    ((e : ℕ) → e < shape.pages / 8 → IfFound Q (find v e)) → Reads (search shape fits find) v (IfFound Q)
+    ((e : ℕ) → e < shape.pages / 8 → fits v e ≡ true → IfFound Q (find v e)) → Reads (search shape fits find) v (IfFound Q)
 search_reads shape fits find Q v found =
     first_reads Q (search_at shape fits find) (shape.pages / 8) 0 (shape.pages / 8) v (omega arith) (λ e lt. at_reads shape fits find Q e v (found e lt))

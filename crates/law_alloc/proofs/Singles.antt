@@ -108,15 +108,17 @@ free_gives shape byte p low own v g =
     good_then shape (put_sgam shape (p / 8) 1) _ w (Given shape) (sgam_keeps shape (p / 8) 1 w (extent_in shape p w own.0 h) (omega arith) h) (λ s x k.
     mixed_gives shape byte p low own x k))
 
-pub first_own : (shape : FileShape) (test : ℕ → Bool) (n lo : ℕ) → lo + n ≤ shape.pages → ((p : ℕ) → test p ≡ true → is_ordinary shape.geometry p ≡ true) →
-    IfFound (IsOwn shape) (first_in (filter test (range_with_len lo n)))
-first_own shape test zero lo le own = tt
-first_own shape test (suc n) lo le own =
+-- the first number of a range that passes a test
+pub first_kept : (Holds : ℕ → Type 0) (test : ℕ → Bool) (n lo : ℕ) → ((p : ℕ) → lo ≤ p → p < lo + n → test p ≡ true → Holds p) → IfFound Holds (first_in (filter test (range_with_len lo n)))
+first_kept Holds test zero lo holds = tt
+first_kept Holds test (suc n) lo holds =
     let rest = filter test (range_with_len (lo + 1) n) in
-    cond_both (test lo) (lo ∷ rest) rest (λ xs. IfFound (IsOwn shape) (first_in xs)) (λ e. (omega (arith, le), own lo e)) (λ e. first_own shape test n (lo + 1) (omega (arith, le)) own)
+    cond_both (test lo) (lo ∷ rest) rest (λ xs. IfFound Holds (first_in xs)) (λ e. holds lo (omega arith) (omega arith) e)
+    (λ e. first_kept Holds test n (lo + 1) (λ p low high. holds p (omega (arith, low)) (omega (arith, high))))
 
 spare_own : (shape : FileShape) (v : View) (e : ℕ) → e < shape.pages / 8 → IfFound (IsOwn shape) (spare_page shape v e)
-spare_own shape v e lt = first_own shape (is_spare shape v) 8 (8 * e) (omega (arith, lt)) (λ p spare. (and_parts (is_ordinary shape.geometry p) _ spare).0)
+spare_own shape v e lt =
+    first_kept (IsOwn shape) (is_spare shape v) 8 (8 * e) (λ p low high spare. (omega (arith, lt, high), (and_parts (is_ordinary shape.geometry p) _ spare).0))
 
 pub free_own : (shape : FileShape) (v : View) (e : ℕ) → e < shape.pages / 8 → IfFound (IsOwn shape) (first_page_of shape v e)
 free_own shape v e lt =
@@ -127,9 +129,9 @@ pub single_finds : (shape : FileShape) (byte : ℕ) → byte < 256 → FindsPage
 single_finds shape byte low =
     either_finds shape _ _
     (found_finds shape (search shape (is_shared shape) (spare_page shape)) (of_mixed shape byte)
-    (λ v. search_reads shape (is_shared shape) (spare_page shape) (IsOwn shape) v (spare_own shape v)) (λ p own. mixed_gives shape byte p low own))
+    (λ v. search_reads shape (is_shared shape) (spare_page shape) (IsOwn shape) v (λ e lt fit. spare_own shape v e lt)) (λ p own. mixed_gives shape byte p low own))
     (found_finds shape (search shape (is_unused shape) (first_page_of shape)) (of_free shape byte)
-    (λ v. search_reads shape (is_unused shape) (first_page_of shape) (IsOwn shape) v (free_own shape v)) (λ p own. free_gives shape byte p low own))
+    (λ v. search_reads shape (is_unused shape) (first_page_of shape) (IsOwn shape) v (λ e lt fit. free_own shape v e lt)) (λ p own. free_gives shape byte p low own))
 
 pub single_keeps_good : SingleKeepsGood
 single_keeps_good v byte low good =

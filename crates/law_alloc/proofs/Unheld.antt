@@ -100,6 +100,6 @@ single_is_unheld shape v byte =
     leads_weaker (single_page shape byte) v (Found v) (λ found w. IfFound (IsUnheld v) found) (λ found w h. h.1)
     (either_unheld _ _ v
     (found_unheld (search shape (is_shared shape) (spare_page shape)) (of_mixed shape byte) v
-    (search_reads shape (is_shared shape) (spare_page shape) Any v (λ e lt. any_found (spare_page shape v e))) (λ p. mixed_unheld shape byte p v))
+    (search_reads shape (is_shared shape) (spare_page shape) Any v (λ e lt fit. any_found (spare_page shape v e))) (λ p. mixed_unheld shape byte p v))
     (λ w. found_unheld (search shape (is_unused shape) (first_page_of shape)) (of_free shape byte) w
-    (search_reads shape (is_unused shape) (first_page_of shape) Any w (λ e lt. any_found (first_page_of shape w e))) (λ p. free_unheld shape byte p w)))
+    (search_reads shape (is_unused shape) (first_page_of shape) Any w (λ e lt fit. any_found (first_page_of shape w e))) (λ p. free_unheld shape byte p w)))

@@ -25,11 +25,11 @@ use Rattle.spec_chain.proofs.Pointers.{whole_last, last_parts, inside_below, ins
 use Rattle.law_chains.proofs.Ranges.{found_from, found_in}
 
 -- a whole chain has a page
-some_page : (g : Geometry) (image : Image) (row : CatalogRow) (n : ℕ) → IsWhole g image row n → 0 < n
+pub some_page : (g : Geometry) (image : Image) (row : CatalogRow) (n : ℕ) → IsWhole g image row n → 0 < n
 some_page g image row n chain =
     let other = (last_parts n (pointer image row n) (whole_last g image row n chain.whole)).1 in omega (arith, other)
 
-first_is : (image : Image) (row : CatalogRow) (n : ℕ) → 0 < n → first_page (chain_pages image row n) ≡ pointer image row zero
+pub first_is : (image : Image) (row : CatalogRow) (n : ℕ) → 0 < n → first_page (chain_pages image row n) ≡ pointer image row zero
 first_is image row zero some = absurd (omega (arith, some))
 first_is image row (suc n) some = refl
 
@@ -38,7 +38,7 @@ intervals : (g : Geometry) (p : ℕ) → interval_of_page g p ≡ p / 8 / interv
 intervals Standard p = omega arith
 intervals Small p = omega arith
 
-slot_from : (g : Geometry) (image : Image) (row : CatalogRow) (n p : ℕ) → IsWhole g image row n → p < length image
+pub slot_from : (g : Geometry) (image : Image) (row : CatalogRow) (n p : ℕ) → IsWhole g image row n → p < length image
     → is_single image (chain_pages image row n) p ≡ true → (i : ℕ) × HoldsPage g image row i p
 slot_from g image row n p chain below single =
     let some = some_page g image row n chain in
@@ -48,7 +48,7 @@ slot_from g image row n p chain below single =
     let is = ap (λ q. iam_slot (page image q) found.0) (sym (first_is image row n some)) ∙ eqb-true _ p found.2 in
     (found.0, ((found.1, below_page g image row n 0 chain.pages.pages some, is), and_from (not (p == 0)) (nat_lt p (length image)) parts.0 (lt-ltb p (length image) below)))
 
-slot_in : (g : Geometry) (image : Image) (row : CatalogRow) (n p i : ℕ) → IsWhole g image row n → HoldsPage g image row i p
+pub slot_in : (g : Geometry) (image : Image) (row : CatalogRow) (n p i : ℕ) → IsWhole g image row n → HoldsPage g image row i p
     → is_single image (chain_pages image row n) p ≡ true
 slot_in g image row n p i chain holds =
     let some = some_page g image row n chain in
@@ -57,7 +57,7 @@ slot_in g image row n p i chain holds =
     (not_from_false (p == 0) (ne_eqb p 0 (inside_nonzero (length image) p holds.1)))
     (found_in (λ q. q == p) (iam_slot (page image (first_page (chain_pages image row n)))) single_slot_count i holds.0.0 (eq-eqb _ p is))
 
-mark_from : (g : Geometry) (image : Image) (row : CatalogRow) (n p : ℕ) → IsWhole g image row n
+pub mark_from : (g : Geometry) (image : Image) (row : CatalogRow) (n p : ℕ) → IsWhole g image row n
     → is_marked g image (chain_pages image row n) p ≡ true → IsMarked g image row (p / 8)
 mark_from g image row n p chain marked =
     let size = interval_size g in
@@ -66,7 +66,7 @@ mark_from g image row n p chain marked =
     let parts = and_parts (iam_interval (page image q) == interval_of_page g p) (iam_mark (page image q) ((p / 8) % size)) found.2 in
     (found.0, (below_page g image row n found.0 chain.pages.pages found.1, eqb-true _ _ parts.0 ∙ intervals g p, parts.1))
 
-mark_in : (g : Geometry) (image : Image) (row : CatalogRow) (n p : ℕ) → IsWhole g image row n → IsMarked g image row (p / 8)
+pub mark_in : (g : Geometry) (image : Image) (row : CatalogRow) (n p : ℕ) → IsWhole g image row n → IsMarked g image row (p / 8)
     → is_marked g image (chain_pages image row n) p ≡ true
 mark_in g image row n p chain marked =
     let size = interval_size g in

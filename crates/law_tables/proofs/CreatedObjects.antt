@@ -17,6 +17,7 @@ use Rattle.spec_clean.specs.CleanFiles.{IsClean}
 use Rattle.spec_clean.specs.KnownOfObject.{known_of_object}
 use Rattle.spec_steps.specs.AtMost.{Changed, page_of, either, maps_of}
 use Rattle.spec_steps.specs.Acts.{Owns, Acts, StaysClean}
+use Rattle.spec_steps.specs.Taking.{IsTakenAs}
 use Rattle.spec_steps.specs.Tables.{CreatesObject}
 use Rattle.law_writes.proofs.MapPages.{boot_not, differs}
 use Rattle.law_clean.proofs.ObjectTrees.{table_of}
@@ -132,6 +133,6 @@ module _ (g : Geometry) (image image' : Image) (row : CatalogRow) (p : ℕ) (sta
   pub create_clean : IsClean g image → row.kind ≡ Heap → IsClean g image'
   create_clean clean heap = file_stays_clean g image image' row.id start.shape clean create_maps (own_pages heap)
 
-  pub create_exact : HasExactSgam g image → HasExactSgam g image'
-  create_exact = exact_from g image image' (p / 8) creates.most.size (single_changes g image image' p p 9 creates.most)
-      (λ q u other h. ⊎_elim (λ old. old) (λ new. absurd (other (ap (λ n. n / 8) new.0))) (use_from q u h)) (taken_here g image' p Iam creates.taken)
+  pub create_exact : IsTakenAs g image' p Iam → HasExactSgam g image → HasExactSgam g image'
+  create_exact taken = exact_from g image image' (p / 8) creates.most.size (single_changes g image image' p p 9 creates.most)
+      (λ q u other h. ⊎_elim (λ old. old) (λ new. absurd (other (ap (λ n. n / 8) new.0))) (use_from q u h)) (taken_here g image' p Iam taken)

@@ -14,7 +14,8 @@ use Rattle.spec_extents.specs.Extents.{Extent, extent_of, IsGoodExtent}
 use Rattle.spec_clean.specs.CleanFiles.{IsClean}
 use Rattle.spec_steps.specs.AtMost.{Changed}
 use Rattle.spec_steps.specs.Acts.{Owns, Acts, StaysClean}
-use Rattle.spec_steps.specs.Tables.{Has, UsesOf, dropped, DropsObject}
+use Rattle.spec_steps.specs.Taking.{HasOpenPage}
+use Rattle.spec_steps.specs.Tables.{Has, UsesOf, IsLeftShared, dropped, DropsObject}
 use Rattle.law_writes.proofs.MapPages.{boot_not, differs}
 use Rattle.law_extents.proofs.Listed.{decided}
 use Rattle.law_extents.proofs.Locality.{unused_zero}
@@ -23,12 +24,16 @@ use Rattle.law_extents.proofs.GoodChanges.{stable, same_good, extent_freed, sing
 use Rattle.law_frames.proofs.Held.{IsStart, goods, held, sound_catalog, the_row}
 use Rattle.law_steps.proofs.Owners.{one_owner}
 use Rattle.law_steps.proofs.OneObject.{IsNotOthers, acts_from, other_uses, other_marks, clean_after}
-use Rattle.law_steps.proofs.FreedSlots.{freed_bits}
-use Rattle.law_steps.proofs.ExactSgam.{free_here, freed_here, zero_open, exact_unless}
+use Rattle.law_steps.proofs.ExactSgam.{free_here, zero_open, exact_unless}
 use Rattle.spec_steps.specs.Sgam.{IsSgamExact, HasExactSgam}
 use Rattle.spec_file.specs.Pfs.{is_allocated_byte}
 use Rattle.law_tables.proofs.Entries.{LosesRow, loses}
 use Rattle.law_frames.proofs.WholeFiles.{after, file_stays_clean}
+
+-- of an extent some of whose single pages are given back SGAM is exact
+left_here : (g : Geometry) (image : Image) (e : ℕ) → IsGoodExtent g e (extent_of g image e) → IsLeftShared g image e → HasOpenPage g image e → IsSgamExact g image e
+left_here g image e good (inl shared) open_page = record { open_page = λ mixed. open_page; mixed = λ holds o. shared.mixed }
+left_here g image e good (inr emptied) open_page = free_here g image e good emptied.free
 
 module _ (g : Geometry) (image image' : Image) (row : CatalogRow) (start : IsStart g image) (drops : DropsObject g image image' row) where
   abbrev changed : Changed
@@ -150,7 +155,7 @@ module _ (g : Geometry) (image image' : Image) (row : CatalogRow) (start : IsSta
             λ h. use_in q u (λ same. h.1 (u.place, subst (λ r. IsUseBy g image q r u.place) (own_row h.0.0 h.0.1 (h.0.2 ∙ same)) h.0.3)) h.0,
           );
           marks = λ m. mark_from e m;
-          bits = freed_bits g image' e (drops.shared e inside single);
+          bits = drops.shared e inside single;
         })
 
     same : (IsMarked g image row e → ⊥) → (UsesOf g image row e → ⊥) → IsGoodExtent g e y
@@ -202,5 +207,5 @@ module _ (g : Geometry) (image image' : Image) (row : CatalogRow) (start : IsSta
       exact_unless g image' e (λ bad. decided (IsMarked g image row e) (λ case_. ⊎_elim (λ m. bad (free_here g image' e good (drops.marked e inside m)))
       (λ unmarked. decided (UsesOf g image row e) (λ case__. ⊎_elim
       (λ s. let has = gone_has s.0 (s.2, s.3) in
-      bad (freed_here g image' e good (drops.shared e inside s) (s.0, s.1, has_ordinary s.0 has, zero_open g image' s.0 (drops.bytes s.0 (below e inside s.0 s.1) has))))
+      bad (left_here g image' e good (drops.shared e inside s) (s.0, s.1, has_ordinary s.0 has, zero_open g image' s.0 (drops.bytes s.0 (below e inside s.0 s.1) has))))
       (λ none. bad (same_exact e inside unmarked none (exact e inside))) case__)) case_))

@@ -2,12 +2,14 @@
 use Rattle.std.specs.Prelude.{◌≡◌, ℕ, length}
 use Rattle.spec_file.specs.declared.geometry.Geometry.{Geometry}
 use Rattle.spec_file.specs.declared.data.Kind.TheVariants.{Heap}
+use Rattle.spec_file.specs.declared.pfs.PfsKind.TheVariants.{Iam}
 use Rattle.spec_file.specs.Image.{Image}
 use Rattle.spec_file.specs.CatalogRows.{CatalogRow}
 use Rattle.spec_file.specs.Places.{HasShape}
 use Rattle.spec_clean.specs.CleanFiles.{HasCleanMaps, IsClean}
 use Rattle.spec_steps.specs.Acts.{StaysClean}
 use Rattle.spec_steps.specs.Sgam.{HasExactSgam}
+use Rattle.spec_steps.specs.Taking.{IsTakenAs}
 use Rattle.spec_steps.specs.Tables.{CreatesObject, DropsObject}
 
 -- CREATE of an object of either kind leaves maps and chains clean; of a clustered table the root is still missing then
@@ -20,10 +22,10 @@ abbrev pub CreateKeepsClean : Type 0
 CreateKeepsClean = (g : Geometry) (image image' : Image) (row : CatalogRow) (p : ℕ) → HasShape g (length image) → IsClean g image
     → CreatesObject g image image' row p → row.kind ≡ Heap → IsClean g image'
 
--- and SGAM exact
+-- and SGAM exact, where its page is taken so
 abbrev pub CreateKeepsSgam : Type 0
 CreateKeepsSgam = (g : Geometry) (image image' : Image) (row : CatalogRow) (p : ℕ) → HasShape g (length image) → HasCleanMaps g image
-    → CreatesObject g image image' row p → HasExactSgam g image → HasExactSgam g image'
+    → CreatesObject g image image' row p → IsTakenAs g image' p Iam → HasExactSgam g image → HasExactSgam g image'
 
 -- DROP leaves maps and chains clean
 abbrev pub DropKeepsMaps : Type 0

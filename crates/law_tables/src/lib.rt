@@ -3,7 +3,7 @@
 
 ghost use Rattle.law_tables.specs.Laws.{CreateKeepsMaps, CreateKeepsClean, CreateKeepsSgam, DropKeepsMaps, DropKeepsClean, DropKeepsSgam};
 
-/// CREATE leaves clean maps clean and SGAM exact, and that of a heap the whole file clean.
+/// CREATE leaves clean maps clean, and that of a heap the whole file clean; and SGAM exact, where its page is taken so.
 pub fn create_laws()
     ensures maps { CreateKeepsMaps }
     ensures clean { CreateKeepsClean }

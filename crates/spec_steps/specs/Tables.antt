@@ -10,10 +10,11 @@ use Rattle.spec_file.specs.CatalogRows.{CatalogRow, row_of_entry}
 use Rattle.spec_chain.specs.Chains.{IsInChain}
 use Rattle.spec_chain.specs.Marks.{IsMarked}
 use Rattle.spec_chain.specs.Uses.{IsUseBy, IsAllocatedTo, pfs_byte}
+use Rattle.spec_extents.specs.Extents.{extent_of}
+use Rattle.spec_extents.specs.Changes.{IsStillShared, IsEmptied}
 use Rattle.spec_steps.specs.AtMost.{Changed, AtMost, page_of, either, maps_of}
 use Rattle.spec_steps.specs.IamPages.{IsOnlyIam}
-use Rattle.spec_steps.specs.Taking.{IsTakeable, IsTakenAs}
-use Rattle.spec_steps.specs.Freeing.{IsFreedShared}
+use Rattle.spec_steps.specs.Taking.{IsTakeable, IsHeldAs}
 use Rattle.spec_steps.specs.Entries.{AddsEntry, EmptiesEntry}
 
 -- an object with one IAM page, page p, and nothing else: the page is taken as a single page, and an empty entry of
@@ -21,7 +22,7 @@ use Rattle.spec_steps.specs.Entries.{AddsEntry, EmptiesEntry}
 pub record CreatesObject (g : Geometry) (image image' : Image) (row : CatalogRow) (p : ℕ) : Type 0 where
   pub takeable : IsTakeable g image p
   pub most : AtMost g (either (maps_of p) (either (page_of p) (page_of 9))) image image'
-  pub taken : IsTakenAs g image' p Iam
+  pub taken : IsHeldAs g image' p Iam
   pub new : IsOnlyIam row.id p (page image' p)
   pub place : ℕ
   pub entry : List ℕ
@@ -46,6 +47,11 @@ dropped g image row = record {
   pages = λ q. q ≡ 9;
 }
 
+-- what the maps say of an extent of single pages, some of which are given back: it is mixed, or it is free, and then none
+-- of its pages is allocated
+abbrev pub IsLeftShared : Geometry → Image → ℕ → Type 0
+IsLeftShared g image e = IsStillShared (extent_of g image e) ⊎ IsEmptied e (extent_of g image e)
+
 -- the object's entry is emptied, the PFS bytes of its pages are 0, the extents that it marked are free, and those of
 -- its single pages mixed or free. All its pages are ordinary, and none is written: slots and marks stay.
 pub record DropsObject (g : Geometry) (image image' : Image) (row : CatalogRow) : Type 0 where
@@ -53,7 +59,7 @@ pub record DropsObject (g : Geometry) (image image' : Image) (row : CatalogRow) 
   pub most : AtMost g (dropped g image row) image image'
   pub bytes : (p : ℕ) → p < length image → Has g image row p → pfs_byte g image' p ≡ 0
   pub marked : (e : ℕ) → e < extent_count image → IsMarked g image row e → is_free g image' e ≡ true
-  pub shared : (e : ℕ) → e < extent_count image → UsesOf g image row e → IsFreedShared g image' e
+  pub shared : (e : ℕ) → e < extent_count image → UsesOf g image row e → IsLeftShared g image' e
   pub place : ℕ
   pub empties : EmptiesEntry place (page image 9) (page image' 9)
   pub is : row ≡ row_of_entry (entry_at (page image 9) place)

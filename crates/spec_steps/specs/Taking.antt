@@ -33,6 +33,11 @@ pub record IsTakenAs (g : Geometry) (image : Image) (p : ℕ) (kind : PfsKind) :
   pub mixed : IsTrue (is_mixed g image (p / 8)) ↔ HasOpenPage g image (p / 8)
   pub byte : Fits (pfs_byte g image p) kind
 
+-- what the rules of the check ask of it then
+pub record IsHeldAs (g : Geometry) (image : Image) (p : ℕ) (kind : PfsKind) : Type 0 where
+  pub free : is_free g image (p / 8) ≡ false
+  pub byte : Fits (pfs_byte g image p) kind
+
 -- a single page is put into an empty slot of the object
 pub record PutsIntoSlot (g : Geometry) (image image' : Image) (row : CatalogRow) (slot p : ℕ) : Type 0 where
   pub object : IsObject image row

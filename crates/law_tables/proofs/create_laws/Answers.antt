@@ -7,5 +7,5 @@ returns c = record {
   maps = λ g image image' row p shape clean creates. create_maps g image image' row p (record { shape = shape; clean = clean }) creates;
   clean = λ g image image' row p shape clean creates heap.
       create_clean g image image' row p (record { shape = shape; clean = clean_maps g image shape clean }) creates clean heap;
-  sgam = λ g image image' row p shape clean creates exact. create_exact g image image' row p (record { shape = shape; clean = clean }) creates exact;
+  sgam = λ g image image' row p shape clean creates taken exact. create_exact g image image' row p (record { shape = shape; clean = clean }) creates taken exact;
 }

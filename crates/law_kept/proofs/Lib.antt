@@ -1,0 +1,13 @@
+pub mod Steps
+pub mod Words
+pub mod Singles
+pub mod NewPages
+pub mod NewChains
+pub mod EntryPages
+pub mod NewEntries
+pub mod Created
+pub mod Freed
+pub mod ReadTables
+pub mod Dropping
+pub mod PagesDropped
+pub mod Dropped

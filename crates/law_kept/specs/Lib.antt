@@ -1,0 +1,4 @@
+pub mod Views
+pub mod Singles
+pub mod Creates
+pub mod Drops

@@ -1,7 +1,7 @@
 pub mod Steps
 pub mod Shown
 pub mod Rows
-pub mod Links
+pub mod LinkSteps
 pub mod Chains
 pub mod Pfs
 pub mod Lists
@@ -14,6 +14,7 @@ pub mod SingleSteps
 pub mod IamBytes
 pub mod ObjectSteps
 pub mod Parts
+pub mod LinkBytes
 pub mod FreeSteps
 pub mod Leaves
 pub mod Reaches

@@ -22,3 +22,4 @@ pub mod OwnedSteps
 pub mod DropSteps
 pub mod LastSteps
 pub mod NearPages
+pub mod NearExtents

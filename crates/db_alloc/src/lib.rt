@@ -7,6 +7,7 @@ mod drop;
 mod find;
 mod free;
 mod iam;
+mod left;
 mod links;
 mod list;
 mod look;

@@ -15,6 +15,7 @@ pub mod IamBytes
 pub mod ObjectSteps
 pub mod Parts
 pub mod LinkBytes
+pub mod SlotSteps
 pub mod FreeSteps
 pub mod Leaves
 pub mod Reaches

@@ -1,5 +1,5 @@
 -- The pages near those of a table hold all of its own.
-use Rattle.std.proofs.Common.{◌≡◌, refl, ℕ, zero, suc, ◌+◌, ◌-◌, ◌*◌, ◌/◌, ◌%◌, ◌^◌, ◌<◌, ◌≤◌, min, true, false, not, Bool, List, [], ◌∷◌, ◌++◌, length, get_or, All, Contains, ◌⊎◌, ◌↔◌, inl, inr, ap, sym, ◌∙◌, subst, arith, eqb, ◌||◌, filter}
+use Rattle.std.proofs.Common.{◌≡◌, ℕ, zero, suc, ◌+◌, ◌-◌, ◌*◌, ◌/◌, ◌%◌, ◌^◌, ◌<◌, ◌≤◌, min, true, false, not, Bool, List, [], ◌∷◌, ◌++◌, length, get_or, All, Contains, ◌⊎◌, ◌↔◌, inl, inr, ap, sym, ◌∙◌, subst, arith, eqb, ◌||◌, filter}
 use Rattle.std.specs.Prelude.{slice_index}
 use Rattle.std.specs.Int.{bit_at}
 use Rattle.std.specs.List.{list_any, range_with_len}

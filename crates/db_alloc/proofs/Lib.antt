@@ -15,6 +15,8 @@ pub mod IamBytes
 pub mod ObjectSteps
 pub mod Parts
 pub mod LinkBytes
+pub mod SlotSteps
+pub mod ChainReaches
 pub mod FreeSteps
 pub mod Leaves
 pub mod Reaches

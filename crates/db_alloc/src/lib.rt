@@ -20,6 +20,7 @@ mod pages;
 mod part;
 mod search;
 mod single;
+mod slot;
 mod table;
 
 pub use buffer::page_room;

@@ -1,16 +1,15 @@
 -- A statement that has read the chain of its object has reached each page of it.
-use Rattle.std.proofs.Common.{◌≡◌, refl, ℕ, zero, suc, ◌+◌, ◌<◌, ◌≤◌, Bool, true, false, not, List, [], ◌∷◌, ◌++◌, length, Contains, inl, inr, sym, ap, ◌∙◌, subst}
+use Rattle.std.proofs.Common.{◌≡◌, ℕ, zero, suc, Bool, not, List, [], ◌∷◌, ◌++◌, length, Contains, subst}
 use Rattle.std.specs.Prelude.{if◌then◌else◌, ◌||◌, ◌==◌}
 use Rattle.std.proofs.lemmas.Bool.{cond_both}
 use Rattle.std.proofs.lemmas.List.{append_assoc}
-use Rattle.std.proofs.lemmas.List.Elements.{Contains-append_left, Contains-append_right, Contains-append_cases, Contains-push}
+use Rattle.std.proofs.lemmas.List.Elements.{Contains-append_left}
 use Rattle.spec_file.specs.declared.data.Resource.TheVariants as resource
 use Rattle.spec_file.specs.Image.{page}
 use Rattle.spec_file.specs.Places.{is_inside}
 use Rattle.spec_file.specs.CatalogRows.{CatalogRow}
 use Rattle.spec_chain.specs.Chains.{is_last, next_of}
 use Rattle.spec_plan.specs.Reading.{are_slots_inside}
-use Rattle.spec_plan.specs.Refusals.{bad_page}
 use Rattle.spec_words.specs.NetChanges.{FileShape}
 use Rattle.spec_words.specs.Views.{View, Plan, Gives}
 use Rattle.spec_words.specs.Words.{◌then◌, give, refuse, sees, look, where_good}

@@ -113,7 +113,7 @@ leaves_extent shape e false =
     leaves_then g (gam_read shape e) _ (leaves_map g _ _) (λ _.
     leaves_then g (sgam_read shape e) _ (leaves_map g _ _) (λ _. leaves_gam shape e 1)))
 
-marked_leaves : (shape : FileShape) (p : ℕ) → Leaves shape.geometry (marked_freed shape p)
+pub marked_leaves : (shape : FileShape) (p : ℕ) → Leaves shape.geometry (marked_freed shape p)
 marked_leaves shape p =
     let g = shape.geometry in
     leaves_then g (pfs_read shape p) _ (leaves_map g _ _) (λ _.

@@ -25,3 +25,4 @@ pub mod DropSteps
 pub mod LastSteps
 pub mod NearPages
 pub mod NearExtents
+pub mod GiveBackSteps

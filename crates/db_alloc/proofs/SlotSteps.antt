@@ -2,7 +2,7 @@
 use Rattle.std.proofs.Common.{◌≡◌, refl, ℕ, zero, suc, ◌+◌, ◌<◌, ◌≤◌, ◌==◌, Bool, true, false, List, [], ◌∷◌, length, map, filter, get_or, All, Contains, sym, ap, ◌∙◌, subst, arith}
 use Rattle.std.specs.Prelude.{slice_index}
 use Rattle.std.specs.List.{range_with_len}
-use Rattle.std.proofs.lemmas.Bool.Decides.{nat_tests}
+use Rattle.std.proofs.lemmas.Bool.{eq-eqb, ne_eqb}
 use Rattle.std.proofs.lemmas.List.{length-map}
 use Rattle.std.proofs.lemmas.List.FromFn.{length-map-range_with_len, get_or-map-range_with_len}
 use Rattle.spec_file.specs.declared.data.PageNo.{PageNo}
@@ -31,11 +31,11 @@ first_contained (p ∷ chain) some = (0, omega arith, refl)
 
 -- ---- its slots
 
-pub slot_hit : (slots : List PageNo) (i : ℕ) (d : PageNo) → i < length slots → (get_or slots i d).0 ≡ 0 → (slice_index (numbers slots) i == 0) ≡ true
-slot_hit slots i d lt e = ap (λ (n : ℕ). n == 0) (number_at slots i d lt 0 ∙ e)
+pub slot_hit : (p : ℕ) (slots : List PageNo) (i : ℕ) (d : PageNo) → i < length slots → (get_or slots i d).0 ≡ p → (slice_index (numbers slots) i == p) ≡ true
+slot_hit p slots i d lt e = ap (λ (n : ℕ). n == p) (number_at slots i d lt 0) ∙ eq-eqb (get_or slots i d).0 p e
 
-pub slot_miss : (slots : List PageNo) (i : ℕ) (d : PageNo) → i < length slots → ((get_or slots i d).0 ≡ 0 → ⊥) → (slice_index (numbers slots) i == 0) ≡ false
-slot_miss slots i d lt ne = ap (λ (n : ℕ). n == 0) (number_at slots i d lt 0) ∙ (grind (arith, nat_tests, ne))
+pub slot_miss : (p : ℕ) (slots : List PageNo) (i : ℕ) (d : PageNo) → i < length slots → ((get_or slots i d).0 ≡ p → ⊥) → (slice_index (numbers slots) i == p) ≡ false
+slot_miss p slots i d lt ne = ap (λ (n : ℕ). n == p) (number_at slots i d lt 0) ∙ ne_eqb (get_or slots i d).0 p ne
 
 slots_of : (f : ℕ → List ℕ) (chain : List ℕ) → 1 ≤ length chain → first_slots (map f chain) ≡ iam_slots (f (first_page chain))
 slots_of f [] some = absurd (omega (arith, some))
@@ -52,12 +52,17 @@ filter_range f g (suc n) lo same =
     filter_step f g lo (range_with_len (lo + 1) n) (range_with_len (lo + 1) n) (filter_range f g n (lo + 1) (λ i low high. same i (omega (arith, low)) (omega (arith, high)))) (f lo) refl
     (sym (same lo (omega arith) (omega arith)))
 
-pub free_told : (view : View) (chain : List ℕ) (slots : List PageNo) → 1 ≤ length chain → numbers slots ≡ first_slots (map (page view.now) chain)
-    → first_in (filter (λ i. slice_index (numbers slots) i == 0) (range_with_len 0 (length slots))) ≡ first_in (slots_with chain 0 view)
-free_told view chain slots some is =
+-- the slots that hold page p, as they were read
+pub slots_told : (p : ℕ) (view : View) (chain : List ℕ) (slots : List PageNo) → 1 ≤ length chain → numbers slots ≡ first_slots (map (page view.now) chain)
+    → filter (λ i. slice_index (numbers slots) i == p) (range_with_len 0 (length slots)) ≡ slots_with chain p view
+slots_told p view chain slots some is =
     let bytes = page view.now (first_page chain) in
     let all = is ∙ slots_of (page view.now) chain some in
     let long = sym (length-map slots (λ (p : PageNo). p.0)) ∙ ap (λ (xs : List ℕ). length xs) all ∙ length-map-range_with_len (iam_slot bytes) 0 8 in
-    ap (λ (n : ℕ). first_in (filter (λ i. slice_index (numbers slots) i == 0) (range_with_len 0 n))) long
-    ∙ ap first_in (filter_range (λ i. slice_index (numbers slots) i == 0) (λ i. iam_slot bytes i == 0) 8 0 (λ i low high.
-    ap (λ (n : ℕ). n == 0) (ap (λ (xs : List ℕ). slice_index xs i) all ∙ get_or-map-range_with_len (iam_slot bytes) 0 8 i i 0 high (omega arith))))
+    ap (λ (n : ℕ). filter (λ i. slice_index (numbers slots) i == p) (range_with_len 0 n)) long
+    ∙ filter_range (λ i. slice_index (numbers slots) i == p) (λ i. iam_slot bytes i == p) 8 0 (λ i low high.
+    ap (λ (n : ℕ). n == p) (ap (λ (xs : List ℕ). slice_index xs i) all ∙ get_or-map-range_with_len (iam_slot bytes) 0 8 i i 0 high (omega arith)))
+
+pub free_told : (view : View) (chain : List ℕ) (slots : List PageNo) → 1 ≤ length chain → numbers slots ≡ first_slots (map (page view.now) chain)
+    → first_in (filter (λ i. slice_index (numbers slots) i == 0) (range_with_len 0 (length slots))) ≡ first_in (slots_with chain 0 view)
+free_told view chain slots some is = ap first_in (slots_told 0 view chain slots some is)

@@ -1,6 +1,5 @@
 // DROP gives back what an object owns: its pages, its chain, and the extents that it marks.
-ghost use Rattle.std.specs.Prelude.{◌≡◌, ◌<◌, ◌≤◌, ◌/◌, ◌||◌, ◌==◌, ℕ, List, IsTrue, None, length, map, All};
-ghost use Rattle.std.specs.List.{list_any};
+ghost use Rattle.std.specs.Prelude.{◌≡◌, ◌<◌, ◌≤◌, ◌/◌, ℕ, List, IsTrue, None, length, map, All};
 ghost use Rattle.spec_file.specs.declared.data.Resource.TheVariants as resource;
 ghost use Rattle.spec_file.specs.Image.{page};
 ghost use Rattle.spec_file.specs.Places as places;
@@ -13,7 +12,7 @@ ghost use Rattle.db_locks.specs.States.{PlanState};
 ghost use Rattle.db_locks.specs.Does.{Does, DoesAfter};
 ghost use Rattle.db_alloc.specs.Drops.{HasReached, extents, extents_dropped, owned_dropped};
 ghost use Rattle.db_alloc.specs.Maps.{IsOwnable};
-ghost use Rattle.db_alloc.specs.Marks.{first_slots, is_in_slot};
+ghost use Rattle.db_alloc.specs.Marks.{first_slots};
 ghost use Rattle.db_alloc.specs.Tables.{numbers, bytes_of};
 
 use crate::Table;
@@ -21,8 +20,7 @@ use crate::buffer::page_room;
 use crate::chain::Chain;
 use crate::free::{left_freed, marked_freed, shared_freed};
 use crate::left::left_extents;
-use crate::list::has_page;
-use crate::marks::{chain_slots, is_single};
+use crate::marks::{chain_slots, is_shared};
 use crate::owned::{Owned, read_owned};
 use db_locks::{PageStop, PlanPages};
 use pg_base::{ExtentNo, Geometry, Page, PageNo, Resource};
@@ -40,13 +38,6 @@ fn check_ordinary(geometry: Geometry, pages: &[PageNo]) -> Result<(), PageStop>
         }
     }
     Ok(())
-}
-
-// Page p is in one of these single-page slots, or in the chain.
-fn is_shared(slots: &[PageNo], chain: &[PageNo], p: PageNo) -> bool
-    ensures { result ≡ (is_in_slot (numbers slots.now) p.0 || list_any (λ q. q == p.0) (numbers chain.now)) }
-{
-    is_single(slots, p) || has_page(chain, p)
 }
 
 // Gives back one page of an object that has this chain and these single-page slots.

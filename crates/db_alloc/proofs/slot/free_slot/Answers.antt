@@ -22,7 +22,7 @@ returns-then-slots-i-eq0-clause-slot c =
     let n = length slots in
     let f : ℕ → Bool = λ i. slice_index (numbers slots) i == 0 in
     sym (c.loop-i.invariant ∙ ap (λ xs. first_in (filter f xs)) (extents_first i n c.loop-i-test.true)
-    ∙ first_hit f i (range_with_len (i + 1) (n - (i + 1))) (slot_hit slots i (record { 0 = 0 }) c.loop-i-test.true c.if-slots-i-eq0.true))
+    ∙ first_hit f i (range_with_len (i + 1) (n - (i + 1))) (slot_hit 0 slots i (record { 0 = 0 }) c.loop-i-test.true c.if-slots-i-eq0.true))
 
 pub loop-i-preserved : goal.loop-i-preserved
 loop-i-preserved c =
@@ -31,7 +31,7 @@ loop-i-preserved c =
     let n = length slots in
     let f : ℕ → Bool = λ i. slice_index (numbers slots) i == 0 in
     c.loop-i.invariant ∙ ap (λ xs. first_in (filter f xs)) (extents_first i n c.loop-i-test.true)
-    ∙ first_miss f i (range_with_len (i + 1) (n - (i + 1))) (slot_miss slots i (record { 0 = 0 }) c.loop-i-test.true c.if-slots-i-eq0.false)
+    ∙ first_miss f i (range_with_len (i + 1) (n - (i + 1))) (slot_miss 0 slots i (record { 0 = 0 }) c.loop-i-test.true c.if-slots-i-eq0.false)
 
 pub returns-clause-slot : goal.returns-clause-slot
 returns-clause-slot c =

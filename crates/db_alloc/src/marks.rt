@@ -1,5 +1,5 @@
 // The pages that the chain of a table gives it: those in single-page slots, and those of marked extents.
-ghost use Rattle.std.specs.Prelude.{◌≡◌, ◌<◌, ◌++◌, ◌∷◌, [], ◌≤◌, ◌||◌, ◌==◌, IfOk, IfErr, filter, length, All};
+ghost use Rattle.std.specs.Prelude.{◌≡◌, ◌<◌, ◌≤◌, ◌||◌, ◌==◌, IfOk, IfErr, filter, length, All};
 ghost use Rattle.std.specs.List.{list_any, range_with_len};
 ghost use Rattle.spec_file.specs.declared.sizes.TheConstants.{BIT_COUNT};
 ghost use Rattle.spec_file.specs.Iam.{iam_mark};

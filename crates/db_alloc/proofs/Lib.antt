@@ -17,6 +17,7 @@ pub mod Parts
 pub mod LinkBytes
 pub mod SlotSteps
 pub mod ChainReaches
+pub mod MarkedSteps
 pub mod FreeSteps
 pub mod Leaves
 pub mod Reaches

@@ -13,6 +13,7 @@ mod links;
 mod list;
 mod look;
 mod maps;
+mod marked;
 mod marks;
 mod near;
 mod object;

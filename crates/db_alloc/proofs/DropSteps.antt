@@ -1,5 +1,5 @@
 -- How what an object owns is given back, call by call.
-use Rattle.std.proofs.Common.{◌≡◌, refl, ℕ, zero, suc, ◌+◌, ◌*◌, ◌/◌, ◌<◌, ◌≤◌, Bool, true, false, not, IsTrue, List, [], ◌∷◌, ◌++◌, length, map, drop, get_or, filter, All, Contains, Option, Result, Ok, Err, sym, ap, ◌∙◌, subst, arith, drop-cons, add-one, append-nil}
+use Rattle.std.proofs.Common.{◌≡◌, refl, ℕ, suc, ◌+◌, ◌*◌, ◌/◌, ◌<◌, ◌≤◌, Bool, true, false, not, IsTrue, List, [], ◌∷◌, ◌++◌, length, map, drop, get_or, filter, All, Contains, Result, Ok, Err, sym, ap, ◌∙◌, subst, arith, drop-cons, add-one, append-nil}
 use Rattle.std.proofs.lemmas.Bool.{false≢true}
 use Rattle.std.proofs.lemmas.List.Elements.{All-push}
 use Rattle.std.specs.Prelude.{◌||◌, ◌&&◌, ◌==◌, IsErrAnd, IfErr, OnOk, if◌then◌else◌}
@@ -9,26 +9,25 @@ use Rattle.std.proofs.Math.ListN.{get_or-map}
 use Rattle.spec_file.specs.declared.data.ExtentNo.{ExtentNo}
 use Rattle.spec_file.specs.declared.data.PageNo.{PageNo}
 use Rattle.spec_file.specs.Roles.{is_ordinary}
-use Rattle.spec_file.specs.declared.data.Resource.{Resource}
 use Rattle.spec_file.specs.declared.geometry.Geometry.{Geometry}
 use Rattle.spec_file.specs.CatalogRows.{CatalogRow}
 use Rattle.spec_file.specs.Image.{Image, page}
-use Rattle.spec_file.specs.Places.{HasShape, pfs_page}
+use Rattle.spec_file.specs.Places.{pfs_page}
 use Rattle.spec_plan.specs.Reading.{is_single, is_marked}
 use Rattle.spec_words.specs.NetChanges.{FileShape, extents_of}
-use Rattle.spec_words.specs.Views.{View, Plan, Gives}
+use Rattle.spec_words.specs.Views.{View, Plan}
 use Rattle.spec_words.specs.Words.{◌then◌, give, sees, where_good, for_each}
 use Rattle.spec_words.specs.Tables.{object_pages}
 use Rattle.spec_alloc.specs.Chains.{chain_now}
 use Rattle.spec_alloc.specs.Freeing.{is_in_use, is_shared_page, shared_freed, marked_freed}
-use Rattle.spec_alloc.specs.Objects.{page_dropped, left_extents, left_freed, pages_dropped}
+use Rattle.spec_alloc.specs.Objects.{page_dropped, left_extents, pages_dropped}
 use Rattle.law_net.specs.GoodViews.{Leads as LeadsTo}
 use Rattle.db_locks.specs.declared.plan_pages.PageStop.{PageStop}
 use Rattle.db_locks.specs.declared.plan_pages.PageStop.TheVariants.{NoMemory}
 use Rattle.db_locks.specs.States.{PlanState}
-use Rattle.db_locks.specs.Does.{Does, DoesAfter, Stays, stop_of}
-use Rattle.db_locks.proofs.PlanLaws.{does_then, does_exit, does_see, does_give}
-use Rattle.db_alloc.specs.Drops.{LeavesPages, HasReached, extents, owned_read, owned_dropped, extents_dropped}
+use Rattle.db_locks.specs.Does.{Does, DoesAfter, Stays}
+use Rattle.db_locks.proofs.PlanLaws.{stays_same, does_then, does_exit, does_see, does_give}
+use Rattle.db_alloc.specs.Drops.{LeavesPages, HasReached, extents, owned_read, owned_dropped}
 use Rattle.db_alloc.specs.Maps.{IsOwnable}
 use Rattle.db_alloc.specs.Marks.{marks, first_slots, is_in_slot}
 use Rattle.db_alloc.specs.Results.{value_as}
@@ -116,6 +115,11 @@ reach_at looked view chain iams g e h same same_g lt marked =
 pub left_unseen : {C : Type 0} {a b : PlanState} (looked : List ℕ) (f : View → List ℕ) (F : C → List ℕ) {stop : PageStop} (r : Result C PageStop) → DoesAfter {A = Unit {0}} looked a b (give tt) (Err stop)
     → IsErrAnd r (λ s. s ≡ stop) → DoesAfter looked a b (sees f) (value_as F r)
 left_unseen looked f F {stop} r d h = does_plan (give_then {A = Unit {0}} tt (λ _. sees f)) (does_exit_as (λ _. sees f) F stop r refl d h)
+
+pub left_short : {C : Type 0} (looked : List ℕ) (a : PlanState) (f : View → List ℕ) (F : C → List ℕ) {stop : PageStop} (r : Result C PageStop) → stop ≡ NoMemory → IsErrAnd r (λ s. s ≡ stop)
+    → DoesAfter looked a a (sees f) (value_as F r)
+left_short looked a f F r short h =
+    left_unseen looked f F r (record { exact = λ told. tt; stays = stays_same a; cause = tt }) (subst (λ (t : PageStop). IsErrAnd r (λ s. s ≡ t)) short h)
 
 -- one extent more, or none
 pub short_or : {a b : PlanState} (looked : List ℕ) (r : Result (Unit {0}) PageStop) → IfErr r (λ e. e ≡ NoMemory) → DoesAfter {A = Unit {0}} looked a b (give tt) (Ok tt) → DoesAfter looked a b (give tt) r

@@ -1,5 +1,5 @@
 -- How pages are given back, call by call.
-use Rattle.std.proofs.Common.{◌≡◌, refl, ℕ, ◌+◌, ◌*◌, ◌/◌, ◌%◌, ◌<◌, Bool, true, false, IsTrue, List, [], ◌∷◌, ◌++◌, Contains, Option, None, Result, Ok, Err, sym, ap, ◌∙◌, subst, arith}
+use Rattle.std.proofs.Common.{◌≡◌, ℕ, ◌+◌, ◌*◌, ◌/◌, ◌%◌, ◌<◌, Bool, true, false, IsTrue, List, [], ◌∷◌, ◌++◌, Contains, Option, None, Result, Ok, Err, sym, ap, ◌∙◌, subst, arith}
 use Rattle.std.specs.Prelude.{IsErrAnd, if◌then◌else◌}
 use Rattle.std.proofs.lemmas.List.Elements.{Contains-append_left, Contains-append_right, Contains-push}
 use Rattle.spec_file.specs.declared.data.Resource.{Resource}
@@ -8,16 +8,15 @@ use Rattle.spec_file.specs.declared.geometry.Geometry.{Geometry}
 use Rattle.spec_file.specs.declared.page_type.TheConstants.{GAM_TYPE, SGAM_TYPE, PFS_TYPE}
 use Rattle.spec_file.specs.Places.{HasShape, gam_place, sgam_place, pfs_page}
 use Rattle.spec_words.specs.NetChanges.{FileShape}
-use Rattle.spec_words.specs.Views.{View, Plan, Gives, End}
-use Rattle.spec_words.specs.Words.{ended, ◌then◌, give, sees, reach, where_good, take, put_pfs, put_gam, put_sgam}
+use Rattle.spec_words.specs.Views.{View, Plan}
+use Rattle.spec_words.specs.Words.{◌then◌, give, sees, reach, take, put_pfs, put_gam}
 use Rattle.spec_alloc.specs.Search.{map_read, gam_read, sgam_read, pfs_read}
 use Rattle.spec_alloc.specs.Freeing.{is_in_use, put_bits, shared_freed, extent_freed, marked_freed}
 use Rattle.spec_alloc.specs.Objects.{left_freed}
 use Rattle.db_locks.specs.declared.plan_pages.PageStop.{PageStop}
 use Rattle.db_locks.specs.States.{PlanState}
-use Rattle.db_locks.specs.Does.{Does, DoesAfter, DoesAs, Stays, stop_of}
-use Rattle.db_locks.proofs.PlanLaws.{stays_same, stays_then, does_after, does_exit, does_more, does_give, does_see}
-use Rattle.db_locks.proofs.LoopLaws.{does_further}
+use Rattle.db_locks.specs.Does.{Does, DoesAfter, Stays}
+use Rattle.db_locks.proofs.PlanLaws.{stays_same, stays_then, does_after, does_exit, does_more, does_see}
 use Rattle.db_alloc.proofs.MapPlaces.{same_pfs}
 use Rattle.db_alloc.proofs.Steps.{does_plan, give_then}
 

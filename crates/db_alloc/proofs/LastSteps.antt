@@ -1,5 +1,5 @@
 -- The last call of a chain, whose stops are handed on.
-use Rattle.std.proofs.Common.{◌≡◌, ℕ, List, IsTrue, Result, Err, sym, ap, ◌∙◌, subst}
+use Rattle.std.proofs.Common.{◌≡◌, ℕ, List, Result, Err, sym, ap, ◌∙◌, subst}
 use Rattle.std.specs.Prelude.{IsErrAnd}
 use Rattle.std.proofs.lemmas.Result.{err_from_is_err_and}
 use Rattle.spec_words.specs.Views.{Plan}

@@ -1,25 +1,23 @@
 -- What gives pages back leaves the pages that objects may own.
-use Rattle.std.proofs.Common.{◌≡◌, ◌≢◌, refl, ℕ, ◌*◌, ◌/◌, Bool, true, false, List, [], ◌∷◌, get_or-set_other, sym, ap, ◌∙◌, subst}
+use Rattle.std.proofs.Common.{◌≡◌, ◌≢◌, refl, ℕ, ◌/◌, Bool, true, false, List, [], ◌∷◌, get_or-set_other, sym, ap, ◌∙◌}
 use Rattle.std.specs.Prelude.{if◌then◌else◌, ◌||◌}
 use Rattle.std.proofs.lemmas.Bool.{cond_both, false≢true}
 use Rattle.spec_file.specs.declared.data.Resource.{Resource}
 use Rattle.spec_file.specs.declared.data.Resource.TheVariants as resource
 use Rattle.spec_file.specs.declared.geometry.Geometry.{Geometry}
-use Rattle.spec_file.specs.Image.{page}
 use Rattle.spec_file.specs.Places.{gam_place, sgam_place, pfs_place}
-use Rattle.spec_file.specs.Roles.{is_ordinary, is_system_place, is_pfs_page, is_gam_page, is_sgam_page, is_system_extent, is_for_objects, role_of}
-use Rattle.spec_file.specs.declared.role.Role.{Role}
+use Rattle.spec_file.specs.Roles.{is_ordinary, is_system_place, is_pfs_page, is_gam_page, is_sgam_page, is_system_extent, is_for_objects}
 use Rattle.spec_file.specs.declared.role.Role.TheVariants as role
 use Rattle.spec_log.specs.declared.item.Cell.TheVariants.{Bytes, Bit}
 use Rattle.spec_words.specs.NetChanges.{FileShape}
 use Rattle.spec_words.specs.Takes.{is_among}
 use Rattle.spec_words.specs.Views.{View, Plan}
-use Rattle.spec_words.specs.Words.{◌then◌, give, sees, reach, where_good, take, write, with_taken, put_gam, put_sgam, put_pfs, for_each}
+use Rattle.spec_words.specs.Words.{◌then◌, give, sees, reach, take, write, with_taken, put_gam, put_sgam, put_pfs, for_each}
 use Rattle.spec_alloc.specs.Search.{map_read, gam_read, sgam_read, pfs_read}
 use Rattle.spec_alloc.specs.Freeing.{is_in_use, put_bits, shared_freed, extent_freed, marked_freed, is_shared_page}
-use Rattle.spec_alloc.specs.Objects.{page_dropped, left_freed}
+use Rattle.spec_alloc.specs.Objects.{page_dropped}
 use Rattle.law_net.specs.GoodViews.{Leads}
-use Rattle.law_net.proofs.WordLaws.{leads_then, leads_give, leads_sees, leads_reach, leads_good, leads_take, leads_write, leads_each, leads_weaker}
+use Rattle.law_net.proofs.WordLaws.{leads_then, leads_give, leads_sees, leads_reach, leads_good, leads_take, leads_write, leads_weaker}
 use Rattle.db_alloc.specs.Drops.{LeavesPages}
 use Rattle.db_alloc.proofs.MapPlaces.{gam_system, sgam_system, pfs_system}
 
@@ -115,7 +113,7 @@ leaves_extent shape e false =
     leaves_then g (gam_read shape e) _ (leaves_map g _ _) (λ _.
     leaves_then g (sgam_read shape e) _ (leaves_map g _ _) (λ _. leaves_gam shape e 1)))
 
-marked_leaves : (shape : FileShape) (p : ℕ) → Leaves shape.geometry (marked_freed shape p)
+pub marked_leaves : (shape : FileShape) (p : ℕ) → Leaves shape.geometry (marked_freed shape p)
 marked_leaves shape p =
     let g = shape.geometry in
     leaves_then g (pfs_read shape p) _ (leaves_map g _ _) (λ _.

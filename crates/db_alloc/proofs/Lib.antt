@@ -1,7 +1,7 @@
 pub mod Steps
 pub mod Shown
 pub mod Rows
-pub mod Links
+pub mod LinkSteps
 pub mod Chains
 pub mod Pfs
 pub mod Lists
@@ -14,6 +14,10 @@ pub mod SingleSteps
 pub mod IamBytes
 pub mod ObjectSteps
 pub mod Parts
+pub mod LinkBytes
+pub mod SlotSteps
+pub mod ChainReaches
+pub mod MarkedSteps
 pub mod FreeSteps
 pub mod Leaves
 pub mod Reaches
@@ -21,3 +25,5 @@ pub mod OwnedSteps
 pub mod DropSteps
 pub mod LastSteps
 pub mod NearPages
+pub mod NearExtents
+pub mod GiveBackSteps

@@ -1,5 +1,5 @@
 -- The pages near those of a table hold all of its own.
-use Rattle.std.proofs.Common.{◌≡◌, refl, ℕ, zero, suc, ◌+◌, ◌-◌, ◌*◌, ◌/◌, ◌%◌, ◌^◌, ◌<◌, ◌≤◌, min, true, false, not, Bool, List, [], ◌∷◌, ◌++◌, length, get_or, All, Contains, ◌⊎◌, ◌↔◌, inl, inr, ap, sym, ◌∙◌, subst, arith, eqb, ◌||◌, filter}
+use Rattle.std.proofs.Common.{◌≡◌, ℕ, zero, suc, ◌+◌, ◌-◌, ◌*◌, ◌/◌, ◌%◌, ◌^◌, ◌<◌, ◌≤◌, min, true, false, not, Bool, List, [], ◌∷◌, ◌++◌, length, get_or, All, Contains, ◌⊎◌, ◌↔◌, inl, inr, ap, sym, ◌∙◌, subst, arith, eqb, ◌||◌, filter}
 use Rattle.std.specs.Prelude.{slice_index}
 use Rattle.std.specs.Int.{bit_at}
 use Rattle.std.specs.List.{list_any, range_with_len}
@@ -239,7 +239,7 @@ are_near pages test found near includes rise same = record {
   all = λ p below yes. (same p).1 (includes.all p below yes);
 }
 
-rise_in : (lo hi : ℕ) (ts : List ℕ) → IsStrictlyIncreasing ts → All (λ t. t < hi) ts → (0 < length ts → lo ≤ get_or ts 0 0) → RiseIn lo hi ts
+pub rise_in : (lo hi : ℕ) (ts : List ℕ) → IsStrictlyIncreasing ts → All (λ t. t < hi) ts → (0 < length ts → lo ≤ get_or ts 0 0) → RiseIn lo hi ts
 rise_in lo hi [] up all low = tt
 rise_in lo hi (t ∷ ts) up all low = (
   low (omega arith),

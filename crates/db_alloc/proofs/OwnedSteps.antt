@@ -1,5 +1,5 @@
 -- The chain of an object and its allocated pages, in one row of words.
-use Rattle.std.proofs.Common.{◌≡◌, refl, ℕ, List, ap, sym, ◌∙◌}
+use Rattle.std.proofs.Common.{◌≡◌, ℕ, List, sym, ◌∙◌}
 use Rattle.spec_file.specs.CatalogRows.{CatalogRow}
 use Rattle.spec_words.specs.NetChanges.{FileShape}
 use Rattle.spec_words.specs.Views.{Plan}

@@ -1,7 +1,6 @@
 -- Part of a page is written by putting the whole page.
-use Rattle.std.proofs.Common.{◌≡◌, ◌≢◌, refl, ℕ, ◌+◌, ◌-◌, ◌*◌, ◌<◌, ◌≤◌, leb, ltb, ◌&&◌, Bool, true, false, IsTrue, List, [], ◌∷◌, ◌++◌, length, get_or, take, drop, Contains, Option, Some, None, Result, Ok, Err, ◌⊎◌, inl, inr, sym, ap, ◌∙◌, subst, arith}
-use Rattle.std.specs.Prelude.{slice_index, slice_set, if◌then◌else◌, IsErrAnd}
-use Rattle.std.specs.List.{range_with_len}
+use Rattle.std.proofs.Common.{◌≡◌, refl, ℕ, ◌+◌, ◌-◌, ◌<◌, ◌≤◌, leb, ltb, ◌&&◌, false, IsTrue, List, [], ◌∷◌, ◌++◌, length, drop, Contains, Option, Result, ◌⊎◌, inl, inr, sym, ap, ◌∙◌, subst, arith}
+use Rattle.std.specs.Prelude.{slice_index, slice_set}
 use Rattle.std.proofs.lemmas.Bool.{cond_both, cases_lt}
 use Rattle.std.proofs.lemmas.Bool.Decides.{nat_tests}
 use Rattle.std.proofs.lemmas.List.{ext_get_or, get_or-take, get_or-drop}
@@ -10,22 +9,19 @@ use Rattle.byteorder.specs.Endian.{little_bytes}
 use Rattle.byteorder.specs.Numbers.{length-bytes_low_first}
 use Rattle.pg_base.proofs.NumberLaws.{same_byte}
 use Rattle.spec_file.specs.declared.data.Resource.{Resource}
-use Rattle.spec_file.specs.declared.data.Resource.TheVariants as resource
 use Rattle.spec_file.specs.Image.{Image, AreBytes, number_at, page}
 use Rattle.spec_rows.proofs.RowLaws.{spelled_at}
 use Rattle.spec_log.specs.declared.item.Cell.{Cell}
 use Rattle.spec_log.specs.declared.item.Cell.TheVariants.{Bytes}
 use Rattle.spec_log.specs.Cells.{with_bytes, byte_with}
 use Rattle.spec_words.specs.Views.{View, Gives, Outcome}
-use Rattle.spec_words.specs.Words.{ended, by_holder, ◌then◌, give, look, write, written, with_taken, put_page}
+use Rattle.spec_words.specs.Words.{ended, by_holder, write, written, with_taken}
 use Rattle.spec_words.specs.Takes.{is_among}
 use Rattle.pg_base.specs.Numbers.{PutsNumber}
 use Rattle.db_locks.specs.declared.plan_pages.PageStop.{PageStop}
 use Rattle.db_locks.specs.States.{PlanState}
-use Rattle.db_locks.specs.Does.{Does, DoesAfter}
-use Rattle.db_locks.proofs.PlanLaws.{does_more, does_exit}
-use Rattle.db_locks.proofs.WordLaws.{does_as, does_write_after_look}
-use Rattle.db_locks.proofs.CellSteps.{write_unlooked, write_looked}
+use Rattle.db_locks.specs.Does.{DoesAfter}
+use Rattle.db_locks.proofs.WordLaws.{does_as}
 
 -- ---- bytes of a page
 

@@ -23,7 +23,7 @@ use Rattle.db_alloc.specs.Tables.{byte_looked}
 use Rattle.db_alloc.specs.Drops.{owned_read}
 
 -- where the plan gives something this holds of the pages that it reached, of what it gives, and of the view then
-abbrev Ends : {A : Type 0} → Outcome A → (List ℕ → A → View → Type 0) → Type 0
+abbrev pub Ends : {A : Type 0} → Outcome A → (List ℕ → A → View → Type 0) → Type 0
 Ends o K = IfGives (K o.reached) o.ending
 
 gone : {A B : Type 0} (reached : List ℕ) (e : End A) (next : A → Plan B) (K : List ℕ → B → View → Type 0)
@@ -31,16 +31,16 @@ gone : {A B : Type 0} (reached : List ℕ) (e : End A) (next : A → Plan B) (K 
 gone reached (Gives x v) next K h = h
 gone reached (Stops refusal) next K h = tt
 
-ends_then : {A B : Type 0} (plan : Plan A) (next : A → Plan B) (v : View) (K : List ℕ → B → View → Type 0)
+pub ends_then : {A B : Type 0} (plan : Plan A) (next : A → Plan B) (v : View) (K : List ℕ → B → View → Type 0)
     → Ends (plan v) (λ reached x w. Ends (next x w) (λ more y u. K (reached ++ more) y u)) → Ends ((plan then next) v) K
 unfolding ◌then◌
 ends_then plan next v K h = gone (plan v).reached (plan v).ending next K h
 
-weaker : {A : Type 0} (K L : A → View → Type 0) (e : End A) → ((x : A) (w : View) → K x w → L x w) → IfGives K e → IfGives L e
+pub weaker : {A : Type 0} (K L : A → View → Type 0) (e : End A) → ((x : A) (w : View) → K x w → L x w) → IfGives K e → IfGives L e
 weaker K L (Gives x v) w h = w x v h
 weaker K L (Stops refusal) w h = h
 
-any_ends : {A : Type 0} (K : A → View → Type 0) (e : End A) → ((x : A) (w : View) → K x w) → IfGives K e
+pub any_ends : {A : Type 0} (K : A → View → Type 0) (e : End A) → ((x : A) (w : View) → K x w) → IfGives K e
 any_ends K (Gives x v) h = h x v
 any_ends K (Stops refusal) h = tt
 
@@ -48,11 +48,11 @@ look_by : (r : Resource) (q : ℕ) (v : View) (K : List ℕ → List ℕ → Vie
 look_by r q v K None h = h
 look_by r q v K (Some t) h = tt
 
-ends_look : (r : Resource) (q : ℕ) (v : View) (K : List ℕ → List ℕ → View → Type 0) → K (q ∷ []) (page v.now q) v → Ends (look r q v) K
+pub ends_look : (r : Resource) (q : ℕ) (v : View) (K : List ℕ → List ℕ → View → Type 0) → K (q ∷ []) (page v.now q) v → Ends (look r q v) K
 unfolding look
 ends_look r q v K h = look_by r q v K (v.other r) h
 
-ends_good : (good : Bool) (q : ℕ) (v : View) (K : List ℕ → Unit {0} → View → Type 0) → K [] tt v → Ends (where_good good q v) K
+pub ends_good : (good : Bool) (q : ℕ) (v : View) (K : List ℕ → Unit {0} → View → Type 0) → K [] tt v → Ends (where_good good q v) K
 unfolding where_good
 ends_good true q v K h = h
 ends_good false q v K h = tt

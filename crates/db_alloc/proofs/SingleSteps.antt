@@ -92,8 +92,9 @@ pub found_reached : {a b : PlanState} (wanted : Wanted) (p : ℕ) → Does a b (
     → IsTrue a.told → WereReached (search a.view.shape (fits_of wanted a.view.shape) (find_of wanted a.view.shape) a.view).reached a.view.shape p
 found_reached {a} {b} wanted p d told = search_reached a.view.shape wanted a.view b.view p (d.exact told)
 
-pub found_as : {a b : PlanState} {plan : Plan (Option ℕ)} (found other : Option PageNo) → found ≡ other → Does a b plan (Ok (option_map (λ p. p.0) found)) → Does a b plan (Ok (option_map (λ p. p.0) other))
-found_as {a} {b} {plan} found other e d = subst (λ (o : Option PageNo). Does a b plan (Ok (option_map (λ p. p.0) o))) e d
+pub found_as : {E : Type 0} {meaning : E → Stop} {looked : List ℕ} {a b : PlanState} {plan : Plan (Option ℕ)} (found other : Option PageNo) → found ≡ other → DoesAs meaning looked a b plan (Ok (option_map (λ p. p.0) found))
+    → DoesAs meaning looked a b plan (Ok (option_map (λ p. p.0) other))
+found_as {meaning = meaning} {looked} {a} {b} {plan} found other e d = subst (λ (o : Option PageNo). DoesAs meaning looked a b plan (Ok (option_map (λ p. p.0) o))) e d
 
 -- so it may be taken
 pub taken_after : {a b c : PlanState} (wanted : Wanted) (next : FileShape → ℕ → Plan ℕ) (p : ℕ) {result : Result ℕ PageStop} → b.view ≡ a.view
@@ -121,14 +122,14 @@ one_stopped wanted next p f {stop} r d taken h = does_after _ d (does_exit_as _ 
 
 -- ---- one search, and then the other
 
-pub either_found : {a b : PlanState} (first second : Plan (Option ℕ)) (found : Option PageNo) → is_some found ≡ true → Does a b first (Ok (option_map (λ p. p.0) found))
-    → Does a b (first then (λ found. or_later found second)) (Ok (option_map (λ p. p.0) found))
+pub either_found : {E : Type 0} {meaning : E → Stop} {looked : List ℕ} {a b : PlanState} (first second : Plan (Option ℕ)) (found : Option PageNo) → is_some found ≡ true
+    → DoesAs meaning looked a b first (Ok (option_map (λ p. p.0) found)) → DoesAs meaning looked a b (first then (λ found. or_later found second)) (Ok (option_map (λ p. p.0) found))
 either_found first second None e d = absurd (false≢true e)
-either_found {b = b} first second (Some p) e d = does_then _ d (does_give [] b (Some p.0))
+either_found {looked = looked} {b = b} first second (Some p) e d = does_next _ d (does_give looked b (Some p.0))
 
-pub either_later : {a b c : PlanState} (first second : Plan (Option ℕ)) (found : Option PageNo) {result : Result (Option ℕ) PageStop} → is_some found ≡ false
-    → Does a b first (Ok (option_map (λ p. p.0) found)) → Does b c second result → Does a c (first then (λ found. or_later found second)) result
-either_later first second None e d rest = does_then _ d rest
+pub either_later : {E : Type 0} {meaning : E → Stop} {looked : List ℕ} {a b c : PlanState} (first second : Plan (Option ℕ)) (found : Option PageNo) {result : Result (Option ℕ) E} → is_some found ≡ false
+    → DoesAs meaning looked a b first (Ok (option_map (λ p. p.0) found)) → DoesAs meaning looked b c second result → DoesAs meaning looked a c (first then (λ found. or_later found second)) result
+either_later first second None e d rest = does_next _ d rest
 either_later first second (Some p) e d rest = absurd (true≢false e)
 
 -- ---- a resource is free, or another transaction holds it

@@ -4,5 +4,6 @@ pub mod Marks
 pub mod Maps
 pub mod Searches
 pub mod Drops
+pub mod Frees
 pub mod Objects
 pub mod Near

@@ -1,5 +1,5 @@
 -- Pages near those of a table: a few of the file, among which all of its own are.
-use Rattle.std.specs.Prelude.{◌≡◌, ℕ, ◌+◌, ◌-◌, ◌*◌, ◌/◌, ◌<◌, ◌≤◌, Bool, true, List, Contains, slice_index, All}
+use Rattle.std.specs.Prelude.{◌≡◌, ℕ, ◌+◌, ◌-◌, ◌*◌, ◌/◌, ◌%◌, ◌<◌, ◌≤◌, ◌==◌, ◌&&◌, nat_lt, Bool, true, List, Contains, slice_index, All, filter, map}
 use Rattle.std.specs.Int.{bit_at}
 use Rattle.std.specs.List.Sorted.{IsStrictlyIncreasing}
 
@@ -22,3 +22,7 @@ pub record AreNear (pages : ℕ) (test : ℕ → Bool) (near : List ℕ) : Type 
   pub rise : IsStrictlyIncreasing near
   pub inside : All (λ p. p < pages) near
   pub all : (p : ℕ) → p < pages → test p ≡ true → Contains near p
+
+-- the extents of a file that has so many pages whose first pages are among these
+abbrev pub whole_extents : ℕ → List ℕ → List ℕ
+whole_extents pages near = map (λ p. p / 8) (filter (λ p. (p % 8 == 0) && nat_lt (p / 8) (pages / 8)) near)

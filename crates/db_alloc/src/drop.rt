@@ -1,31 +1,26 @@
 // DROP gives back what an object owns: its pages, its chain, and the extents that it marks.
-ghost use Rattle.std.specs.Prelude.{◌≡◌, ◌≢◌, ◌<◌, ◌≤◌, ◌*◌, ◌/◌, ◌++◌, ◌∷◌, ◌&&◌, ◌||◌, ◌==◌, [], ℕ, List, IsTrue, true, None, Contains, OnOk, IfOk, IfErr, length, map, not, All, if◌then◌else◌};
-ghost use Rattle.std.specs.List.{list_any};
+ghost use Rattle.std.specs.Prelude.{◌≡◌, ◌<◌, ◌≤◌, ◌/◌, ℕ, List, IsTrue, None, length, map, All};
 ghost use Rattle.spec_file.specs.declared.data.Resource.TheVariants as resource;
 ghost use Rattle.spec_file.specs.Image.{page};
 ghost use Rattle.spec_file.specs.Places as places;
 ghost use Rattle.spec_file.specs.Roles as roles;
-ghost use Rattle.spec_plan.specs.Reading as reading;
-ghost use Rattle.spec_words.specs.Words.{give, sees, where_good, for_each};
+ghost use Rattle.spec_words.specs.Words.{where_good, for_each};
 ghost use Rattle.spec_alloc.specs.Freeing as freeing;
 ghost use Rattle.spec_alloc.specs.Objects as spec;
 ghost use Rattle.db_cat.specs.Rows.{row_of};
-ghost use Rattle.db_locks.specs.declared.plan_pages.PageStop.TheVariants as stop;
 ghost use Rattle.db_locks.specs.States.{PlanState};
 ghost use Rattle.db_locks.specs.Does.{Does, DoesAfter};
 ghost use Rattle.db_alloc.specs.Drops.{HasReached, extents, extents_dropped, owned_dropped};
 ghost use Rattle.db_alloc.specs.Maps.{IsOwnable};
-ghost use Rattle.db_alloc.specs.Marks.{first_slots, is_in_slot, marks};
-ghost use Rattle.db_alloc.specs.Results.{value_as};
+ghost use Rattle.db_alloc.specs.Marks.{first_slots};
 ghost use Rattle.db_alloc.specs.Tables.{numbers, bytes_of};
 
 use crate::Table;
 use crate::buffer::page_room;
 use crate::chain::Chain;
 use crate::free::{left_freed, marked_freed, shared_freed};
-use crate::list::has_page;
-use crate::maps::{is_in_use, reread_pfs};
-use crate::marks::{chain_slots, is_marked, is_single};
+use crate::left::left_extents;
+use crate::marks::{chain_slots, is_shared};
 use crate::owned::{Owned, read_owned};
 use db_locks::{PageStop, PlanPages};
 use pg_base::{ExtentNo, Geometry, Page, PageNo, Resource};
@@ -43,13 +38,6 @@ fn check_ordinary(geometry: Geometry, pages: &[PageNo]) -> Result<(), PageStop>
         }
     }
     Ok(())
-}
-
-// Page p is in one of these single-page slots, or in the chain.
-fn is_shared(slots: &[PageNo], chain: &[PageNo], p: PageNo) -> bool
-    ensures { result ≡ (is_in_slot (numbers slots.now) p.0 || list_any (λ q. q == p.0) (numbers chain.now)) }
-{
-    is_single(slots, p) || has_page(chain, p)
 }
 
 // Gives back one page of an object that has this chain and these single-page slots.
@@ -117,77 +105,6 @@ fn free_shared<P: PlanPages>(
         shared_freed(v, geometry, *p, own, buffer)?;
     }
     Ok(())
-}
-
-// One extent more, at the end, if so.
-fn push_extent(left: &mut Vec<ExtentNo>, e: ExtentNo, yes: bool) -> Result<(), PageStop>
-    ensures extents { OnOk result (extents left.new.items ≡ extents left.old.items ++ (if yes then e.0 ∷ [] else [])) }
-    ensures short { IfErr result (λ e. e ≡ stop.NoMemory) }
-{
-    if yes && left.push(e).is_err() {
-        return Err(PageStop::NoMemory);
-    }
-    Ok(())
-}
-
-// An extent is left where one of these IAM pages marks it and it isn't in use.
-fn add_left<P: PlanPages>(
-    v: &mut P,
-    geometry: Geometry,
-    iams: &[Box<Page>],
-    e: ExtentNo,
-    own: Resource,
-    left: &mut Vec<ExtentNo>,
-    buffer: &mut Page,
-) -> Result<(), PageStop>
-    requires geometry { geometry ≡ (P.state v.old).view.shape.geometry }
-    requires inside { e.0 < (P.state v.old).view.shape.pages / 8 }
-    requires own { (P.state v.old).view.other own ≡ None }
-    ensures does { (looked : List ℕ) → (IsTrue (P.state v.old).told → list_any (marks geometry (8 * e.0)) (bytes_of iams.now) ≡ true → Contains looked (places.pfs_page (P.state v.old).view.shape.geometry (8 * e.0))) → DoesAfter looked (P.state v.old) (P.state v.new) (give tt) result }
-    ensures left { OnOk result (IsTrue (P.state v.old).told → extents left.new.items ≡ extents left.old.items
-        ++ (if list_any (marks geometry (8 * e.0)) (bytes_of iams.now) && not (freeing.is_in_use (P.state v.old).view.shape e.0 (P.state v.old).view) then e.0 ∷ [] else [])) }
-    ensures inside { OnOk result ((n : ℕ) → e.0 < n → All (λ x. x < n) (extents left.old.items) → All (λ x. x < n) (extents left.new.items)) }
-    ensures view { (P.state v.new).view ≡ (P.state v.old).view }
-{
-    if !is_marked(geometry, iams, PageNo(8 * e.0)) {
-        return Ok(());
-    }
-    reread_pfs(v, geometry, PageNo(8 * e.0), own, buffer)?;
-    let yes = !is_in_use(v, geometry, e, buffer);
-    push_extent(left, e, yes)
-}
-
-// The extents that the chain marks and that aren't in use, rising. Their PFS pages, which the statement has
-// reached, are read once more.
-fn left_extents<P: PlanPages>(
-    alloc: Global,
-    v: &mut P,
-    table: &Table,
-    chain: &Chain,
-    own: Resource,
-    buffer: &mut Page,
-) -> Result<Vec<ExtentNo>, PageStop>
-    requires geometry { table.now.geometry ≡ (P.state v.old).view.shape.geometry }
-    requires pages { table.now.pages ≡ (P.state v.old).view.shape.pages }
-    requires own { (P.state v.old).view.other own ≡ None }
-    requires chain { IsTrue (P.state v.old).told → bytes_of chain.now.pages.items ≡ map (page (P.state v.old).view.now) (numbers chain.now.numbers.items) }
-    ensures does { (looked : List ℕ) → (IsTrue (P.state v.old).told → HasReached looked (P.state v.old).view (numbers chain.now.numbers.items)) → DoesAfter looked (P.state v.old) (P.state v.new) (sees (spec.left_extents (P.state v.old).view.shape (numbers chain.now.numbers.items))) (value_as (λ left. extents left.items) result) }
-    ensures inside { IfOk result (λ left. All (λ e. e < (P.state v.old).view.shape.pages / 8) (extents left.items)) }
-    ensures view { (P.state v.new).view ≡ (P.state v.old).view }
-{
-    let mut left = Vec::new(alloc);
-    for e in 0..table.pages / 8 {
-        add_left(
-            v,
-            table.geometry,
-            &chain.pages,
-            ExtentNo(e),
-            own,
-            &mut left,
-            buffer,
-        )?;
-    }
-    Ok(left)
 }
 
 // Frees these extents.

@@ -2,6 +2,7 @@
 ghost use Rattle.std.specs.Prelude.{◌≡◌, ◌<◌, true, IsTrue, IfOk, OnOk, None};
 ghost use Rattle.spec_file.specs.declared.data.Resource.TheVariants as resource;
 ghost use Rattle.spec_file.specs.Image.{page};
+ghost use Rattle.spec_file.specs.Places.{pfs_page};
 ghost use Rattle.spec_file.specs.Roles.{is_ordinary};
 ghost use Rattle.spec_chain.specs.Uses.{pfs_byte};
 ghost use Rattle.spec_words.specs.Words.{look};
@@ -56,5 +57,24 @@ pub(crate) fn look_byte<P: PlanPages>(
     if !is_page_of(into, PFS_TYPE, page) {
         return Err(PageStop::Bad(page));
     }
+    Ok(into.bytes[at as usize])
+}
+
+/// The PFS byte of page p, whose PFS page is read once more and not tested.
+pub(crate) fn reread_byte<P: PlanPages>(
+    v: &mut P,
+    geometry: Geometry,
+    p: PageNo,
+    into: &mut Page,
+) -> Result<u8, PageStop>
+    requires geometry { geometry ≡ (P.state v.old).view.shape.geometry }
+    requires inside { p.0 < (P.state v.old).view.shape.pages }
+    ensures look { Does (P.state v.old) (P.state v.new) (look (resource.Byte p) (pfs_page (P.state v.old).view.shape.geometry p.0)) (value_as (λ byte. page (P.state v.old).view.now (pfs_page (P.state v.old).view.shape.geometry p.0)) result) }
+    ensures told { IfOk result (λ byte. IsTrue (P.state v.old).told → byte ≡ pfs_byte (P.state v.old).view.shape.geometry (P.state v.old).view.now p.0) }
+    ensures view { (P.state v.new).view ≡ (P.state v.old).view }
+{
+    let (page, at) = pfs_of(geometry, p);
+    v.look(page, Resource::Byte(p), into)?;
+    is_whole(into);
     Ok(into.bytes[at as usize])
 }

@@ -1,5 +1,5 @@
 // The pages that the chain of a table gives it: those in single-page slots, and those of marked extents.
-ghost use Rattle.std.specs.Prelude.{◌≡◌, ◌<◌, ◌++◌, ◌∷◌, [], ◌≤◌, IfOk, IfErr, filter, length, All};
+ghost use Rattle.std.specs.Prelude.{◌≡◌, ◌<◌, ◌≤◌, ◌||◌, ◌==◌, IfOk, IfErr, filter, length, All};
 ghost use Rattle.std.specs.List.{list_any, range_with_len};
 ghost use Rattle.spec_file.specs.declared.sizes.TheConstants.{BIT_COUNT};
 ghost use Rattle.spec_file.specs.Iam.{iam_mark};
@@ -26,8 +26,8 @@ fn has_mark(iam: &Page, n: u32) -> bool
     (iam.bytes[136 + n as usize / 8] >> (n % 8)) & 1 == 1
 }
 
-// An IAM page marks the extent of page p.
-fn marks(g: Geometry, iam: &Page, p: PageNo) -> bool
+/// An IAM page marks the extent of page p.
+pub(crate) fn marks(g: Geometry, iam: &Page, p: PageNo) -> bool
     ensures { result ≡ spec.marks g p.0 iam.now.bytes }
 {
     u32_at(&iam.bytes, MAPS_START) == p.0 / interval_pages(g)
@@ -51,6 +51,13 @@ pub(crate) fn is_single(slots: &[PageNo], p: PageNo) -> bool
     ensures { result ≡ spec.is_in_slot (numbers slots.now) p.0 }
 {
     p.0 != 0 && has_page(slots, p)
+}
+
+/// Page p is in one of these single-page slots, or in the chain.
+pub(crate) fn is_shared(slots: &[PageNo], chain: &[PageNo], p: PageNo) -> bool
+    ensures { result ≡ (spec.is_in_slot (numbers slots.now) p.0 || list_any (λ q. q == p.0) (numbers chain.now)) }
+{
+    is_single(slots, p) || has_page(chain, p)
 }
 
 /// The single-page slots of a chain: those of its first page.

@@ -1,5 +1,6 @@
 // An object gets pages.
-ghost use Rattle.std.specs.Prelude.{◌≡◌, ◌<◌, ℕ, List, [], None, IsTrue, OnOk, Contains};
+ghost use Rattle.std.specs.Prelude.{◌≡◌, ◌<◌, ℕ, List, [], None, IsTrue, OnOk, Contains, ◌++◌, ◌==◌};
+ghost use Rattle.std.specs.List.{list_any};
 ghost use Rattle.spec_file.specs.declared.data.Resource.TheVariants as resource;
 ghost use Rattle.spec_words.specs.Words.{put_page as page_put};
 ghost use Rattle.spec_alloc.specs.Chains.{page_taken, new_iam_page};
@@ -20,26 +21,41 @@ use pg_iam::make_iam;
 use pg_pfs::{PfsKind, expected};
 use std::alloc::Global;
 
-// Page p is read, and is none of these, on which the statement stands.
-fn take_page<P: PlanPages>(
+// Page p is among these, on which a statement stands: those of a chain, and those of its path.
+fn is_stood_on(chain: &[PageNo], path: &[PageNo], p: PageNo) -> bool
+    ensures { result ≡ list_any (λ q. q == p.0) (numbers chain.now ++ numbers path.now) }
+{
+    has_page(chain, p) || has_page(path, p)
+}
+
+/// Page p is read, and is none of those on which the statement stands.
+pub(crate) fn take_page<P: PlanPages>(
     v: &mut P,
     p: PageNo,
-    standing: &[PageNo],
+    chain: &[PageNo],
+    path: &[PageNo],
     buffer: &mut Page,
 ) -> Result<(), PageStop>
     requires inside { p.0 < (P.state v.old).view.shape.pages }
-    ensures does { Does (P.state v.old) (P.state v.new) (page_taken (numbers standing.now) p.0) (value_as (λ done. p.0) result) }
-    ensures reached { OnOk result (IsTrue (P.state v.old).told → Contains (page_taken (numbers standing.now) p.0 (P.state v.old).view).reached p.0) }
+    ensures does { Does (P.state v.old) (P.state v.new) (page_taken (numbers chain.now ++ numbers path.now) p.0) (value_as (λ done. p.0) result) }
+    ensures reached { OnOk result (IsTrue (P.state v.old).told → Contains (page_taken (numbers chain.now ++ numbers path.now) p.0 (P.state v.old).view).reached p.0) }
 {
     look_page(v, p, buffer)?;
-    if has_page(standing, p) {
+    if is_stood_on(chain, path, p) {
         return Err(PageStop::Bad(p));
     }
     Ok(())
 }
 
-// The bytes of a new IAM page.
-fn fill_iam(page: &mut Page, q: PageNo, object: ObjId, interval: u32, sequence: u32, prev: PageNo)
+/// The bytes of a new IAM page.
+pub(crate) fn fill_iam(
+    page: &mut Page,
+    q: PageNo,
+    object: ObjId,
+    interval: u32,
+    sequence: u32,
+    prev: PageNo,
+)
     ensures { page.new.bytes ≡ new_iam_page object.0 q.0 prev.0 interval sequence }
 {
     make_iam(page, q, object, interval, sequence, prev);
@@ -56,7 +72,7 @@ fn put_chain<P: PlanPages>(
     requires ownable { IsOwnable (P.state v.old).view.shape q.0 }
     ensures { Does (P.state v.old) (P.state v.new) (first_page_put object.0 q.0) (value_as (λ done. q.0) result) }
 {
-    take_page(v, q, &[], buffer)?;
+    take_page(v, q, &[], &[], buffer)?;
     fill_iam(buffer, q, object, 0, 0, PageNo(0));
     put_page(v, q, buffer)
 }

@@ -3,7 +3,7 @@ ghost use Rattle.std.specs.Prelude.{◌≡◌, ◌<◌, ◌+◌, ◌*◌, ◌%�
 ghost use Rattle.byteorder.specs.Endian.{little_bytes};
 ghost use Rattle.spec_file.specs.declared.data.Resource.TheVariants as resource;
 ghost use Rattle.spec_log.specs.declared.item.Cell.TheVariants.{Bytes};
-ghost use Rattle.spec_log.specs.Cells.{with_bit as bit_put, with_bytes};
+ghost use Rattle.spec_log.specs.Cells.{with_bytes};
 ghost use Rattle.spec_words.specs.Words.{write};
 ghost use Rattle.spec_alloc.specs.Chains as spec;
 ghost use Rattle.db_locks.specs.Does.{Does, DoesAfter, Stays};
@@ -12,18 +12,6 @@ ghost use Rattle.db_alloc.specs.Maps.{IsOwnable};
 use crate::look::look_page;
 use db_locks::{PageStop, PlanPages, put_page};
 use pg_base::{Page, PageNo, is_whole, put_u32};
-
-/// The byte with bit i set.
-pub(crate) fn with_bit(byte: u8, i: u32) -> u8
-    requires { i < 8 }
-    ensures { result ≡ bit_put byte i 1 }
-{
-    if (byte >> i) & 1 == 1 {
-        byte
-    } else {
-        byte ^ (1u8 << i)
-    }
-}
 
 // Four bytes of a page become those of a number.
 fn edit_number(page: &mut Page, at: usize, value: u32)

@@ -7,7 +7,7 @@ use Rattle.db_cat.specs.Rows.{row_of}
 use Rattle.db_locks.proofs.PlanLaws.{does_then, does_good}
 use Rattle.db_alloc.specs.Tables.{numbers}
 use Rattle.db_alloc.proofs.Steps.{does_exit_as}
-use Rattle.db_alloc.proofs.Links.{inside_limit, asked_as, ordinary_link, slots_as, link_outside, link_other, link_slots, link_good, ownable_link}
+use Rattle.db_alloc.proofs.LinkSteps.{inside_limit, asked_as, ordinary_link, slots_as, link_outside, link_other, link_slots, link_good, ownable_link}
 use Rattle.db_alloc.proofs.chain.read_link.Goals as goal
 
 pub returns-then-not-is_inside-clause-does : goal.returns-then-not-is_inside-clause-does

@@ -1,4 +1,4 @@
-use Rattle.std.proofs.Common.{◌≡◌, ℕ, List, IsTrue, Contains, sym, ap, ◌∙◌}
+use Rattle.std.proofs.Common.{sym, ◌∙◌}
 use Rattle.db_locks.proofs.PlanLaws.{stays_then, does_more}
 use Rattle.db_alloc.specs.Drops.{owned_dropped, extents_dropped}
 use Rattle.db_alloc.specs.Tables.{numbers}

@@ -1,4 +1,3 @@
-use Rattle.std.proofs.Common.{IsTrue}
 use Rattle.db_alloc.specs.Tables.{numbers}
 use Rattle.db_alloc.proofs.DropSteps.{shared_as, drop_shared, drop_marked, drop_exit}
 use Rattle.db_alloc.proofs.drop.drop_page.Goals as goal

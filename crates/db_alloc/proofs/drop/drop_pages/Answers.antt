@@ -1,13 +1,10 @@
-use Rattle.std.proofs.Common.{◌≡◌, ℕ, ◌<◌, ◌≤◌, [], List, IsTrue, get_or, map, sym, ap, ◌∙◌, refl, subst}
+use Rattle.std.proofs.Common.{◌<◌, [], get_or, sym, ap, ◌∙◌, subst}
 use Rattle.spec_file.specs.declared.data.Resource.{Resource}
-use Rattle.spec_file.specs.Image.{page}
 use Rattle.spec_words.specs.NetChanges.{FileShape}
-use Rattle.spec_words.specs.Views.{View}
 use Rattle.spec_words.specs.Words.{for_each}
 use Rattle.spec_alloc.specs.Objects.{page_dropped}
 use Rattle.db_locks.specs.Does.{Does, stop_of}
 use Rattle.db_locks.proofs.LoopLaws.{leads_none, each_step, each_exit, each_end}
-use Rattle.db_alloc.specs.Drops.{LeavesPages}
 use Rattle.db_alloc.specs.Marks.{first_slots}
 use Rattle.db_alloc.specs.Tables.{numbers}
 use Rattle.db_alloc.proofs.Chains.{leads_plan}

@@ -1,4 +1,4 @@
-use Rattle.std.proofs.Common.{◌≡◌, ℕ, List, [], ◌++◌, All, sym, ap, ◌∙◌, subst}
+use Rattle.std.proofs.Common.{ℕ, List, [], ◌++◌, All, sym, ap, ◌∙◌, subst}
 use Rattle.spec_words.specs.Views.{View, Plan}
 use Rattle.db_cat.specs.Rows.{row_of}
 use Rattle.db_locks.proofs.PlanLaws.{does_after, does_exit}

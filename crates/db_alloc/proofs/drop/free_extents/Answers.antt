@@ -1,7 +1,4 @@
-use Rattle.std.proofs.Common.{◌≡◌, ℕ, ◌/◌, ◌<◌, [], length, get_or, sym, ap, ◌∙◌, refl, subst}
-use Rattle.std.proofs.lemmas.List.{length-map}
-use Rattle.std.proofs.Math.ListN.{get_or-map}
-use Rattle.spec_file.specs.declared.data.ExtentNo.{ExtentNo}
+use Rattle.std.proofs.Common.{◌/◌, ◌<◌, [], get_or, sym, ap, ◌∙◌, subst}
 use Rattle.spec_file.specs.declared.data.Resource.{Resource}
 use Rattle.spec_words.specs.NetChanges.{FileShape}
 use Rattle.spec_words.specs.Words.{for_each}

@@ -1,4 +1,4 @@
-use Rattle.std.proofs.Common.{◌≡◌, ℕ, List, sym, ap, ◌∙◌}
+use Rattle.std.proofs.Common.{ℕ, List, ap}
 use Rattle.spec_file.specs.declared.data.ExtentNo.{ExtentNo}
 use Rattle.spec_words.specs.Views.{View}
 use Rattle.spec_words.specs.Words.{for_each}

@@ -1,8 +1,7 @@
-use Rattle.std.proofs.Common.{◌≡◌, ℕ, ◌*◌, List, [], ◌∷◌, Contains, IsTrue, sym, ap, ◌∙◌, subst}
+use Rattle.std.proofs.Common.{◌*◌, [], ◌∷◌, sym, ap, ◌∙◌, subst}
 use Rattle.std.proofs.lemmas.List.Elements.{Contains-push}
 use Rattle.spec_file.specs.Places.{pfs_page}
 use Rattle.spec_words.specs.Views.{View}
-use Rattle.spec_words.specs.NetChanges.{FileShape}
 use Rattle.spec_alloc.specs.Freeing.{is_in_use}
 use Rattle.db_alloc.specs.Maps.{MapTells}
 use Rattle.db_alloc.proofs.FreeSteps.{use_seen, use_unseen}

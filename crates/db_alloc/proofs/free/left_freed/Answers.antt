@@ -1,4 +1,4 @@
-use Rattle.std.proofs.Common.{◌≡◌, ℕ, [], ap, sym, ◌∙◌}
+use Rattle.std.proofs.Common.{[]}
 use Rattle.spec_file.specs.Places.{gam_place}
 use Rattle.spec_words.specs.Words.{put_gam}
 use Rattle.spec_alloc.specs.Search.{gam_read}

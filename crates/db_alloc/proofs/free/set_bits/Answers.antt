@@ -1,6 +1,5 @@
-use Rattle.std.proofs.Common.{◌≡◌, ℕ, ◌<◌, ◌/◌, List, [], ◌∷◌, Contains, sym, ap, ◌∙◌, subst}
+use Rattle.std.proofs.Common.{◌<◌, ◌/◌, [], ◌∷◌, sym, ap, ◌∙◌, subst}
 use Rattle.std.proofs.lemmas.List.Elements.{Contains-push, Contains-append_left}
-use Rattle.spec_file.specs.declared.geometry.Geometry.{Geometry}
 use Rattle.spec_file.specs.Places.{gam_place, sgam_place}
 use Rattle.spec_words.specs.NetChanges.{FileShape}
 use Rattle.spec_words.specs.Words.{put_gam}

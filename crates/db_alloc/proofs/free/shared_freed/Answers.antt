@@ -1,5 +1,4 @@
-use Rattle.std.proofs.Common.{◌≡◌, ℕ, ◌<◌, ◌*◌, ◌/◌, List, [], ◌∷◌, Contains, sym, ap, ◌∙◌, subst}
-use Rattle.std.proofs.lemmas.List.Elements.{Contains-push}
+use Rattle.std.proofs.Common.{◌*◌, ◌/◌, [], Contains, sym, subst}
 use Rattle.spec_file.specs.declared.geometry.Geometry.{Geometry}
 use Rattle.spec_file.specs.Places.{gam_place, sgam_place, pfs_page}
 use Rattle.spec_words.specs.Words.{put_pfs, sees}

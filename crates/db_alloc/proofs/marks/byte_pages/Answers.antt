@@ -1,4 +1,4 @@
-use Rattle.std.proofs.Common.{◌≡◌, ◌∙◌, ap, subst, refl, List, ℕ, filter}
+use Rattle.std.proofs.Common.{◌∙◌, ap, subst, refl, List, ℕ, filter}
 use Rattle.std.specs.Prelude.{Box}
 use Rattle.std.specs.Global.{Global}
 use Rattle.pg_base.specs.declared.page.Page.{Page}

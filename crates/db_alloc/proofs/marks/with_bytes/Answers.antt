@@ -1,4 +1,4 @@
-use Rattle.std.proofs.Common.{◌≡◌, ◌+◌, ◌∙◌, ap, take, filter, arith, get_or}
+use Rattle.std.proofs.Common.{◌+◌, ◌∙◌, ap, take, filter, arith, get_or}
 use Rattle.std.proofs.lemmas.List.{take_more, take_all}
 use Rattle.db_alloc.specs.Marks.{has_byte}
 use Rattle.db_alloc.specs.Tables.{bytes_of}

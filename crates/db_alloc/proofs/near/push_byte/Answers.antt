@@ -1,4 +1,4 @@
-use Rattle.std.proofs.Common.{sym, ◌∙◌, ◌+◌}
+use Rattle.std.proofs.Common.{sym, ◌∙◌}
 use Rattle.db_alloc.proofs.NearPages.{bit_set, bit_clear}
 use Rattle.db_alloc.proofs.near.push_byte.Goals as goal
 use Rattle.db_alloc.proofs.near.push_byte.Goals.{then-is_set+in_ok-push_extent, else-is_set}

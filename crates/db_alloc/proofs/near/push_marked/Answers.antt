@@ -1,6 +1,6 @@
 use Rattle.std.proofs.Common.{◌≡◌, ◌*◌, ◌/◌, true}
 use Rattle.db_alloc.specs.Marks.{marks}
-use Rattle.db_alloc.specs.Near.{Includes, IsInBytes}
+use Rattle.db_alloc.specs.Near.{IsInBytes}
 use Rattle.db_alloc.proofs.NearPages.{ok_weaker, includes_as, marked_as}
 use Rattle.db_alloc.proofs.near.push_marked.Goals as goal
 

@@ -1,4 +1,4 @@
-use Rattle.std.proofs.Common.{◌≡◌, sym, arith, length, get_or}
+use Rattle.std.proofs.Common.{◌≡◌, arith, length, get_or}
 use Rattle.std.proofs.lemmas.List.{length-map}
 use Rattle.spec_file.specs.declared.data.PageNo.{PageNo}
 use Rattle.db_alloc.specs.Tables.{numbers}

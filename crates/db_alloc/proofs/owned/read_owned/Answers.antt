@@ -1,4 +1,4 @@
-use Rattle.std.proofs.Common.{ℕ, ◌≤◌, subst, ◌||◌, [], IsTrue, sym, ap, ◌∙◌, refl, filter, length, arith}
+use Rattle.std.proofs.Common.{ℕ, ◌≤◌, subst, ◌||◌, [], IsTrue, sym, ap, ◌∙◌, refl, filter}
 use Rattle.std.proofs.lemmas.List.{length-map}
 use Rattle.spec_file.specs.declared.data.PageNo.{PageNo}
 use Rattle.spec_chain.specs.Uses.{is_allocated}

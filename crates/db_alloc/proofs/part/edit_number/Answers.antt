@@ -1,4 +1,4 @@
-use Rattle.std.proofs.Common.{◌+◌, ◌≤◌, length, sym, ◌∙◌, subst}
+use Rattle.std.proofs.Common.{◌+◌, ◌≤◌, sym, ◌∙◌, subst}
 use Rattle.db_alloc.proofs.Parts.{number_put}
 use Rattle.db_alloc.proofs.part.edit_number.Goals as goal
 

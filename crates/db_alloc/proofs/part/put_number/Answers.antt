@@ -1,4 +1,4 @@
-use Rattle.std.proofs.Common.{ℕ, Contains, sym, ap, ◌∙◌}
+use Rattle.std.proofs.Common.{sym, ap, ◌∙◌}
 use Rattle.byteorder.specs.Endian.{little_bytes}
 use Rattle.spec_file.specs.declared.data.Resource.TheVariants as resource
 use Rattle.spec_file.specs.Image.{page}

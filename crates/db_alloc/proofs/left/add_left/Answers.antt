@@ -1,4 +1,4 @@
-use Rattle.std.proofs.Common.{◌≡◌, ℕ, ◌*◌, List, [], ◌∷◌, Contains, IsTrue, not, sym, ap, ◌∙◌, subst}
+use Rattle.std.proofs.Common.{◌*◌, [], ◌∷◌, IsTrue, not, sym, ap, ◌∙◌, subst}
 use Rattle.std.proofs.lemmas.List.Elements.{Contains-push}
 use Rattle.std.specs.List.{list_any}
 use Rattle.spec_file.specs.Places.{pfs_page}
@@ -12,7 +12,7 @@ use Rattle.db_alloc.specs.Marks.{marks}
 use Rattle.db_alloc.specs.Tables.{bytes_of}
 use Rattle.db_alloc.proofs.DropSteps.{short_or, pushed_left, pushed_low, both_hold}
 use Rattle.db_alloc.proofs.Steps.{does_plan, give_then}
-use Rattle.db_alloc.proofs.drop.add_left.Goals as goal
+use Rattle.db_alloc.proofs.left.add_left.Goals as goal
 
 pub returns-then-not-is_marked-clause-does : goal.returns-then-not-is_marked-clause-does
 returns-then-not-is_marked-clause-does g c = λ looked before. does_give looked (g.P.PlanPages.state c.args.v.now) tt

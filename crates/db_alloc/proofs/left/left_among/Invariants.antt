@@ -1,14 +1,13 @@
-use Rattle.std.proofs.Common.{◌≡◌, ℕ, ◌*◌, ◌/◌, ◌<◌, List, [], All, IsTrue, not, filter}
-use Rattle.std.specs.Prelude.{◌&&◌}
-use Rattle.std.specs.List.{list_any, range_with_len}
+use Rattle.std.proofs.Common.{◌≡◌, ℕ, ◌*◌, ◌/◌, ◌<◌, List, All, IsTrue, not, filter, take}
+use Rattle.std.specs.Prelude.{◌&&◌, Ok}
+use Rattle.std.specs.List.{list_any}
 use Rattle.spec_words.specs.Words.{give}
 use Rattle.spec_alloc.specs.Freeing.{is_in_use}
 use Rattle.db_locks.specs.Does.{DoesAfter, Stays}
-use Rattle.std.specs.Prelude.{Ok}
 use Rattle.db_alloc.specs.Drops.{HasReached, extents}
 use Rattle.db_alloc.specs.Marks.{marks}
 use Rattle.db_alloc.specs.Tables.{numbers, bytes_of}
-use Rattle.db_alloc.proofs.drop.left_extents.Given as goal
+use Rattle.db_alloc.proofs.left.left_among.Given as goal
 
 abbrev pub invariant-loop-e : goal.invariant-loop-e
 invariant-loop-e g l =
@@ -17,7 +16,7 @@ invariant-loop-e g l =
     record {
       does : (looked : List ℕ) → (IsTrue a.told → HasReached looked a.view (numbers l.chain.numbers.items)) → DoesAfter {A = Unit {0}} looked a b (give tt) (Ok tt);
       stays : Stays a b;
-      left : IsTrue a.told → extents l.left.items ≡ filter (λ e. list_any (marks l.table.geometry (8 * e)) (bytes_of l.chain.pages.items) && not (is_in_use a.view.shape e a.view)) (range_with_len 0 l.e);
+      left : IsTrue a.told → extents l.left.items ≡ filter (λ e. list_any (marks l.table.geometry (8 * e)) (bytes_of l.chain.pages.items) && not (is_in_use a.view.shape e a.view)) (extents (take l.e-index l.near));
       inside : All (λ e. e < l.table.pages / 8) (extents l.left.items);
       view : b.view ≡ a.view;
     }

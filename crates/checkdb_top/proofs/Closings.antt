@@ -1,5 +1,5 @@
 -- What the close of a run wrote, said of its history.
-use Rattle.std.proofs.Common.{◌≡◌, ℕ, ◌*◌, ◌^◌, ◌<◌, ◌≤◌, Bool, List, [], length, reverse, Option, Some, None, IfSome, option_map, refl, sym, ap, ◌∙◌, subst, arith, if◌then◌else◌}
+use Rattle.std.proofs.Common.{◌≡◌, ℕ, ◌*◌, ◌^◌, ◌<◌, ◌≤◌, Bool, List, [], length, reverse, Option, Some, None, IfSome, option_map, refl, sym, ap, ◌∙◌, subst, arith}
 use Rattle.std.specs.Option.{ForSome}
 use Rattle.std.specs.List.{list_any}
 use Rattle.std.proofs.lemmas.List.{reverse-reverse}
@@ -17,25 +17,15 @@ use Rattle.spec_run.specs.Begun.{Setting}
 use Rattle.spec_run.specs.Turns.{IsLegalRun}
 use Rattle.spec_run.specs.Entries.{Entry, items_of}
 use Rattle.spec_run.specs.ChangedPages.{changes_page, is_changed}
+use Rattle.db_core.proofs.Reports.{any_reverse}
 use Rattle.vol_pool.specs.Writing.{Leaves, SameUnmarked, StopsWriting, is_marked, written_bytes}
 use Rattle.spec_start.specs.Files.{AreAllPages}
 use Rattle.run_close.specs.declared.close.Close.{Close}
 use Rattle.run_close.specs.Close.{IsCloseOf, MayClose}
 use Rattle.run_close.proofs.Closing.{length_final, may_close}
 use Rattle.checkdb_top.specs.declared.status.Status.{Status}
-use Rattle.checkdb_top.specs.declared.status.Status.TheVariants as status
-use Rattle.checkdb_top.specs.Answers.{ended}
-use Rattle.spec_run.specs.Answers.{is_terminated}
-use Rattle.db_core.proofs.Reports.{any_reverse}
-use Rattle.checkdb_top.specs.Runs.{ends_short, has_errors, ended_as, replies_to, AreAllAnswered, last_of, StayUnchanged, Closes}
+use Rattle.checkdb_top.specs.Runs.{ended_as, replies_to, AreAllAnswered, last_of, StayUnchanged, Closes}
 use Rattle.checkdb_top.specs.Writes.{StopsAtPage, Writes, AllWritten, AtSink, AtVolume, AtLog}
-
--- the order of the items doesn't matter
-same_end : (items log : List Record) (replies : List (List Reply)) → reverse log ≡ items → ended_as items replies ≡ ended_as log replies
-same_end items log replies is =
-    ap (λ b. if list_any (list_any is_terminated) replies then status.NoReport
-    else (if b then status.Memory else ended (list_any (list_any has_errors) replies)))
-    (ap (list_any ends_short) (sym is) ∙ any_reverse ends_short log)
 
 -- a told file of whole pages whose pages are all written has the bytes of the image
 pub whole_file : (image : Image) (file file_now : Option (List ℕ)) → ForSome file (λ bytes. length bytes ≡ page_size * length image)
@@ -77,7 +67,7 @@ pub closed : (run : Setting) (entries : List Entry) (items : List Record) (close
     (file file_now log log_now out out_now : Option (List ℕ)) (s : Status) → run.opened ≡ [] → reverse (items_of entries) ≡ items
     → IsCloseOf items (length run.image) close → length replies ≡ length run.scripts → IsLegalRun run entries (replies_to replies)
     → AreAllAnswered run (items_of entries)
-    → known ≡ ended_as items replies
+    → known ≡ ended_as run.scripts replies
     → Writes close.bytes.items (is_marked close.changed.items) (last_of run entries) (text_of replies) known file file_now log log_now out out_now s
     → Closes run entries file file_now log log_now out out_now s
 closed run entries items close replies known file file_now log log_now out out_now s opened is of count legal answered knows writes = record {
@@ -86,13 +76,13 @@ closed run entries items close replies known file file_now log log_now out out_n
   legal = legal;
   answered = answered;
   stay = stays run entries items close opened is of;
-  writes = writes_changed (log_bytes (items_of entries)) (is_marked close.changed.items) (is_changed (items_of entries)) (last_of run entries) (text_of replies) (ended_as (items_of entries) replies)
+  writes = writes_changed (log_bytes (items_of entries)) (is_marked close.changed.items) (is_changed (items_of entries)) (last_of run entries) (text_of replies) (ended_as run.scripts replies)
       file file_now log log_now out out_now s
       (λ p inside. (let size = final_size run entries opened in marked items (items_of entries) (length run.image) close is of p (omega (arith, size, inside))))
-      (subst (λ added. Writes added (is_marked close.changed.items) (last_of run entries) (text_of replies) (ended_as (items_of entries) replies)
+      (subst (λ added. Writes added (is_marked close.changed.items) (last_of run entries) (text_of replies) (ended_as run.scripts replies)
       file file_now log log_now out out_now s) (of.bytes (items_of entries) is)
       (subst (λ whole. Writes close.bytes.items (is_marked close.changed.items) (last_of run entries) (text_of replies) whole file file_now log log_now out out_now s)
-      (knows ∙ same_end items (items_of entries) replies is) writes));
+      knows writes));
 }
 
 pub close_of : (run : Setting) (entries : List Entry) (items : List Record) (close : Close) (pages : ℕ) (frames : Image) → run.opened ≡ []

@@ -7,3 +7,4 @@ pub mod Forms
 pub mod Running
 pub mod Closings
 pub mod Begun
+pub mod Shorts

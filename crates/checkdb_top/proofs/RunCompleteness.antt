@@ -1,11 +1,12 @@
 -- The status of a run is fixed by its sources, its file and its log, where no device fails.
 use Rattle.std.proofs.Common.{◌≡◌, ◌≢◌, ◌⊎◌, ℕ, suc, ◌+◌, ◌<◌, Bool, true, false, ◌||◌, List, [], ◌∷◌, length, get_or, Option, Some, None, IfSome, refl, sym, ap, ◌∙◌, subst, inl, inr, ⊎_elim, arith, if◌then◌else◌}
 use Rattle.std.specs.Prelude.{slice_get}
-use Rattle.std.specs.List.{list_any}
+use Rattle.std.specs.List.{list_any, zip}
 use Rattle.std.proofs.lemmas.Option.{slice_get_within, get_or_from_slice_get}
 use Rattle.spec_log.specs.Bytes.{log_bytes}
 use Rattle.spec_log.specs.declared.item.Record.{Record}
 use Rattle.spec_script.specs.declared.reply.Reply.{Reply}
+use Rattle.spec_script.specs.declared.statement.Statement.{Statement}
 use Rattle.spec_script.specs.declared.stop.ScriptWhy.{ScriptWhy}
 use Rattle.spec_script.specs.Replies.{text_of}
 use Rattle.spec_run.specs.Begun.{Setting}
@@ -24,7 +25,7 @@ use Rattle.checkdb_top.specs.declared.status.Status.{Status}
 use Rattle.checkdb_top.specs.declared.status.Status.TheVariants as status
 use Rattle.checkdb_top.specs.Answers.{IsDevice, ended}
 use Rattle.checkdb_top.specs.Completeness.{CompletesRun, IsWholeEnd}
-use Rattle.checkdb_top.specs.Runs.{AreAllTold, replies_to, Closes, Ends, Stops, Runs, IsRunOf, last_of, ended_as, ends_short, has_errors}
+use Rattle.checkdb_top.specs.Runs.{AreAllTold, replies_to, Closes, Ends, Stops, Runs, IsRunOf, last_of, ended_as, has_short, has_errors}
 use Rattle.checkdb_top.specs.Writes.{Writes, AllWritten, AtSink, AtVolume, AtLog}
 use Rattle.checkdb_top.specs.Start.{HaveTexts, StopsStart}
 
@@ -41,8 +42,8 @@ none_without run log replies opened count told = each_false (list_any is_termina
     subst (λ r. list_any is_terminated r ≡ false) same
     (none_terminated run (k + 1) log (replies_to replies (k + 1)) opened (told (k + 1) (omega arith, omega (arith, below, count)))))
 
-whole_end : (log : List Record) (replies : List (List Reply)) → list_any (list_any is_terminated) replies ≡ false → IsWholeEnd (ended_as log replies)
-whole_end log replies none = by_cases (list_any (list_any is_terminated) replies) (list_any ends_short log) (list_any (list_any has_errors) replies) none where
+whole_end : (scripts : List (List Statement)) (replies : List (List Reply)) → list_any (list_any is_terminated) replies ≡ false → IsWholeEnd (ended_as scripts replies)
+whole_end scripts replies none = by_cases (list_any (list_any is_terminated) replies) (list_any has_short (zip scripts replies)) (list_any (list_any has_errors) replies) none where
   by_cases : (a b e : Bool) → a ≡ false → IsWholeEnd (if a then status.NoReport else (if b then status.Memory else ended e))
   by_cases true b e none = cc
   by_cases false true e none = inr refl
@@ -52,10 +53,10 @@ whole_end log replies none = by_cases (list_any (list_any is_terminated) replies
 -- the status of a run of which all is written
 closed_whole : (lefts : List (Option (List ℕ))) (file log : Option (List ℕ)) (run : Setting) (entries : List Entry) (file_now log_now out out_now : Option (List ℕ))
     (s : Status) → IsRunOf lefts file log run entries → (closes : Closes run entries file file_now log log_now out out_now s)
-    → s ≡ ended_as (items_of entries) closes.replies → IsWholeEnd s
+    → s ≡ ended_as run.scripts closes.replies → IsWholeEnd s
 closed_whole lefts file log run entries file_now log_now out out_now s is closes said =
     subst IsWholeEnd (sym said)
-    (whole_end (items_of entries) closes.replies
+    (whole_end run.scripts closes.replies
     (none_without run (items_of entries) closes.replies (ap (λ (r : Setting). r.opened) is.begins) closes.count closes.legal.told))
 
 -- a run that is closed ends so, or names the device that failed
@@ -63,7 +64,7 @@ closed_as : (lefts : List (Option (List ℕ))) (file log : Option (List ℕ)) (r
     (s : Status) → IsRunOf lefts file log run entries → Closes run entries file file_now log log_now out out_now s
     → IsWholeEnd s ⊎ ((d : Device) × (s ≡ status.Device d))
 closed_as lefts file log run entries file_now log_now out out_now s is closes = by_writes closes.writes where
-  by_writes : Writes (log_bytes (items_of entries)) (is_changed (items_of entries)) (last_of run entries) (text_of closes.replies) (ended_as (items_of entries) closes.replies)
+  by_writes : Writes (log_bytes (items_of entries)) (is_changed (items_of entries)) (last_of run entries) (text_of closes.replies) (ended_as run.scripts closes.replies)
       file file_now log log_now out out_now s → IsWholeEnd s ⊎ ((d : Device) × (s ≡ status.Device d))
   by_writes (AllWritten said a b c) = inl (closed_whole lefts file log run entries file_now log_now out out_now s is closes said)
   by_writes (AtSink said a b c) = inr (device.Sink, said)

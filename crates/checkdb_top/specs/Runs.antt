@@ -1,16 +1,16 @@
 -- How a run of sessions ends (this project's own).
 use Rattle.std.specs.Prelude.{◌≡◌, ℕ, ◌-◌, ◌<◌, ◌==◌, Bool, false, if◌then◌else◌, IsTrue, All, List, [], ◌++◌, length, get_or, Option, IfSome}
-use Rattle.std.specs.List.{list_any, list_all}
+use Rattle.std.specs.List.{list_any, list_all, zip}
 use Rattle.std.specs.Io.KnownBytes.{IsAtEnd}
 use Rattle.spec_file.specs.Image.{Image, page}
-use Rattle.spec_log.specs.declared.limits.TheConstants.{SHORT}
 use Rattle.spec_log.specs.declared.item.Record.{Record}
-use Rattle.spec_log.specs.declared.item.Record.TheVariants.{CheckEnd}
 use Rattle.spec_log.specs.Bytes.{log_bytes}
 use Rattle.spec_log.specs.Images.{final_image}
+use Rattle.spec_script.specs.declared.limits.TheConstants.{NO_MEMORY}
 use Rattle.spec_script.specs.declared.statement.Statement.{Statement}
+use Rattle.spec_script.specs.declared.statement.Statement.TheVariants.{Check}
 use Rattle.spec_script.specs.declared.reply.Reply.{Reply}
-use Rattle.spec_script.specs.declared.reply.Reply.TheVariants.{Report}
+use Rattle.spec_script.specs.declared.reply.Reply.TheVariants.{Report, Refused}
 use Rattle.spec_script.specs.Lines.{is_statement}
 use Rattle.spec_script.specs.Replies.{text_of}
 use Rattle.spec_run.specs.Begun.{Setting}
@@ -33,21 +33,26 @@ use Rattle.checkdb_top.specs.Writes.{Writes}
 use Rattle.checkdb_top.specs.declared.status.Status.{Status}
 use Rattle.checkdb_top.specs.declared.status.Status.TheVariants as status
 
--- a check ended for want of memory
-abbrev pub ends_short : Record → Bool
-ends_short (CheckEnd session index outcome) = outcome == SHORT
-ends_short other = false
+-- a check that was answered with 701
+abbrev pub is_short : Statement → Reply → Bool
+is_short (Check workers) (Refused refusal) = refusal.number == NO_MEMORY
+is_short (Check workers) other = false
+is_short other reply = false
+
+-- such a check is among a session's statements, of which each finished one has its reply
+abbrev pub has_short : List Statement × List Reply → Bool
+has_short session = list_any (λ p. is_short p.0 p.1) (zip session.0 session.1)
 
 -- a report that holds an error
 abbrev pub has_errors : Reply → Bool
 has_errors (Report lsn report) = is_some_error report.errors
 has_errors other = false
 
--- the status of a run with these items and these replies, session by session
-abbrev pub ended_as : List Record → List (List Reply) → Status
-ended_as log replies =
+-- the status of a run with these scripts and these replies, session by session
+abbrev pub ended_as : List (List Statement) → List (List Reply) → Status
+ended_as scripts replies =
     if list_any (list_any is_terminated) replies then status.NoReport
-    else (if list_any ends_short log then status.Memory else ended (list_any (list_any has_errors) replies))
+    else (if list_any has_short (zip scripts replies) then status.Memory else ended (list_any (list_any has_errors) replies))
 
 -- the replies of session s, from 1
 abbrev pub replies_to : List (List Reply) → ℕ → List Reply
@@ -99,7 +104,7 @@ pub record Closes (run : Setting) (entries : List Entry) (file file_now log log_
   pub legal : IsLegalRun run entries (replies_to replies)
   pub answered : AreAllAnswered run (items_of entries)
   pub stay : StayUnchanged run entries
-  pub writes : Writes (log_bytes (items_of entries)) (is_changed (items_of entries)) (last_of run entries) (text_of replies) (ended_as (items_of entries) replies)
+  pub writes : Writes (log_bytes (items_of entries)) (is_changed (items_of entries)) (last_of run entries) (text_of replies) (ended_as run.scripts replies)
       file file_now log log_now out out_now s
 
 -- a run ends: it doesn't begin, or want of memory ends it before its close, and then nothing is written; or its

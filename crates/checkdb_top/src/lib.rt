@@ -2,6 +2,7 @@
 #![tactic(auto)]
 
 mod check;
+mod ended;
 mod file;
 mod reader;
 mod run;

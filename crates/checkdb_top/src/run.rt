@@ -10,7 +10,7 @@ ghost use Rattle.law_run.specs.Laws.{IsStart};
 ghost use Rattle.spec_start.specs.Sources.{HasFailedSource, NoneFell};
 ghost use Rattle.spec_start.specs.Files.{AreAllPages};
 ghost use Rattle.checkdb_top.specs.Answers.{IsDevice};
-ghost use Rattle.checkdb_top.specs.Runs.{ends_short, has_errors, ended_as, replies_to, AreAllTold, Closes, Ends};
+ghost use Rattle.checkdb_top.specs.Runs.{replies_to, AreAllTold, Closes, Ends};
 ghost use Rattle.checkdb_top.specs.Writes.{Writes};
 ghost use Rattle.spec_run.specs.Answers.{is_terminated};
 ghost use Rattle.checkdb_top.specs.Readiness.{IsMade, IsOver, MayBegin, AreFew};
@@ -19,14 +19,13 @@ ghost use Rattle.run_close.specs.Close.{MayClose};
 ghost use Rattle.checkdb_top.specs.declared.status.Device.{Device as AnyDevice};
 ghost use Rattle.checkdb_top.specs.declared.status.Device.TheVariants.{Volume, Log, Source, Sink};
 
-use crate::check::has_error;
+use crate::ended::ended;
 use crate::start::{Start, start_run};
 use crate::{Device, Status};
 use db_core::Core;
 use pg_base::NoMemory;
 use run_close::{Close, CloseStop, write_session};
 use run_file::Texts;
-use spec_log::{Record, SHORT};
 use spec_script::Reply;
 use std::alloc::Global;
 use vol_dev::{DeviceFailed, LogFile};
@@ -55,59 +54,6 @@ fn replies_of(alloc: Global, core: &Core) -> Result<Vec<&[Reply]>, NoMemory>
         all.push(core.replies(k + 1))?;
     }
     Ok(all)
-}
-
-fn is_short(item: &Record) -> bool
-    ensures { result ≡ ends_short item.now }
-{
-    matches!(item, Record::CheckEnd { outcome: SHORT, .. })
-}
-
-fn is_with_errors(reply: &Reply) -> bool
-    ensures { result ≡ has_errors reply.now }
-{
-    match reply {
-        Reply::Report { report, .. } => has_error(report),
-        _ => false,
-    }
-}
-
-fn any_short(items: &[Record]) -> bool
-    ensures { result ≡ list_any ends_short items.now }
-{
-    items.iter().any(|item| is_short(item))
-}
-
-fn any_with_errors(replies: &[Reply]) -> bool
-    ensures { result ≡ list_any has_errors replies.now }
-{
-    replies.iter().any(|reply| is_with_errors(reply))
-}
-
-fn one_with_errors(replies: &[&[Reply]]) -> bool
-    ensures { result ≡ list_any (λ r. list_any has_errors r.now) replies.now }
-{
-    replies.iter().any(|session| any_with_errors(session))
-}
-
-fn some_with_errors(replies: &[&[Reply]]) -> bool
-    ensures { result ≡ list_any (list_any has_errors) (map (λ r. r.now) replies.now) }
-{
-    one_with_errors(replies)
-}
-
-// The status of a run that is closed.
-fn ended(items: &[Record], replies: &[&[Reply]]) -> Status
-    requires { list_any (list_any is_terminated) (map (λ r. r.now) replies.now) ≡ false }
-    ensures { result ≡ ended_as items.now (map (λ r. r.now) replies.now) }
-{
-    if any_short(items) {
-        return Status::Memory;
-    }
-    if some_with_errors(replies) {
-        return Status::Errors;
-    }
-    Status::Clean
 }
 
 // Writes the replies of all sessions, in their order.
@@ -187,7 +133,7 @@ fn close_run<V: vol_dev::Volume, L: LogFile, K: vol_dev::Sink>(
     let replies = replies_of(alloc, core)?;
     let items = core.items();
     let close = Close::of(alloc, items, core.frames().count())?;
-    let known = ended(items, &replies);
+    let known = ended(core, &replies);
     Ok(write_run(&close, core.frames(), &replies, known, volume, log, out))
 }
 

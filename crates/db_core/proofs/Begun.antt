@@ -278,6 +278,12 @@ told_seen st db at s x view place good here =
     (subst (λ (r : Setting). AreTold r.geometry (told_to r s (log_of st)) x.replies.items) (ap (λ (d : Db). d.run) view)
     (subst (λ n. AreTold (run_is st).geometry (told_to (run_is st) n (log_of st)) x.replies.items) place (good.state.each at x here).told))
 
+-- the script of a session, as contracts see it
+pub script_seen : (st : State) (db : Db) (at s : ℕ) (x : Session) → db_of st ≡ db → at + 1 ≡ s → IsGood st → slice_get st.sessions.items at ≡ Some x →
+    x.script.items ≡ script_of db.run.scripts s
+script_seen st db at s x view place good here =
+    sym (ap (λ (d : Db). script_of d.run.scripts s) (sym view) ∙ ap (λ n. script_of (run_is st).scripts n) (sym place) ∙ (good.state.each at x here).script_is)
+
 -- and of no check without its report
 pub reported_seen : (st : State) (db : Db) (at s : ℕ) (x : Session) → db_of st ≡ db → at + 1 ≡ s → IsGood st → slice_get st.sessions.items at ≡ Some x →
     list_any is_terminated x.replies.items ≡ false

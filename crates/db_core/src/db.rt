@@ -15,6 +15,7 @@ ghost use Rattle.spec_run.specs.Bounds.{TakesTurn, RunWithin};
 ghost use Rattle.spec_run.specs.Answers.{is_terminated};
 ghost use Rattle.spec_run.specs.Schedules.{rest_from, turns_of};
 ghost use Rattle.spec_run.specs.Openings.{geometry_said, setting_of};
+ghost use Rattle.spec_run.specs.Progress.{script_of};
 ghost use Rattle.db_core.specs.States.{TurnIn, left_in};
 ghost use Rattle.db_core.specs.Store.{SaysOut};
 ghost use Rattle.spec_log.specs.declared.item.Record.{Record as AnyRecord};
@@ -112,6 +113,15 @@ impl Core {
         ensures { result ≡ length self.now.run.scripts }
     {
         self.state.sessions.len() as u32
+    }
+
+    /// The statements of a session.
+    pub fn script(&self, session: u32) -> &[Statement]
+        requires above { 0 < session }
+        requires within { session ≤ length self.now.run.scripts }
+        ensures { result.now ≡ script_of self.now.run.scripts session }
+    {
+        &self.state.sessions[session as usize - 1].script
     }
 
     /// What the finished statements of a session answered, in order. No check is terminated, since the log

@@ -28,8 +28,8 @@ returns-clause-closes g c =
     (λ s mine. (whole_is_served core.run core.entries c.requires.start c.items-items.ensures.legal c.requires.whole s mine).0) (rw (c.deref.ensures.value) at c.ended-known.ensures)
     (rw (c.frames-2.ensures, c.deref-2.ensures.value) at c.write_run.ensures.writes)
 
-pub ended-known-requires : goal.ended-known-requires
-ended-known-requires g c =
+pub ended-known-requires-clause-none : goal.ended-known-requires-clause-none
+ended-known-requires-clause-none g c =
     let core = c.args.core.now in
     rw (c.deref.ensures.value) (none_without core.run (items_of core.entries) (map (λ r. r.now) c.in_ok-replies.replies.items) c.requires.opened
     (length-map c.in_ok-replies.replies.items (λ r. r.now) ∙ c.in_ok-replies.ensures.count) c.in_ok-replies.ensures.told)

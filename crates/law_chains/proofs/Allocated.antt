@@ -34,7 +34,7 @@ first_is image row zero some = absurd (omega (arith, some))
 first_is image row (suc n) some = refl
 
 -- the interval of a page is that of its extent
-intervals : (g : Geometry) (p : ℕ) → interval_of_page g p ≡ p / 8 / interval_size g
+pub intervals : (g : Geometry) (p : ℕ) → interval_of_page g p ≡ p / 8 / interval_size g
 intervals Standard p = omega arith
 intervals Small p = omega arith
 

@@ -35,6 +35,7 @@ use Rattle.law_kept.proofs.Steps.{IsFile, page_in, nine_inside, Goes, goes_both,
 use Rattle.law_kept.proofs.Words.{take_goes, page_goes}
 use Rattle.law_kept.proofs.Singles.{neither, file_of, start_of}
 use Rattle.law_kept.proofs.EntryPages.{entry_set}
+use Rattle.law_kept.proofs.ChainLists.{first_there}
 use Rattle.law_kept.proofs.ReadTables.{table_found}
 use Rattle.law_kept.proofs.Freed.{left_same}
 use Rattle.law_kept.proofs.Dropping.{IsTable}
@@ -55,10 +56,6 @@ entry_found : (boot : List ℕ) (id : ℕ) → IfFound (IsEntryOf boot id) (entr
 entry_found boot id = first_kept (IsEntryOf boot id) (has_id boot id) entry_count 0 (λ i low high passes.
     let parts = and_parts (not (is_zeros (entry_at boot i))) (entry_id (entry_at boot i) == id) passes in
     record { within = omega (arith, high); used = not-true (is_zeros (entry_at boot i)) parts.0; same = eqb-true (entry_id (entry_at boot i)) id parts.1 })
-
-first_there : (xs : List ℕ) (x : ℕ) → Contains xs x → first_in xs ≡ None → ⊥
-first_there [] x there none = nothing_there x there
-first_there (y ∷ ys) x there none = cc
 
 -- an object of the catalog has one
 entry_there : (boot : List ℕ) (row : CatalogRow) → Contains (rows_of boot) row → entry_of boot row.id ≡ None → ⊥

@@ -13,7 +13,8 @@ use Rattle.spec_words.specs.Views.{View}
 use Rattle.spec_extents.specs.Extents.{extent_of, HoldsUse, IsGoodExtent}
 use Rattle.spec_alloc.specs.Freeing.{is_in_use}
 use Rattle.spec_steps.specs.AtMost.{Changed, either}
-use Rattle.spec_steps.specs.Tables.{Has, UsesOf, IsLeftShared}
+use Rattle.spec_steps.specs.Freeing.{IsLeftShared}
+use Rattle.spec_steps.specs.Tables.{Has, UsesOf}
 use Rattle.law_extents.proofs.GoodKinds.{zero_not}
 use Rattle.law_frames.proofs.Held.{IsStart, goods, held}
 use Rattle.law_kept.specs.Drops.{maps_dropped}

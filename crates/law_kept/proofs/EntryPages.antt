@@ -19,12 +19,12 @@ module _ (old : List ℕ) (off : ℕ) (bytes : List ℕ) where
   byte_at : (k : ℕ) → k < length old → slice_index (with_bytes old off bytes) k ≡ byte_with old off bytes k
   byte_at k low = get_or-map-range_with_len (byte_with old off bytes) 0 (length old) k k 0 low (omega arith)
 
-  byte_here : (k : ℕ) → k < length old → off ≤ k → k < off + length bytes → slice_index (with_bytes old off bytes) k ≡ slice_index bytes (k - off)
+  pub byte_here : (k : ℕ) → k < length old → off ≤ k → k < off + length bytes → slice_index (with_bytes old off bytes) k ≡ slice_index bytes (k - off)
   byte_here k low from to =
       byte_at k low ∙ cond_both (leb off k && ltb k (off + length bytes)) (slice_index bytes (k - off)) (slice_index old k) (λ b. b ≡ slice_index bytes (k - off))
       (λ e. refl) (λ e. absurd (grind (arith, nat_tests, e, from, to)))
 
-  byte_else : (k : ℕ) → (off ≤ k → k < off + length bytes → ⊥) → slice_index (with_bytes old off bytes) k ≡ slice_index old k
+  pub byte_else : (k : ℕ) → (off ≤ k → k < off + length bytes → ⊥) → slice_index (with_bytes old off bytes) k ≡ slice_index old k
   byte_else k other = elim (cases_lt k (length old)) [
     | inl low ↦ byte_at k low ∙ cond_both (leb off k && ltb k (off + length bytes)) (slice_index bytes (k - off)) (slice_index old k) (λ b. b ≡ slice_index old k)
         (λ e. absurd (other (grind (arith, nat_tests, e)) (grind (arith, nat_tests, e)))) (λ e. refl)
@@ -43,19 +43,20 @@ part_same xs ys a b long same =
     let low : k < b - a = omega (arith, lt, length-take (b - a) (drop a xs)) in
     part_byte xs a b k low ∙ same (a + k) (omega arith) (omega (arith, low)) ∙ sym (part_byte ys a b k low))
 
-number_same : (at : ℕ) (xs ys : List ℕ) → ((k : ℕ) → k < 4 → slice_index xs (at + k) ≡ slice_index ys (at + k)) → number_at 4 at xs ≡ number_at 4 at ys
+-- a number of four bytes is the same where they are
+pub number_same : (at there : ℕ) (xs ys : List ℕ) → ((k : ℕ) → k < 4 → slice_index xs (at + k) ≡ slice_index ys (there + k)) → number_at 4 at xs ≡ number_at 4 there ys
 unfolding number_at
-number_same at xs ys same = rw (byte 0 (omega arith), byte 1 (omega arith), byte 2 (omega arith), byte 3 (omega arith)) refl
+number_same at there xs ys same = rw (byte 0 (omega arith), byte 1 (omega arith), byte 2 (omega arith), byte 3 (omega arith)) refl
   where
-    byte : (k : ℕ) → k < 4 → slice_index (drop at xs) k ≡ slice_index (drop at ys) k
-    byte k low = get_or-drop at xs k 0 ∙ same k low ∙ sym (get_or-drop at ys k 0)
+    byte : (k : ℕ) → k < 4 → slice_index (drop at xs) k ≡ slice_index (drop there ys) k
+    byte k low = get_or-drop at xs k 0 ∙ same k low ∙ sym (get_or-drop there ys k 0)
 
 -- bytes behind the header leave what it says
 header_same : (old : List ℕ) (off : ℕ) (bytes : List ℕ) → 96 ≤ off → SaysSame old (with_bytes old off bytes)
 header_same old off bytes behind type p =
     let kind : page_type (with_bytes old off bytes) ≡ page_type old = byte_else old off bytes 1 (λ from to. omega (arith, behind, from)) in
     let number : page_id (with_bytes old off bytes) ≡ page_id old =
-    number_same 4 (with_bytes old off bytes) old (λ k low. byte_else old off bytes (4 + k) (λ from to. omega (arith, behind, from, low))) in
+    number_same 4 4 (with_bytes old off bytes) old (λ k low. byte_else old off bytes (4 + k) (λ from to. omega (arith, behind, from, low))) in
     ap (λ t. (t == type) && (page_id (with_bytes old off bytes) == p)) kind ∙ ap (λ n. (page_type old == type) && (n == p)) number
 
 entry_here : (i : ℕ) (entry old : List ℕ) → 136 + 40 * i ≤ length old → length entry ≡ 40 → entry_at (with_bytes old (96 + 40 * i) entry) i ≡ entry

@@ -15,7 +15,7 @@ use Rattle.spec_alloc.specs.Search.{gam_read, sgam_read, pfs_read, is_held, coun
 use Rattle.spec_alloc.specs.Freeing.{is_in_use, put_bits, shared_freed, extent_freed, marked_freed}
 use Rattle.spec_alloc.specs.Objects.{left_freed}
 use Rattle.spec_steps.specs.AtMost.{free_bit, mixed_bit, byte_of, either, maps_of}
-use Rattle.spec_steps.specs.Tables.{IsLeftShared}
+use Rattle.spec_steps.specs.Freeing.{IsLeftShared}
 use Rattle.law_extents.proofs.GoodKinds.{zero_not}
 use Rattle.law_net.specs.GoodViews.{Leads}
 use Rattle.law_net.proofs.WordLaws.{leads_then, leads_give, leads_weaker}
@@ -122,10 +122,14 @@ shared_goes shape p v inside f busy =
     (pfs_goes shape p 0 w inside taken.file)))))
     (take_goes shape extent v f)))
 
--- a page of a marked extent is given back
-pub record FreesMarked (shape : FileShape) (p : ℕ) (v w : View) : Type 0 where
+-- a page of a marked extent is given back: while the extent counts as in use its bits stay, and then it is free, and none
+-- of its pages is allocated
+pub record FreesMarked (shape : FileShape) (p : ℕ) (in_use : Bool) (v w : View) : Type 0 where
   pub goes : Goes shape (either (byte_of p) (free_bit (p / 8))) v w
   pub byte : pfs_byte shape.geometry w.now p ≡ 0
+  pub stays : in_use ≡ true → Goes shape (byte_of p) v w
+  pub free : in_use ≡ false → is_free shape.geometry w.now (p / 8) ≡ true
+  pub none : in_use ≡ false → (q : ℕ) → q / 8 ≡ p / 8 → is_allocated shape.geometry w.now q ≡ false
 
 behind_nothing : (shape : FileShape) (e : ℕ) (v w x : View) → Goes shape nothing v w → Goes shape (free_bit e) w x → Goes shape (free_bit e) v x
 behind_nothing shape e v w x first second =
@@ -137,34 +141,49 @@ behind_nothing shape e v w x first second =
     }) (goes_both shape nothing (free_bit e) v w x first second)
 
 -- the extent becomes free where it isn't in use any more
-extent_goes : (shape : FileShape) (e : ℕ) (in_use : Bool) (v : View) → e < shape.pages / 8 → IsFile shape v.now → Leads (extent_freed shape e in_use) v (λ u w. Goes shape (free_bit e) v w)
+record FreesExtent (shape : FileShape) (e : ℕ) (in_use : Bool) (v w : View) : Type 0 where
+  goes : Goes shape (free_bit e) v w
+  stays : in_use ≡ true → w ≡ v
+  free : in_use ≡ false → is_free shape.geometry w.now e ≡ true
+
+extent_goes : (shape : FileShape) (e : ℕ) (in_use : Bool) (v : View) → e < shape.pages / 8 → IsFile shape v.now → Leads (extent_freed shape e in_use) v (λ u w. FreesExtent shape e in_use v w)
 extent_goes shape e true v low f =
-    let K : Unit {0} → View → Type 0 = λ u w. Goes shape (free_bit e) v w in
+    let K : Unit {0} → View → Type 0 = λ u w. FreesExtent shape e true v w in
     leads_from (gam_read shape e) _ v Any K (map_reads _ _ v) (λ a b.
-    leads_weaker (sgam_read shape e) v (λ x w. (w ≡ v) × Unit {0}) K (λ x w h. subst (Goes shape (free_bit e) v) (sym h.0)
-    (goes_within shape nothing (free_bit e) v v (nothing_within (free_bit e)) (goes_nowhere shape v f))) (map_reads _ _ v))
+    leads_weaker (sgam_read shape e) v (λ x w. (w ≡ v) × Unit {0}) K (λ x w h. record {
+      goes = subst (Goes shape (free_bit e) v) (sym h.0) (goes_within shape nothing (free_bit e) v v (nothing_within (free_bit e)) (goes_nowhere shape v f));
+      stays = λ used. h.0;
+      free = λ unused. absurd (cc);
+    }) (map_reads _ _ v))
 extent_goes shape e false v low f =
     let extent = resource.Extent (record { 0 = e }) in
-    let K : Unit {0} → View → Type 0 = λ u w. Goes shape (free_bit e) v w in
+    let K : Unit {0} → View → Type 0 = λ u w. FreesExtent shape e false v w in
     leads_then (take extent) _ v K (leads_weaker (take extent) v _ _ (λ u w h.
     let taken = h.0 in
     leads_from (gam_read shape e) _ w Any K (map_reads _ _ w) (λ c d.
     leads_from (sgam_read shape e) _ w Any K (map_reads _ _ w) (λ c d.
-    leads_weaker (put_gam shape e 1) w _ K (λ s x k. behind_nothing shape e v w x taken k.0) (gam_goes shape e true w low taken.file))))
+    leads_weaker (put_gam shape e 1) w _ K (λ s x k. record { goes = behind_nothing shape e v w x taken k.0; stays = λ used. absurd (cc); free = λ unused. k.1 }) (gam_goes shape e true w low taken.file))))
     (take_goes shape extent v f))
 
-pub marked_goes : (shape : FileShape) (p : ℕ) (v : View) → p < shape.pages → IsFile shape v.now → Leads (marked_freed shape p) v (λ in_use w. FreesMarked shape p v w)
+pub marked_goes : (shape : FileShape) (p : ℕ) (v : View) → p < shape.pages → IsFile shape v.now → Leads (marked_freed shape p) v (λ in_use w. FreesMarked shape p in_use v w)
 marked_goes shape p v inside f =
     let g = shape.geometry in
     let e = p / 8 in
     let low = page_extent shape v p f inside in
-    let K : Bool → View → Type 0 = λ in_use w. FreesMarked shape p v w in
+    let K : Bool → View → Type 0 = λ in_use w. FreesMarked shape p in_use v w in
     leads_from (pfs_read shape p) _ v Any K (map_reads _ _ v) (λ a b.
     leads_then (put_pfs shape p 0) _ v K (leads_weaker (put_pfs shape p 0) v _ _ (λ s x k.
     let put = k.0 in
-    leads_from (sees (is_in_use shape e)) _ x Any K (sees_reads (is_in_use shape e) x Any tt) (λ in_use t.
+    leads_from (sees (is_in_use shape e)) _ x (λ b. is_in_use shape e x ≡ b) K (sees_reads (is_in_use shape e) x (λ b. is_in_use shape e x ≡ b) refl) (λ in_use is.
     leads_then (extent_freed shape e in_use) (λ _. give in_use) x K (leads_weaker (extent_freed shape e in_use) x _ _ (λ u y l.
-    leads_give in_use y K (record { goes = goes_both shape (byte_of p) (free_bit e) v x y put l; byte = l.most.bytes p (page_in shape x.now p put.file inside) (λ c. c) ∙ k.1 }))
+    let freed = l.goes in
+    leads_give in_use y K (record {
+      goes = goes_both shape (byte_of p) (free_bit e) v x y put freed;
+      byte = freed.most.bytes p (page_in shape x.now p put.file inside) (λ c. c) ∙ k.1;
+      stays = λ used. subst (Goes shape (byte_of p) v) (sym (l.stays used)) put;
+      free = l.free;
+      none = λ unused q at. ap is_allocated_byte (freed.most.bytes q (in_extent shape x e q put.file low at) (λ c. c)) ∙ none_allocated shape x e q (is ∙ unused) at;
+    }))
     (extent_goes shape e in_use x low put.file))))
     (pfs_goes shape p 0 v inside f)))
 

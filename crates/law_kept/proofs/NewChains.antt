@@ -27,7 +27,7 @@ use Rattle.law_alloc.proofs.Objects.{none_leads}
 use Rattle.law_kept.specs.Singles.{TakesIam, ChainIsTaken}
 use Rattle.law_kept.proofs.Steps.{IsFile, page_in, Goes, goes_both}
 use Rattle.law_kept.proofs.Words.{page_goes}
-use Rattle.law_kept.proofs.Singles.{IsBare, IsExact, Finds, Takes, single_goes, page_extent, in_extent, file_of, start_of}
+use Rattle.law_kept.proofs.Singles.{IsBare, IsExact, Finds, Takes, single_goes, starts_open, page_extent, in_extent, file_of, start_of}
 use Rattle.law_kept.proofs.Steps.{extent_in}
 use Rattle.law_kept.proofs.NewPages.{page_long, only_iam, whole_put}
 
@@ -66,7 +66,7 @@ module _ (shape : FileShape) (id : ℕ) (v : View) (f : IsFile shape v.now) (sta
   abbrev pub Chains : ℕ → View → Type 0
   Chains q w = Goes shape (either (maps_of q) (page_of q)) v w × TakesIam shape.geometry id q v.now w.now × (IsBare shape v (q / 8) → IsExact shape (q / 8) w)
 
-  page_put : (q : ℕ) (w : View) → Takes shape v f start (expected Iam 0) q w → Leads (put_page q (new_iam_page id q 0 0 0)) w (λ u x. Chains q x)
+  page_put : (q : ℕ) (w : View) → Takes shape v (expected Iam 0) q w → Leads (put_page q (new_iam_page id q 0 0 0)) w (λ u x. Chains q x)
   page_put q w h =
       let takeable = h.0 in
       let t = h.1 in
@@ -77,7 +77,7 @@ module _ (shape : FileShape) (id : ℕ) (v : View) (f : IsFile shape v.now) (sta
       let low = number_low shape.geometry q shape.pages inside file.high in
       leads_weaker (put_page q (new_iam_page id q 0 0 0)) w _ (λ u x. Chains q x) (λ u x k.
       let is : page x.now q ≡ new_iam_page id q 0 0 0 =
-      k.1 ∙ whole_put (page w.now q) (new_iam_page id q 0 0 0) (page_long id q low_id low ∙ sym (after.whole q [] (page_in shape w.now q after inside))) in
+      k.1 ∙ whole_put (page w.now q) (new_iam_page id q 0 0 0) (page_long id q 0 0 0 ∙ sym (after.whole q [] (page_in shape w.now q after inside))) in
       let both = goes_both shape (maps_of q) (page_of q) v w x goes k.0 in (
         both,
         record {
@@ -94,10 +94,10 @@ module _ (shape : FileShape) (id : ℕ) (v : View) (f : IsFile shape v.now) (sta
   chain_goes =
       let put : ℕ → Plan ℕ = λ q. page_taken [] q then (λ _. put_page q (new_iam_page id q 0 0 0) then (λ _. give q)) in
       leads_then (single_page shape (expected Iam 0)) _ v Chains
-      (leads_weaker (single_page shape (expected Iam 0)) v (Finds v (Takes shape v f start (expected Iam 0))) (λ found w. Leads (found_or found (no_page shape) then put) w Chains)
-      by_found (single_goes shape v f start (expected Iam 0) refl))
+      (leads_weaker (single_page shape (expected Iam 0)) v (Finds v (Takes shape v (expected Iam 0))) (λ found w. Leads (found_or found (no_page shape) then put) w Chains)
+      by_found (single_goes shape v f (starts_open shape v f start) (expected Iam 0) refl))
     where
-      by_found : (found : Option ℕ) (w : View) → Finds v (Takes shape v f start (expected Iam 0)) found w →
+      by_found : (found : Option ℕ) (w : View) → Finds v (Takes shape v (expected Iam 0)) found w →
           Leads (found_or found (no_page shape) then (λ q. page_taken [] q then (λ _. put_page q (new_iam_page id q 0 0 0) then (λ _. give q)))) w Chains
       by_found None w h = leads_then (no_page shape) _ w Chains (none_leads shape w _)
       by_found (Some q) w h =

@@ -25,7 +25,8 @@ use Rattle.spec_alloc.specs.Chains.{chain_now}
 use Rattle.spec_alloc.specs.Freeing.{is_in_use, shared_freed, marked_freed, is_shared_page}
 use Rattle.spec_alloc.specs.Objects.{page_dropped, left_extents, left_freed, pages_dropped}
 use Rattle.spec_steps.specs.AtMost.{free_bit, byte_of, either, maps_of}
-use Rattle.spec_steps.specs.Tables.{Has, UsesOf, IsLeftShared}
+use Rattle.spec_steps.specs.Freeing.{IsLeftShared}
+use Rattle.spec_steps.specs.Tables.{Has, UsesOf}
 use Rattle.law_chains.specs.Laws.{chain_pages, IsWhole}
 use Rattle.law_chains.proofs.Allocated.{some_page, first_is, slot_from, slot_in, mark_from, mark_in, pages_are_allocated}
 use Rattle.law_extents.proofs.GoodKinds.{zero_not}
@@ -36,6 +37,7 @@ use Rattle.law_alloc.proofs.Searches.{sees_reads, leads_from}
 use Rattle.law_kept.specs.Drops.{maps_dropped, GivesBack, PagesAreGivenBack}
 use Rattle.law_kept.proofs.Steps.{IsFile, page_in, extent_in, Goes, IsWithin}
 use Rattle.law_kept.proofs.Singles.{any_from, page_extent, neither, file_of, start_of}
+use Rattle.law_kept.proofs.ChainLists.{in_chain, chain_in}
 use Rattle.law_kept.proofs.Freed.{shared_goes, marked_goes, left_goes}
 use Rattle.law_kept.proofs.ReadTables.{each_does, each_tested, IsReadChain, chain_now_reads}
 use Rattle.law_kept.proofs.Dropping.{IsTable, Drops, IsDone, IsAt, BytesFall, Settles, drops_none, drops_on, done_on, not_both, use_owns, own_inside}
@@ -45,7 +47,7 @@ any_same : (a b : ℕ → Bool) (xs : List ℕ) → ((x : ℕ) → Contains xs x
 any_same a b [] same = refl
 any_same a b (x ∷ xs) same = ap (λ c. c || list_any a xs) (same x (cons_here x xs)) ∙ ap (λ c. b x || c) (any_same a b xs (λ z there. same z (cons_there x xs z there)))
 
-among_from : (p : ℕ) (xs : List ℕ) → list_any (λ q. q == p) xs ≡ true → Contains xs p
+pub among_from : (p : ℕ) (xs : List ℕ) → list_any (λ q. q == p) xs ≡ true → Contains xs p
 among_from p [] h = absurd (cc)
 among_from p (x ∷ xs) h = ⊎_elim (λ here. subst (Contains (x ∷ xs)) (eqb-true x p here) (cons_here x xs)) (λ there. cons_there x xs p (among_from p xs there)) (or_cases (x == p) (list_any (λ q. q == p) xs) h)
 
@@ -165,14 +167,6 @@ module _ (v : View) (row : CatalogRow) (table : IsTable v.shape v row) (n : ℕ)
   abbrev Given : ℕ → View → Type 0
   Given = IsDone v.shape v row table
 
-  in_chain : (q : ℕ) → Contains (chain_pages v.now row n) q → IsInChain v.shape.geometry v.now row q
-  in_chain q there =
-      let at = map_from (pointer v.now row) (range_with_len 0 n) q there in
-      (at.0, below_page v.shape.geometry v.now row n at.0 whole.pages.pages (range_from n at.0 at.1), at.2)
-
-  chain_in : (q : ℕ) → IsInChain v.shape.geometry v.now row q → Contains (chain_pages v.now row n) q
-  chain_in q (k, is, at) = subst (Contains (chain_pages v.now row n)) at (map_in (pointer v.now row) (range_with_len 0 n) k (range_in n k (page_below v.shape.geometry v.now row n k whole.pages is)))
-
   -- the bytes of its pages are as they were
   chain_page : (q : ℕ) (w : View) → IsInChain v.shape.geometry v.now row q → Falls w → page w.now q ≡ page v.now q
   chain_page q w (k, is, at) drops =
@@ -189,7 +183,7 @@ module _ (v : View) (row : CatalogRow) (table : IsTable v.shape v row) (n : ℕ)
   marked_now : (p : ℕ) (w : View) → Falls w → is_marked v.shape.geometry w.now (chain_pages v.now row n) p ≡ is_marked v.shape.geometry v.now (chain_pages v.now row n) p
   marked_now p w drops =
       any_same _ _ (chain_pages v.now row n) (λ q there.
-      ap (λ bytes. (iam_interval bytes == interval_of_page v.shape.geometry p) && iam_mark bytes (p / 8 % interval_size v.shape.geometry)) (chain_page q w (in_chain q there) drops))
+      ap (λ bytes. (iam_interval bytes == interval_of_page v.shape.geometry p) && iam_mark bytes (p / 8 % interval_size v.shape.geometry)) (chain_page q w (in_chain v.shape.geometry v.now row n whole q there) drops))
 
   -- a page that is allocated to the object
   page_step : (p : ℕ) (w : View) → IsAllocatedTo v.shape.geometry v.now row p → Falls w → Leads (page_dropped v.shape (chain_pages v.now row n) p) w (λ u x. Step v.shape v row table p w x)
@@ -201,7 +195,7 @@ module _ (v : View) (row : CatalogRow) (table : IsTable v.shape v row) (n : ℕ)
       below allocated = page_in v.shape v.now p table.file (own_inside v.shape v row table p (inl allocated))
 
       by_use : (b : Bool) → is_single w.now (chain_pages v.now row n) p ≡ b → list_any (λ q. q == p) (chain_pages v.now row n) ≡ true ⊎ (b ≡ true) → (place : ℕ) × IsUseBy v.shape.geometry v.now p row place
-      by_use b single (inl there) = (single_slot_count, inr (refl, in_chain p (among_from p (chain_pages v.now row n) there)))
+      by_use b single (inl there) = (single_slot_count, inr (refl, in_chain v.shape.geometry v.now row n whole p (among_from p (chain_pages v.now row n) there)))
       by_use b single (inr is) =
           let slot = slot_from v.shape.geometry v.now row n p whole (below allocated) (sym (single_now p w drops) ∙ single ∙ is) in (slot.0, inl slot.1)
 
@@ -222,7 +216,7 @@ module _ (v : View) (row : CatalogRow) (table : IsTable v.shape v row) (n : ℕ)
           (leads_weaker (marked_freed v.shape p) w _ _ (λ b x h. leads_give tt x (λ u y. Step v.shape v row table p w y) h) (marked_step v.shape v row table p w (not_single allocated is) (inl allocated) drops))
 
   chain_step : (q : ℕ) (w : View) → Contains (chain_pages v.now row n) q → Falls w → Leads (shared_freed v.shape q) w (λ u x. Step v.shape v row table q w x)
-  chain_step q w there drops = shared_step v.shape v row table q single_slot_count w (inr (refl, in_chain q there)) drops
+  chain_step q w there drops = shared_step v.shape v row table q single_slot_count w (inr (refl, in_chain v.shape.geometry v.now row n whole q there)) drops
 
   -- all that the object has is given back
   abbrev pub Back : Unit {0} → View → Type 0
@@ -316,7 +310,7 @@ module _ (v : View) (row : CatalogRow) (table : IsTable v.shape v row) (n : ℕ)
         (leads_weaker (for_each (page_dropped v.shape (chain_pages v.now row n)) pages) v _ _ (λ s w h.
         leads_then (for_each (shared_freed v.shape) (chain_pages v.now row n)) _ w K
         (leads_weaker (for_each (shared_freed v.shape) (chain_pages v.now row n)) w _ _ (λ t z k.
-        left_goes_all z k.0 (λ p own. ⊎_elim (λ allocated. k.2 p (h.1 p (into p allocated))) (λ chained. k.1 p (chain_in p chained)) own) (λ p allocated. tested p (into p allocated)))
+        left_goes_all z k.0 (λ p own. ⊎_elim (λ allocated. k.2 p (h.1 p (into p allocated))) (λ chained. k.1 p (chain_in v.shape.geometry v.now row n whole p chained)) own) (λ p allocated. tested p (into p allocated)))
         (each_does (shared_freed v.shape) (chain_pages v.now row n) Falls Given w (λ q y there keeps. chain_step q y there keeps) h.0)))
         (each_does (page_dropped v.shape (chain_pages v.now row n)) pages Falls Given v (λ p y there keeps. page_step p y (from p there) keeps) (drops_none v.shape v row table)))))
 

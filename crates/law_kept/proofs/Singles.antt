@@ -47,7 +47,7 @@ any_in test e q at passes =
     list_any_at test (pages_in e) (q % 8) 0 low (ap test (is ∙ place) ∙ passes)
 
 -- a page that can be had
-spare_parts : (shape : FileShape) (v : View) (q : ℕ) → is_spare shape v q ≡ true → IsTrue (is_ordinary shape.geometry q) × (is_allocated shape.geometry v.now q ≡ false)
+pub spare_parts : (shape : FileShape) (v : View) (q : ℕ) → is_spare shape v q ≡ true → IsTrue (is_ordinary shape.geometry q) × (is_allocated shape.geometry v.now q ≡ false)
 spare_parts shape v q spare =
     let parts = and_parts (is_ordinary shape.geometry q) _ spare in
     (parts.0, neither (is_allocated shape.geometry v.now q) (is_held v (resource.Byte (record { 0 = q }))) parts.1)
@@ -196,7 +196,7 @@ abbrev pub Finds : View → (ℕ → View → Type 0) → Option ℕ → View �
 Finds v K None w = w ≡ v
 Finds v K (Some p) w = K p w
 
-found_leads : (plan : Plan (Option ℕ)) (next : ℕ → Plan ℕ) (v : View) (Q : ℕ → Type 0) (K : ℕ → View → Type 0) → Reads plan v (IfFound Q) → ((p : ℕ) → Q p → Leads (next p) v K) →
+pub found_leads : (plan : Plan (Option ℕ)) (next : ℕ → Plan ℕ) (v : View) (Q : ℕ → Type 0) (K : ℕ → View → Type 0) → Reads plan v (IfFound Q) → ((p : ℕ) → Q p → Leads (next p) v K) →
     Leads (plan then (λ found. where_found found next)) v (Finds v K)
 found_leads plan next v Q K reads gives = leads_from plan (λ found. where_found found next) v (IfFound Q) (Finds v K) reads by_found
   where
@@ -205,7 +205,7 @@ found_leads plan next v Q K reads gives = leads_from plan (λ found. where_found
     by_found (Some p) f =
         leads_then (next p) (λ q. give (Some q)) v (Finds v K) (leads_weaker (next p) v K (λ q w. Leads (give (Some q)) w (Finds v K)) (λ q w h. leads_give (Some q) w (Finds v K) h) (gives p f))
 
-either_leads : (first second : Plan (Option ℕ)) (v : View) (K : ℕ → View → Type 0) → Leads first v (Finds v K) → Leads second v (Finds v K) → Leads (either_of first second) v (Finds v K)
+pub either_leads : (first second : Plan (Option ℕ)) (v : View) (K : ℕ → View → Type 0) → Leads first v (Finds v K) → Leads second v (Finds v K) → Leads (either_of first second) v (Finds v K)
 either_leads first second v K a b =
     leads_then first (λ found. or_later found second) v (Finds v K) (leads_weaker first v (Finds v K) (λ found w. Leads (or_later found second) w (Finds v K)) by_found a)
   where
@@ -234,7 +234,18 @@ record IsOfMixed (shape : FileShape) (v : View) (p : ℕ) : Type 0 where
   mixed : is_mixed shape.geometry v.now (p / 8) ≡ true
   free : is_free shape.geometry v.now (p / 8) ≡ false
 
-module _ (shape : FileShape) (v : View) (f : IsFile shape v.now) (start : IsStart shape.geometry v.now) where
+-- the first page of a free extent can be taken
+abbrev pub Opens : FileShape → View → Type 0
+Opens shape v = (e : ℕ) → e < shape.pages / 8 → is_free shape.geometry v.now e ≡ true → IsTakeable shape.geometry v.now (8 * e)
+
+pub starts_open : (shape : FileShape) (v : View) → IsFile shape v.now → IsStart shape.geometry v.now → Opens shape v
+starts_open shape v f start e inside free = free_is_takeable shape.geometry v.now start e (extent_in shape v.now e f inside) free
+
+-- a page that can be taken is
+abbrev pub Takes : FileShape → View → ℕ → ℕ → View → Type 0
+Takes shape v value p w = IsTakeable shape.geometry v.now p × IsTaken shape value p v w
+
+module _ (shape : FileShape) (v : View) (f : IsFile shape v.now) (opens : Opens shape v) where
   mixed_found : (e : ℕ) → e < shape.pages / 8 → is_shared shape v e ≡ true → IfFound (IsOfMixed shape v) (spare_page shape v e)
   mixed_found e inside shared =
       let g = shape.geometry in
@@ -248,27 +259,23 @@ module _ (shape : FileShape) (v : View) (f : IsFile shape v.now) (start : IsStar
         free = subst (λ n. is_free g v.now n ≡ false) at (not-true (is_free g v.now e) bits.0);
       })
 
-  free_found : (e : ℕ) → e < shape.pages / 8 → is_unused shape v e ≡ true → IfFound (IsTakeable shape.geometry v.now) (first_page_of shape v e)
+  pub free_found : (e : ℕ) → e < shape.pages / 8 → is_unused shape v e ≡ true → IfFound (IsTakeable shape.geometry v.now) (first_page_of shape v e)
   free_found e inside unused =
       let g = shape.geometry in
       let bits = and_parts (is_free g v.now e) (not (is_mixed g v.now e)) unused in
-      cond_both (is_system_extent g e) None (Some (8 * e)) (IfFound (IsTakeable g v.now)) (λ h. tt)
-      (λ h. free_is_takeable g v.now start e (extent_in shape v.now e f inside) bits.0)
+      cond_both (is_system_extent g e) None (Some (8 * e)) (IfFound (IsTakeable g v.now)) (λ h. tt) (λ h. opens e inside bits.0)
 
-  abbrev pub Takes : ℕ → ℕ → View → Type 0
-  Takes value p w = IsTakeable shape.geometry v.now p × IsTaken shape value p v w
-
-  pub single_goes : (value : ℕ) → is_allocated_byte value ≡ true → Leads (single_page shape value) v (Finds v (Takes value))
+  pub single_goes : (value : ℕ) → is_allocated_byte value ≡ true → Leads (single_page shape value) v (Finds v (Takes shape v value))
   single_goes value allocated =
       let low = λ (p : ℕ) (takeable : IsTakeable shape.geometry v.now p). let inside : p < shape.pages = subst (λ n. p < n) f.pages takeable.inside in inside in
-      either_leads _ _ v (Takes value)
-      (found_leads (search shape (is_shared shape) (spare_page shape)) (of_mixed shape value) v (IsOfMixed shape v) (Takes value)
+      either_leads _ _ v (Takes shape v value)
+      (found_leads (search shape (is_shared shape) (spare_page shape)) (of_mixed shape value) v (IsOfMixed shape v) (Takes shape v value)
       (search_reads shape (is_shared shape) (spare_page shape) (IsOfMixed shape v) v mixed_found) (λ p is.
-      leads_weaker (of_mixed shape value p) v _ (Takes value) (λ q w h. subst (λ r. Takes value r w) (sym h.0) (is.takeable, h.1))
+      leads_weaker (of_mixed shape value p) v _ (Takes shape v value) (λ q w h. subst (λ r. Takes shape v value r w) (sym h.0) (is.takeable, h.1))
       (mixed_goes shape value p v (low p is.takeable) allocated f is.mixed is.free)))
-      (found_leads (search shape (is_unused shape) (first_page_of shape)) (of_free shape value) v (IsTakeable shape.geometry v.now) (Takes value)
+      (found_leads (search shape (is_unused shape) (first_page_of shape)) (of_free shape value) v (IsTakeable shape.geometry v.now) (Takes shape v value)
       (search_reads shape (is_unused shape) (first_page_of shape) (IsTakeable shape.geometry v.now) v free_found) (λ p takeable.
-      leads_weaker (of_free shape value p) v _ (Takes value) (λ q w h. subst (λ r. Takes value r w) (sym h.0) (takeable, h.1))
+      leads_weaker (of_free shape value p) v _ (Takes shape v value) (λ q w h. subst (λ r. Takes shape v value r w) (sym h.0) (takeable, h.1))
       (free_goes shape value p v (low p takeable) allocated f)))
 
 pub file_of : (v : View) → IsCleanView v → IsFile v.shape v.now
@@ -279,11 +286,12 @@ start_of v clean = record { shape = file_shape v.shape v.now (file_of v clean); 
 
 -- what holds of each page that is taken holds of what is found
 found_holds : (Holds : ℕ → View → Type 0) (v : View) (clean : IsCleanView v) (value : ℕ) → is_allocated_byte value ≡ true →
-    ((p : ℕ) (w : View) → Takes v.shape v (file_of v clean) (start_of v clean) value p w → Holds p w) → Leads (single_page v.shape value) v (λ found w. IfFound (λ p. Holds p w) found)
+    ((p : ℕ) (w : View) → Takes v.shape v value p w → Holds p w) → Leads (single_page v.shape value) v (λ found w. IfFound (λ p. Holds p w) found)
 found_holds Holds v clean value allocated holds =
-    leads_weaker (single_page v.shape value) v _ (λ found w. IfFound (λ p. Holds p w) found) by_found (single_goes v.shape v (file_of v clean) (start_of v clean) value allocated)
+    leads_weaker (single_page v.shape value) v _ (λ found w. IfFound (λ p. Holds p w) found) by_found
+    (single_goes v.shape v (file_of v clean) (starts_open v.shape v (file_of v clean) (start_of v clean)) value allocated)
   where
-    by_found : (found : Option ℕ) (w : View) → Finds v (Takes v.shape v (file_of v clean) (start_of v clean) value) found w → IfFound (λ p. Holds p w) found
+    by_found : (found : Option ℕ) (w : View) → Finds v (Takes v.shape v value) found w → IfFound (λ p. Holds p w) found
     by_found None w h = tt
     by_found (Some p) w h = holds p w h
 

@@ -49,7 +49,7 @@ record IsPut (shape : FileShape) (cell : Cell) (bytes : List ℕ) (v w : View) :
   other : w.other ≡ v.other
   now : w.now ≡ put v.now cell bytes
 
-file_put : (shape : FileShape) (image : Image) (cell : Cell) (bytes : List ℕ) → IsFile shape image → IsFile shape (put image cell bytes)
+pub file_put : (shape : FileShape) (image : Image) (cell : Cell) (bytes : List ℕ) → IsFile shape image → IsFile shape (put image cell bytes)
 file_put shape image cell bytes f =
     let form = shape_put image cell bytes in
     record { file = f.file; pages = form.pages ∙ f.pages; whole = whole_shape image (put image cell bytes) form f.whole }

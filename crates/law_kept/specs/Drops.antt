@@ -14,7 +14,8 @@ use Rattle.spec_statements.specs.Objects.{drop_plan}
 use Rattle.spec_clean.specs.CleanFiles.{HasCleanMaps, IsClean}
 use Rattle.spec_steps.specs.AtMost.{Changed, AtMost}
 use Rattle.spec_steps.specs.Sgam.{HasExactSgam}
-use Rattle.spec_steps.specs.Tables.{Has, UsesOf, IsLeftShared, DropsObject}
+use Rattle.spec_steps.specs.Freeing.{IsLeftShared}
+use Rattle.spec_steps.specs.Tables.{Has, UsesOf, DropsObject}
 use Rattle.law_net.specs.GoodViews.{Leads}
 use Rattle.law_kept.specs.Views.{IsCleanView}
 

@@ -2,3 +2,5 @@ pub mod Views
 pub mod Singles
 pub mod Creates
 pub mod Drops
+pub mod Growing
+pub mod Giving

@@ -1,8 +1,11 @@
-//! Laws of CREATE HEAP and of DROP as they are planned: they are the steps that leave a clean file clean.
+//! Laws of CREATE HEAP and of DROP, and of a page that an object gets or gives back, as they are planned: they are the steps
+//! that leave a clean file, or clean maps, clean.
 #![tactic(auto)]
 
 ghost use Rattle.law_kept.specs.Creates.{CreateCreates, CreateLeavesMapsClean, CreateLeavesFileClean, CreateLeavesSgamExact};
 ghost use Rattle.law_kept.specs.Drops.{PagesAreGivenBack, DropDrops, DropLeavesMapsClean, DropLeavesFileClean, DropLeavesSgamExact};
+ghost use Rattle.law_kept.specs.Giving.{PageIsGivenBack, GivingLeavesMapsClean, GivingLeavesOthers, GivingLeavesSgamExact};
+ghost use Rattle.law_kept.specs.Growing.{PageIsGot, GrowingLeavesMapsClean, GrowingLeavesOthers, GrowingLeavesSgamExact};
 ghost use Rattle.law_kept.specs.Singles.{SingleIsTaken, SingleSetsSgam, ChainIsTaken};
 
 /// A single page that is found on a clean view is a page that nobody has, and is taken; and so is the page of a new
@@ -33,4 +36,23 @@ pub fn drop_laws()
     ensures maps { DropLeavesMapsClean }
     ensures file { DropLeavesFileClean }
     ensures sgam { DropLeavesSgamExact }
+{}
+
+/// An object of a clean view that gets one more page has that page then, besides those that it had, which are as they were.
+/// Maps stay clean, every other object keeps its chain and its pages, and SGAM stays exact, where others hold extents with
+/// bytes.
+pub fn growing_laws()
+    ensures got { PageIsGot }
+    ensures maps { GrowingLeavesMapsClean }
+    ensures others { GrowingLeavesOthers }
+    ensures sgam { GrowingLeavesSgamExact }
+{}
+
+/// So it is where an object gives a page back, which it had and hasn't any more; and there SGAM stays exact whatever others
+/// hold.
+pub fn giving_laws()
+    ensures given { PageIsGivenBack }
+    ensures maps { GivingLeavesMapsClean }
+    ensures others { GivingLeavesOthers }
+    ensures sgam { GivingLeavesSgamExact }
 {}

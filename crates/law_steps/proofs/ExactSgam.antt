@@ -7,19 +7,18 @@ use Rattle.spec_file.specs.Image.{Image}
 use Rattle.spec_file.specs.CatalogRows.{CatalogRow}
 use Rattle.spec_file.specs.Pfs.{is_allocated_byte}
 use Rattle.spec_file.specs.Places.{extent_count, is_free, is_mixed}
-use Rattle.spec_file.specs.Roles.{is_ordinary, is_system_extent}
+use Rattle.spec_file.specs.Roles.{is_ordinary}
 use Rattle.spec_chain.specs.Chains.{pointer}
 use Rattle.spec_chain.specs.Marks.{IsMarker}
 use Rattle.spec_chain.specs.Uses.{Use, IsUse, pfs_byte, is_allocated}
-use Rattle.spec_check.specs.Pages.{kind_of_role}
 use Rattle.spec_extents.specs.Extents.{extent_of, HoldsUse, IsGoodExtent}
 use Rattle.spec_steps.specs.Taking.{HasOpenPage, IsTakenAs, PutsIntoSlot, ChangesSinglePage, ChangesMarkedPage, MarksExtent, GrowsChain}
-use Rattle.law_extents.proofs.GoodKinds.{used_allocated, boot_allocated, boot_role, all_ordinary, owned_kind}
+use Rattle.law_extents.proofs.GoodKinds.{used_allocated, owned_kind}
 use Rattle.law_frames.proofs.Held.{IsStart, goods, extent_below}
-use Rattle.spec_file.specs.declared.pfs.PfsKind.TheVariants.{Boot, Iam, Single}
+use Rattle.spec_file.specs.declared.pfs.PfsKind.TheVariants.{Iam, Single}
 use Rattle.spec_chain.proofs.Pointers.{inside_below}
 use Rattle.spec_steps.specs.AtMost.{Changed, AtMost, free_bit, byte_of, page_of, either, maps_of}
-use Rattle.spec_steps.specs.Freeing.{HasAllocated, IsFreedShared, FreesSingle, FreesLast, chain_pages}
+use Rattle.spec_steps.specs.Freeing.{IsLeftShared, FreesSingle, FreesLast, chain_pages}
 use Rattle.spec_steps.specs.Sgam.{IsSgamExact, HasExactSgam, IsAllocationStep}
 use Rattle.law_frames.proofs.WholeFiles.{after}
 use Rattle.law_steps.proofs.OneObject.{ChangesExtent, HasNoMaps, single_maps, below}
@@ -73,20 +72,9 @@ free_here g image e good free = record {
   mixed = λ holds open_page. absurd (good.free_mixed free (inl holds));
 }
 
-boot_holds : (g : Geometry) (image : Image) (e : ℕ) → IsGoodExtent g e (extent_of g image e) → e ≡ 1 → HasAllocated g image e
-boot_holds g image e good one =
-    let at : 9 / 8 ≡ e = omega (arith, one) in
-    (9, at, boot_allocated (pfs_byte g image 9) ((good.pages 9 at).role Boot (ap kind_of_role (boot_role g))))
-
-allocated_of : (g : Geometry) (image : Image) (e : ℕ) → IsGoodExtent g e (extent_of g image e) → HoldsUse e (extent_of g image e) → HasAllocated g image e
-allocated_of g image e good (inr one) = boot_holds g image e good one
-allocated_of g image e good (inl (q, at, (u, use_))) = ⊎_elim (boot_holds g image e good)
-    (λ other. let system = false_from_ne_true (is_system_extent g e) (λ s. good.system_mixed s (inl (inl (q, at, (u, use_))))) in
-    (q, at, used_allocated (pfs_byte g image q) u.place ((good.pages q at).used (all_ordinary g e q at system other) u use_)))
-    (cases_eq e 1)
-
-pub freed_here : (g : Geometry) (image : Image) (e : ℕ) → IsGoodExtent g e (extent_of g image e) → IsFreedShared g image e → HasOpenPage g image e → IsSgamExact g image e
-freed_here g image e good maps open_page = record { open_page = λ mixed. open_page; mixed = λ holds o. maps.mixed.1 (allocated_of g image e good holds) }
+pub left_here : (g : Geometry) (image : Image) (e : ℕ) → IsGoodExtent g e (extent_of g image e) → IsLeftShared g image e → HasOpenPage g image e → IsSgamExact g image e
+left_here g image e good (inl shared) open_page = record { open_page = λ mixed. open_page; mixed = λ holds o. shared.mixed }
+left_here g image e good (inr emptied) open_page = free_here g image e good emptied.free
 
 pub zero_open : (g : Geometry) (image : Image) (q : ℕ) → pfs_byte g image q ≡ 0 → is_allocated g image q ≡ false
 zero_open g image q none = ap is_allocated_byte none
@@ -99,17 +87,19 @@ pub single_changes : (g : Geometry) (image image' : Image) (p a b : ℕ) → AtM
 single_changes g image image' p a b most = single_maps g image image' p (either (page_of a) (page_of b)) (page_maps a b) most
 
 -- the steps, one by one
-pub slot_exact : (g : Geometry) (image image' : Image) (row : CatalogRow) (slot p : ℕ) → IsStart g image → PutsIntoSlot g image image' row slot p → HasExactSgam g image → HasExactSgam g image'
-slot_exact g image image' row slot p start puts =
+pub slot_exact : (g : Geometry) (image image' : Image) (row : CatalogRow) (slot p : ℕ) → IsStart g image → PutsIntoSlot g image image' row slot p → IsTakenAs g image' p Single → HasExactSgam g image
+    → HasExactSgam g image'
+slot_exact g image image' row slot p start puts taken =
     exact_from g image image' (p / 8) puts.most.size (single_changes g image image' p p row.first_iam puts.most)
     (λ q u other h. ⊎_elim (λ old. old) (λ new. absurd (other (ap (λ n. n / 8) new.0))) ((slot_uses g image image' row slot p start puts q u).0 h))
-    (taken_here g image' p Single puts.taken)
+    (taken_here g image' p Single taken)
 
-pub growth_exact : (g : Geometry) (image image' : Image) (row : CatalogRow) (last p : ℕ) → IsStart g image → GrowsChain g image image' row last p → HasExactSgam g image → HasExactSgam g image'
-growth_exact g image image' row last p start grows =
+pub growth_exact : (g : Geometry) (image image' : Image) (row : CatalogRow) (last p : ℕ) → IsStart g image → GrowsChain g image image' row last p → IsTakenAs g image' p Iam → HasExactSgam g image
+    → HasExactSgam g image'
+growth_exact g image image' row last p start grows taken =
     exact_from g image image' (p / 8) grows.most.size (single_changes g image image' p p (pointer image row last) grows.most)
     (λ q u other h. ⊎_elim (λ old. old) (λ new. absurd (other (ap (λ n. n / 8) new.0))) (growth_uses g image image' row last p start grows q u h))
-    (taken_here g image' p Iam grows.taken)
+    (taken_here g image' p Iam taken)
 
 pub freed_single_exact : (g : Geometry) (image image' : Image) (row : CatalogRow) (p : ℕ) → IsStart g image → FreesSingle g image image' row p → HasExactSgam g image → HasExactSgam g image'
 freed_single_exact g image image' row p start frees =
@@ -118,7 +108,7 @@ freed_single_exact g image image' row p start frees =
     let good = goods g image' later (p / 8) (extent_below g image' p later (subst (λ n. p < n) (sym frees.most.size) low)) in
     exact_from g image image' (p / 8) frees.most.size (single_changes g image image' p p row.first_iam frees.most)
     (λ q u other h. ((uses_left g image image' row p start frees q u).0 h).0)
-    (freed_here g image' (p / 8) good frees.maps (p, refl, frees.ordinary, zero_open g image' p frees.byte))
+    (left_here g image' (p / 8) good frees.left (p, refl, frees.ordinary, zero_open g image' p frees.byte))
 
 pub freed_last_exact : (g : Geometry) (image image' : Image) (row : CatalogRow) (p : ℕ) → IsStart g image → FreesLast g image image' row p → HasExactSgam g image → HasExactSgam g image'
 freed_last_exact g image image' row p start frees =
@@ -189,11 +179,11 @@ filled_exact g image image' row p start sets exact =
     }) exact
 
 pub step_exact : (g : Geometry) (image image' : Image) (row : CatalogRow) → IsStart g image → IsAllocationStep g image image' row → HasExactSgam g image → HasExactSgam g image'
-step_exact g image image' row start (IsAllocationStep.Slot slot p is) exact = slot_exact g image image' row slot p start is exact
+step_exact g image image' row start (IsAllocationStep.Slot slot p is taken) exact = slot_exact g image image' row slot p start is taken exact
 step_exact g image image' row start (IsAllocationStep.Filled p is) exact = filled_exact g image image' row p start is exact
 step_exact g image image' row start (IsAllocationStep.Changed p is) exact = marked_exact g image image' row p start is exact
 step_exact g image image' row start (IsAllocationStep.Marked k e p is) exact = mark_exact g image image' row k e p start is exact
-step_exact g image image' row start (IsAllocationStep.Grown last p is) exact = growth_exact g image image' row last p start is exact
+step_exact g image image' row start (IsAllocationStep.Grown last p is taken) exact = growth_exact g image image' row last p start is taken exact
 step_exact g image image' row start (IsAllocationStep.FreedSingle p is) exact = freed_single_exact g image image' row p start is exact
 step_exact g image image' row start (IsAllocationStep.FreedLast p is) exact = freed_last_exact g image image' row p start is exact
 

@@ -8,7 +8,8 @@ use Rattle.spec_file.specs.CatalogRows.{CatalogRow}
 use Rattle.spec_file.specs.Iam.{iam_slot}
 use Rattle.spec_file.specs.Places.{is_inside}
 use Rattle.spec_file.specs.Roles.{is_ordinary}
-use Rattle.spec_chain.specs.Chains.{pointer, IsChainPage}
+use Rattle.spec_chain.specs.Chains.{IsObject, pointer, IsChainPage}
+use Rattle.spec_chain.specs.Marks.{IsMarker}
 use Rattle.spec_chain.specs.Uses.{Use, IsUse, IsUseBy}
 use Rattle.spec_chain.proofs.Pointers.{inside_nonzero}
 use Rattle.spec_steps.specs.AtMost.{Changed, page_of, either, maps_of}
@@ -112,6 +113,13 @@ module _ (g : Geometry) (image image' : Image) (row : CatalogRow) (slot p : ℕ)
 
   marks : OnChain g image image' row SameMarks
   marks = on_chain SameMarks (λ b n. refl) puts.put.marks
+
+  -- the object stands, with the same marks
+  pub slot_object : IsObject image' row
+  slot_object = onto g image image' row changed start step row puts.object
+
+  pub slot_markers : (e m : ℕ) → IsMarker g image' e m ↔ IsMarker g image e m
+  slot_markers = same_markers g image image' row changed start step marks
 
   pub slot_clean : StaysClean g image image' row.id
   slot_clean = record {

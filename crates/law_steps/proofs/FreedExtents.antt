@@ -8,7 +8,7 @@ use Rattle.spec_file.specs.Iam.{iam_interval, iam_mark}
 use Rattle.spec_file.specs.Places.{interval_size, extent_count, is_mixed}
 use Rattle.spec_file.specs.Pfs.{is_allocated_byte}
 use Rattle.spec_file.specs.Roles.{is_ordinary}
-use Rattle.spec_chain.specs.Chains.{pointer, IsChainPage, IsInChain}
+use Rattle.spec_chain.specs.Chains.{IsObject, pointer, IsChainPage, IsInChain}
 use Rattle.spec_chain.specs.Marks.{IsMarker, IsMarked}
 use Rattle.spec_chain.specs.Uses.{Use, IsUse, pfs_byte, is_allocated}
 use Rattle.spec_extents.specs.Extents.{extent_of}
@@ -24,7 +24,7 @@ use Rattle.law_frames.proofs.SameChain.{SameChain, at_page}
 use Rattle.law_frames.proofs.Held.{IsStart, goods, held, extent_below}
 use Rattle.spec_steps.specs.Acts.{StaysClean}
 use Rattle.law_steps.proofs.OneObject.{one_extent, below}
-use Rattle.law_steps.proofs.InChain.{StepsInChain, chain_owns, acts, own_kept, mark_from, mark_in, same_uses, chain_keeps_clean, same_slots_inside}
+use Rattle.law_steps.proofs.InChain.{StepsInChain, chain_owns, acts, onto, own_kept, mark_from, mark_in, same_uses, chain_keeps_clean, same_slots_inside}
 use Rattle.law_steps.proofs.MarkedExtents.{same_extent}
 
 module _ (g : Geometry) (image image' : Image) (row : CatalogRow) (p : ℕ) (start : IsStart g image) (frees : FreesLast g image image' row p) where
@@ -90,7 +90,7 @@ module _ (g : Geometry) (image image' : Image) (row : CatalogRow) (p : ℕ) (sta
       both_ways (iam_mark (page image' (pointer image row h.0)) (e % interval_size g)) ((frees.cleared h.0 is).cleared interval) (ap
       (λ r. iam_mark (page image' r) (e % interval_size g)) (sym same) ∙ h.1.2)
 
-  marker_other : (f m : ℕ) → f ≢ e → IsMarker g image' f m ↔ IsMarker g image f m
+  pub marker_other : (f m : ℕ) → f ≢ e → IsMarker g image' f m ↔ IsMarker g image f m
   marker_other f m other = (
     λ h. ⊎_elim (λ old. old.1) (λ own. (row, frees.object, sym own.0, (marks_other f other).0 own.1)) (mark_from g image image' row changed start step f m h),
     λ h. mark_in g image image' row changed start step f m h (λ same. (marks_other f other).1),
@@ -107,6 +107,12 @@ module _ (g : Geometry) (image image' : Image) (row : CatalogRow) (p : ℕ) (sta
 
   pub freed_last_uses : (q : ℕ) (u : Use) → IsUse g image' q u → IsUse g image q u
   freed_last_uses q u = (same_uses g image image' row changed start step slots q u).0
+
+  pub freed_last_uses_in : (q : ℕ) (u : Use) → IsUse g image q u → IsUse g image' q u
+  freed_last_uses_in q u = (same_uses g image image' row changed start step slots q u).1
+
+  pub freed_last_object : IsObject image' row
+  freed_last_object = onto g image image' row changed start step row frees.object
 
   pub freed_last_clean : StaysClean g image image' row.id
   freed_last_clean =

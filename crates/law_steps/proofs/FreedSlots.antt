@@ -7,15 +7,15 @@ use Rattle.spec_file.specs.CatalogRows.{CatalogRow}
 use Rattle.spec_file.specs.Iam.{single_slot_count, iam_slot}
 use Rattle.spec_file.specs.Places.{is_free, is_mixed, is_inside}
 use Rattle.spec_file.specs.Roles.{is_ordinary}
-use Rattle.spec_chain.specs.Chains.{pointer, IsChainPage}
+use Rattle.spec_chain.specs.Chains.{IsObject, pointer, IsChainPage}
+use Rattle.spec_chain.specs.Marks.{IsMarker}
 use Rattle.spec_chain.specs.Uses.{Use, IsUse, IsUseBy, pfs_byte, is_allocated}
 use Rattle.spec_chain.proofs.Pointers.{inside_below, inside_nonzero}
 use Rattle.spec_extents.specs.Extents.{extent_of}
-use Rattle.spec_extents.specs.Changes.{IsStillShared, IsEmptied}
 use Rattle.spec_steps.specs.AtMost.{Changed, page_of, either, maps_of}
 use Rattle.spec_steps.specs.Acts.{Owns}
 use Rattle.spec_steps.specs.IamPages.{SameLinks, SameMarks, OnChain}
-use Rattle.spec_steps.specs.Freeing.{IsFreedShared, FreesSingle}
+use Rattle.spec_steps.specs.Freeing.{FreesSingle}
 use Rattle.law_extents.proofs.GoodChanges.{singles_freed}
 use Rattle.law_frames.proofs.ChainRules.{HasSlotsInside, FirstSlotsInside}
 use Rattle.law_frames.proofs.SameChain.{SameChain, slot_from, in_chain_kept}
@@ -23,22 +23,7 @@ use Rattle.law_frames.proofs.Held.{IsStart, goods, held, extent_below}
 use Rattle.spec_steps.specs.Acts.{StaysClean}
 use Rattle.law_steps.proofs.OneObject.{HasNoMaps, single_maps, single_bytes, one_extent, below}
 use Rattle.law_steps.proofs.OwnPages.{slot_apart}
-use Rattle.law_steps.proofs.InChain.{StepsInChain, chain_owns, acts, own_kept, use_from, use_in, same_markers, chain_keeps_clean, unchanged, same_links, same_marks_inside}
-
--- the bits of such an extent tell whether a page is left
-pub freed_bits : (g : Geometry) (image : Image) (e : ℕ) → IsFreedShared g image e → IsStillShared (extent_of g image e) ⊎ IsEmptied e (extent_of g image e)
-freed_bits g image e maps = ⊎_elim
-    (λ free. inr (record {
-      free = free;
-      mixed = false_from_ne_true (is_mixed g image e) (λ mixed. maps.free.0 free (maps.mixed.0 mixed));
-      unallocated = λ p at. false_from_ne_true (is_allocated g image p) (λ allocated. maps.free.0 free (p, at, allocated));
-    }))
-    (λ used. inl (record {
-      free = used;
-      mixed = ⊎_elim (λ mixed. mixed) (λ none. absurd (both_ways (is_free g image e) used (maps.free.1 (λ any. both_ways (is_mixed g image e) none (maps.mixed.1 any)))))
-          (cases_Bool (is_mixed g image e));
-    }))
-    (cases_Bool (is_free g image e))
+use Rattle.law_steps.proofs.InChain.{StepsInChain, chain_owns, acts, onto, own_kept, use_from, use_in, same_markers, chain_keeps_clean, unchanged, same_links, same_marks_inside}
 
 module _ (g : Geometry) (image image' : Image) (row : CatalogRow) (p : ℕ) (start : IsStart g image) (frees : FreesSingle g image image' row p) where
   abbrev rest : Changed
@@ -131,6 +116,13 @@ module _ (g : Geometry) (image image' : Image) (row : CatalogRow) (p : ℕ) (sta
   marks : OnChain g image image' row SameMarks
   marks = on_chain SameMarks (λ b n. refl) frees.out.marks
 
+  -- the object stands, with the same marks
+  pub freed_object : IsObject image' row
+  freed_object = onto g image image' row changed start step row frees.object
+
+  pub freed_markers : (e m : ℕ) → IsMarker g image' e m ↔ IsMarker g image e m
+  freed_markers = same_markers g image image' row changed start step marks
+
   pub freed_single_clean : StaysClean g image image' row.id
   freed_single_clean =
       let e = p / 8 in
@@ -149,6 +141,6 @@ module _ (g : Geometry) (image image' : Image) (row : CatalogRow) (p : ℕ) (sta
               bytes = λ q at other. bytes q (below image e q whole at) other;
               uses = λ q at u. uses_left q u;
               marks = λ m. (markers e m).0;
-              bits = freed_bits g image' e frees.maps;
+              bits = frees.left;
             })));
       }

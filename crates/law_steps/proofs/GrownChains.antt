@@ -11,7 +11,7 @@ use Rattle.spec_chain.specs.declared.end.ChainEnd.TheVariants as end
 use Rattle.spec_chain.proofs.ChainLaws.{chain_has_one_length, page_below}
 use Rattle.spec_chain.specs.Chains.{IsObject, pointer, object_of, next_of, prev_of, fault_of_bytes, is_last, GoesOn, end_at, holder, HasLength, IsChainPage, IsInChain}
 use Rattle.spec_chain.proofs.Pointers.{IsGood, goes_good, good_fault, last_whole}
-use Rattle.spec_chain.specs.Marks.{IsMarked}
+use Rattle.spec_chain.specs.Marks.{IsMarker, IsMarked}
 use Rattle.spec_chain.specs.Uses.{Use, IsUse, IsUseBy}
 use Rattle.spec_check.specs.declared.report.CheckError.{CheckError}
 use Rattle.spec_check.specs.Chains.{IsErrorAt, before, interval_at}
@@ -93,7 +93,7 @@ module _ (g : Geometry) (image image' : Image) (row : CatalogRow) (j p : ℕ) (s
   pointers zero low = refl
   pointers (suc k) low = ap (λ q. next_of (page image' q)) (pointers k (omega (arith, low))) ∙ ap next_of (page_same k (omega (arith, low)))
 
-  pointer_new : pointer image' row (suc j) ≡ p
+  pub pointer_new : pointer image' row (suc j) ≡ p
   pointer_new = ap (λ q. next_of (page image' q)) (pointers j (omega arith)) ∙ grows.linked.here
 
   pointer_end : pointer image' row (suc (suc j)) ≡ 0
@@ -152,6 +152,10 @@ module _ (g : Geometry) (image image' : Image) (row : CatalogRow) (j p : ℕ) (s
     λ h. ⊎_elim (λ old. let low = old_page old.0 old.1 in (old.0, page_in old.0 (omega (arith, low)), pointers old.0 low ∙ old.2))
         (λ new. (suc j, page_in (suc j) (omega arith), pointer_new ∙ sym new)) h,
   )
+
+  -- the new page is behind the last
+  pub new_page : IsChainPage g image' row (suc j)
+  new_page = page_in (suc j) (omega arith)
 
   -- uses and marks
   own_from : (q place : ℕ) → IsUseBy g image' q row place → IsUseBy g image q row place ⊎ ((q ≡ p) × (place ≡ single_slot_count))
@@ -258,7 +262,7 @@ module _ (g : Geometry) (image image' : Image) (row : CatalogRow) (j p : ℕ) (s
   back : (r : CatalogRow) → IsObject image' r → IsObject image r
   back r object = subst (λ boot. Contains (rows_of boot) r) same_boot object
 
-  onto : (r : CatalogRow) → IsObject image r → IsObject image' r
+  pub onto : (r : CatalogRow) → IsObject image r → IsObject image' r
   onto r object = subst (λ boot. Contains (rows_of boot) r) (sym same_boot) object
 
   own_row : (r : CatalogRow) → IsObject image r → r.id ≡ row.id → r ≡ row
@@ -295,7 +299,7 @@ module _ (g : Geometry) (image image' : Image) (row : CatalogRow) (j p : ℕ) (s
       (λ other. inl ((other_uses g image image' row.id start step_acts q v other).0 h))
       (cases_eq v.object row.id)
 
-  use_in : (q : ℕ) (v : Use) → IsUse g image q v ⊎ ((q ≡ p) × (v ≡ new_one)) → IsUse g image' q v
+  pub use_in : (q : ℕ) (v : Use) → IsUse g image q v ⊎ ((q ≡ p) × (v ≡ new_one)) → IsUse g image' q v
   use_in q v (inl h) = ⊎_elim
       (λ own. (row, onto row grows.object, sym own, own_in q v.place (subst (λ r. IsUseBy g image q r v.place) (own_row h.0 h.1 (h.2 ∙ own)) h.3)))
       (λ other. (other_uses g image image' row.id start step_acts q v other).1 h) (cases_eq v.object row.id)
@@ -303,7 +307,7 @@ module _ (g : Geometry) (image image' : Image) (row : CatalogRow) (j p : ℕ) (s
       let own : IsUse g image' p new_one = (row, onto row grows.object, refl, inr (refl, (in_chain p).1 (inr refl))) in
       subst (λ r. IsUse g image' r v) (sym here) (subst (IsUse g image' p) (sym is) own)
 
-  adds : TakesOne g image image' p new_one
+  pub adds : TakesOne g image image' p new_one
   adds = record {
     takeable = grows.takeable;
     changes = single_maps g image image' p rest no_maps grows.most;

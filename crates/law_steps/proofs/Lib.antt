@@ -8,3 +8,4 @@ pub mod MarkedExtents
 pub mod FreedExtents
 pub mod GrownChains
 pub mod ExactSgam
+pub mod AllocatedPages

@@ -8,7 +8,7 @@ use Rattle.spec_file.specs.CatalogRows.{CatalogRow}
 use Rattle.spec_file.specs.Iam.{iam_interval, iam_mark}
 use Rattle.spec_file.specs.Places.{interval_size, extent_count, is_free, is_mixed}
 use Rattle.spec_file.specs.Roles.{is_ordinary}
-use Rattle.spec_chain.specs.Chains.{pointer, IsChainPage}
+use Rattle.spec_chain.specs.Chains.{IsObject, pointer, IsChainPage}
 use Rattle.spec_chain.specs.Marks.{IsMarker, IsMarked}
 use Rattle.spec_chain.specs.Uses.{Use, IsUse, pfs_byte}
 use Rattle.spec_extents.specs.Extents.{extent_of}
@@ -156,6 +156,12 @@ module _ (g : Geometry) (image image' : Image) (row : CatalogRow) (k e p : ℕ) 
 
   pub mark_uses : (q : ℕ) (u : Use) → IsUse g image' q u → IsUse g image q u
   mark_uses q u = (same_uses g image image' row changed start step slots q u).0
+
+  pub mark_uses_in : (q : ℕ) (u : Use) → IsUse g image q u → IsUse g image' q u
+  mark_uses_in q u = (same_uses g image image' row changed start step slots q u).1
+
+  pub mark_object : IsObject image' row
+  mark_object = onto g image image' row changed start step row marks.object
 
   pub mark_clean : StaysClean g image image' row.id
   mark_clean =

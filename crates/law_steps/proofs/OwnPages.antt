@@ -19,7 +19,7 @@ use Rattle.law_extents.proofs.GoodChanges.{byte_set, single_filled}
 use Rattle.law_frames.proofs.Held.{IsStart, goods, held, extent_below}
 use Rattle.spec_steps.specs.Acts.{Owns, StaysClean}
 use Rattle.law_steps.proofs.OneObject.{one_extent, below}
-use Rattle.law_steps.proofs.InChain.{StepsInChain, acts, same_uses, same_markers, chain_keeps_clean, unchanged, same_links, same_marks_inside, same_slots_inside}
+use Rattle.law_steps.proofs.InChain.{StepsInChain, acts, onto, same_uses, same_markers, chain_keeps_clean, unchanged, same_links, same_marks_inside, same_slots_inside}
 
 -- a page of an extent that the object marks isn't one of its chain
 pub marked_apart : (g : Geometry) (image : Image) (row : CatalogRow) (p k : ℕ) → IsStart g image → IsObject image row → p < length image → IsMarked g image row (p / 8)
@@ -86,6 +86,9 @@ module _ (g : Geometry) (image image' : Image) (row : CatalogRow) (p : ℕ) (sta
 
   pub marks : (f m : ℕ) → IsMarker g image' f m ↔ IsMarker g image f m
   marks = same_markers g image image' row changed start step (on_chain SameMarks (λ b n. refl))
+
+  pub own_object : IsObject image' row
+  own_object = onto g image image' row changed start step row sets.object
 
   pub in_file : p / 8 < extent_count image
   in_file = extent_below g image p start sets.inside

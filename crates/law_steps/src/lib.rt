@@ -2,6 +2,7 @@
 #![tactic(auto)]
 
 ghost use Rattle.law_steps.specs.Laws.{FreeIsTakeable, SlotStaysClean, SinglePageStaysClean, MarkedPageStaysClean, MarkStaysClean, GrowthStaysClean, FreedSingleStaysClean, FreedLastStaysClean, SgamStaysExact};
+ghost use Rattle.law_steps.specs.AllocatedPages.{SlotGetsPage, MarkedGetsPage, ExtentGetsPage, GrowthKeepsPages, SingleGivesPage, MarkedGivesPage, LastGivesPage};
 
 /// The first page of a free extent can be taken as a single page. Where a single page is put into a slot, an extent is
 /// marked or a chain grows, clean maps stay clean.
@@ -24,7 +25,20 @@ pub fn freeing_laws()
     ensures last { FreedLastStaysClean }
 {}
 
-/// Each of these steps leaves SGAM exact, for which no rule of the check asks.
+/// Each of these steps leaves SGAM exact, for which no rule of the check asks; a single page that is taken does where its
+/// extent is mixed then exactly where a page is left to take.
 pub fn sgam_law()
     ensures { SgamStaysExact }
+{}
+
+/// A page that is put into a slot, or taken of a marked extent, is allocated to the object besides those that were; one that
+/// is freed isn't any more; and where a chain grows the same are. Those that stay are as they were.
+pub fn allocated_laws()
+    ensures slot { SlotGetsPage }
+    ensures marked { MarkedGetsPage }
+    ensures extent { ExtentGetsPage }
+    ensures growth { GrowthKeepsPages }
+    ensures single_freed { SingleGivesPage }
+    ensures marked_freed { MarkedGivesPage }
+    ensures last_freed { LastGivesPage }
 {}

@@ -15,7 +15,8 @@ use Rattle.spec_clean.specs.CleanFiles.{IsClean}
 use Rattle.spec_steps.specs.AtMost.{Changed}
 use Rattle.spec_steps.specs.Acts.{Owns, Acts, StaysClean}
 use Rattle.spec_steps.specs.Taking.{HasOpenPage}
-use Rattle.spec_steps.specs.Tables.{Has, UsesOf, IsLeftShared, dropped, DropsObject}
+use Rattle.spec_steps.specs.Freeing.{IsLeftShared}
+use Rattle.spec_steps.specs.Tables.{Has, UsesOf, dropped, DropsObject}
 use Rattle.law_writes.proofs.MapPages.{boot_not, differs}
 use Rattle.law_extents.proofs.Listed.{decided}
 use Rattle.law_extents.proofs.Locality.{unused_zero}
@@ -24,16 +25,11 @@ use Rattle.law_extents.proofs.GoodChanges.{stable, same_good, extent_freed, sing
 use Rattle.law_frames.proofs.Held.{IsStart, goods, held, sound_catalog, the_row}
 use Rattle.law_steps.proofs.Owners.{one_owner}
 use Rattle.law_steps.proofs.OneObject.{IsNotOthers, acts_from, other_uses, other_marks, clean_after}
-use Rattle.law_steps.proofs.ExactSgam.{free_here, zero_open, exact_unless}
+use Rattle.law_steps.proofs.ExactSgam.{free_here, left_here, zero_open, exact_unless}
 use Rattle.spec_steps.specs.Sgam.{IsSgamExact, HasExactSgam}
 use Rattle.spec_file.specs.Pfs.{is_allocated_byte}
 use Rattle.law_tables.proofs.Entries.{LosesRow, loses}
 use Rattle.law_frames.proofs.WholeFiles.{after, file_stays_clean}
-
--- of an extent some of whose single pages are given back SGAM is exact
-left_here : (g : Geometry) (image : Image) (e : ℕ) → IsGoodExtent g e (extent_of g image e) → IsLeftShared g image e → HasOpenPage g image e → IsSgamExact g image e
-left_here g image e good (inl shared) open_page = record { open_page = λ mixed. open_page; mixed = λ holds o. shared.mixed }
-left_here g image e good (inr emptied) open_page = free_here g image e good emptied.free
 
 module _ (g : Geometry) (image image' : Image) (row : CatalogRow) (start : IsStart g image) (drops : DropsObject g image image' row) where
   abbrev changed : Changed

@@ -43,7 +43,7 @@ flipped x v hx hv n = omega arith
 stays : (x : ℕ) → x < 2 → (x + 0) % 2 ≡ x
 stays x h = omega arith
 
-bit_with : (byte i v j : ℕ) → v < 2 → bit_at (with_bit byte i v) j ≡ (if eqb i j then v else bit_at byte j)
+pub bit_with : (byte i v j : ℕ) → v < 2 → bit_at (with_bit byte i v) j ≡ (if eqb i j then v else bit_at byte j)
 bit_with byte i v j lt =
     cond_both (eqb (bit_at byte i) v) byte (bit_xor byte (2 ^ i)) (λ w. bit_at w j ≡ (if eqb i j then v else bit_at byte j))
     (λ e. cond_both (eqb i j) v (bit_at byte j) (λ r. bit_at byte j ≡ r)
@@ -53,11 +53,11 @@ bit_with byte i v j lt =
     (ap (λ o. (bit_at byte i + o) % 2) (bit_at-pow_same i) ∙ flipped (bit_at byte i) v (bit_at-lt byte i) lt (eqb-false (bit_at byte i) v e)))
     (λ other. ap (λ o. (bit_at byte j + o) % 2) (bit_at-pow_other i j (λ s. eqb-false i j other (sym s))) ∙ stays (bit_at byte j) (bit_at-lt byte j)))
 
-small : (v : Bool) → bit_number v < 2
+pub small : (v : Bool) → bit_number v < 2
 small true = omega arith
 small false = omega arith
 
-is_bit : (v : Bool) → (bit_number v == 1) ≡ v
+pub is_bit : (v : Bool) → (bit_number v == 1) ≡ v
 is_bit true = refl
 is_bit false = refl
 
@@ -111,7 +111,7 @@ byte_is_set old i b behind inside = subst (IsByteSet i b old) (sym (one_byte old
 })
 
 -- so puts of cells are words
-in_interval : (g : Geometry) (e : ℕ) → e % interval_size g < 63904
+pub in_interval : (g : Geometry) (e : ℕ) → e % interval_size g < 63904
 in_interval Standard e = omega arith
 in_interval Small e = omega arith
 

@@ -41,6 +41,10 @@ pub record IsKept (g : Geometry) (image image' : Image) (row : CatalogRow) : Typ
   pub seen : (p : ℕ) → IsSeen g image' row p ↔ IsSeen g image row p
   pub errors : (p : ℕ) (x : CheckError) → IsAllocatedTo g image row p → IsErrorOf g image' row p x ↔ IsErrorOf g image row p x
 
+-- every other object keeps all that
+abbrev pub LeavesOthers : Geometry → Image → Image → CatalogRow → Type 0
+LeavesOthers g image image' row = (other : CatalogRow) → IsObject image other → other.id ≢ row.id → IsKept g image image' other
+
 -- a step on object o leaves the others theirs, and the maps and chains clean
 pub record StaysClean (g : Geometry) (image image' : Image) (o : ℕ) : Type 0 where
   pub acts : Acts g image image' o

@@ -1,13 +1,15 @@
 -- Steps that free a page of an object (Pages and Extents Architecture Guide; what is written is this project's own).
-use Rattle.std.specs.Prelude.{◌≡◌, ◌↔◌, ℕ, ◌/◌, ◌%◌, ◌<◌, true, IsTrue, length}
+use Rattle.std.specs.Prelude.{◌≡◌, ◌⊎◌, ℕ, ◌/◌, ◌%◌, ◌<◌, true, IsTrue, length}
 use Rattle.spec_file.specs.declared.geometry.Geometry.{Geometry}
 use Rattle.spec_file.specs.Image.{Image, page}
-use Rattle.spec_file.specs.Places.{is_free, is_mixed, interval_size}
+use Rattle.spec_file.specs.Places.{is_free, interval_size}
 use Rattle.spec_file.specs.Roles.{is_ordinary}
 use Rattle.spec_file.specs.CatalogRows.{CatalogRow}
 use Rattle.spec_chain.specs.Chains.{IsObject, IsInChain}
 use Rattle.spec_chain.specs.Marks.{IsMarked}
 use Rattle.spec_chain.specs.Uses.{HoldsPage, pfs_byte, is_allocated}
+use Rattle.spec_extents.specs.Extents.{extent_of}
+use Rattle.spec_extents.specs.Changes.{IsStillShared, IsEmptied}
 use Rattle.spec_steps.specs.AtMost.{Changed, AtMost, free_bit, byte_of, page_of, either, maps_of}
 use Rattle.spec_steps.specs.IamPages.{IsOutOfSlots, IsMarkCleared, OnChain}
 
@@ -15,11 +17,10 @@ use Rattle.spec_steps.specs.IamPages.{IsOutOfSlots, IsMarkCleared, OnChain}
 abbrev pub HasAllocated : Geometry → Image → ℕ → Type 0
 HasAllocated g image e = (p : ℕ) × (p / 8 ≡ e) × IsTrue (is_allocated g image p)
 
--- what the maps say of an extent once single pages of it are freed: it is mixed where some page of it is still
--- allocated, and free where none is
-pub record IsFreedShared (g : Geometry) (image : Image) (e : ℕ) : Type 0 where
-  pub free : IsTrue (is_free g image e) ↔ (HasAllocated g image e → ⊥)
-  pub mixed : IsTrue (is_mixed g image e) ↔ HasAllocated g image e
+-- what the maps say of an extent of single pages, some of which are given back: it is mixed, or it is free, and then none
+-- of its pages is allocated
+abbrev pub IsLeftShared : Geometry → Image → ℕ → Type 0
+IsLeftShared g image e = IsStillShared (extent_of g image e) ⊎ IsEmptied e (extent_of g image e)
 
 -- a page in a slot of the object is freed: each slot that holds it is empty
 pub record FreesSingle (g : Geometry) (image image' : Image) (row : CatalogRow) (p : ℕ) : Type 0 where
@@ -29,7 +30,7 @@ pub record FreesSingle (g : Geometry) (image image' : Image) (row : CatalogRow) 
   pub ordinary : IsTrue (is_ordinary g p)
   pub most : AtMost g (either (maps_of p) (either (page_of p) (page_of row.first_iam))) image image'
   pub byte : pfs_byte g image' p ≡ 0
-  pub maps : IsFreedShared g image' (p / 8)
+  pub left : IsLeftShared g image' (p / 8)
   pub out : IsOutOfSlots p (page image row.first_iam) (page image' row.first_iam)
 
 -- the pages of the object's chain

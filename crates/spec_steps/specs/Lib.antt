@@ -7,3 +7,4 @@ pub mod Freeing
 pub mod Entries
 pub mod Tables
 pub mod Sgam
+pub mod AllocatedPages

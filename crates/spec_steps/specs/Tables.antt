@@ -10,11 +10,10 @@ use Rattle.spec_file.specs.CatalogRows.{CatalogRow, row_of_entry}
 use Rattle.spec_chain.specs.Chains.{IsInChain}
 use Rattle.spec_chain.specs.Marks.{IsMarked}
 use Rattle.spec_chain.specs.Uses.{IsUseBy, IsAllocatedTo, pfs_byte}
-use Rattle.spec_extents.specs.Extents.{extent_of}
-use Rattle.spec_extents.specs.Changes.{IsStillShared, IsEmptied}
 use Rattle.spec_steps.specs.AtMost.{Changed, AtMost, page_of, either, maps_of}
 use Rattle.spec_steps.specs.IamPages.{IsOnlyIam}
 use Rattle.spec_steps.specs.Taking.{IsTakeable, IsHeldAs}
+use Rattle.spec_steps.specs.Freeing.{IsLeftShared}
 use Rattle.spec_steps.specs.Entries.{AddsEntry, EmptiesEntry}
 
 -- an object with one IAM page, page p, and nothing else: the page is taken as a single page, and an empty entry of
@@ -46,11 +45,6 @@ dropped g image row = record {
   bytes = Has g image row;
   pages = λ q. q ≡ 9;
 }
-
--- what the maps say of an extent of single pages, some of which are given back: it is mixed, or it is free, and then none
--- of its pages is allocated
-abbrev pub IsLeftShared : Geometry → Image → ℕ → Type 0
-IsLeftShared g image e = IsStillShared (extent_of g image e) ⊎ IsEmptied e (extent_of g image e)
 
 -- the object's entry is emptied, the PFS bytes of its pages are 0, the extents that it marked are free, and those of
 -- its single pages mixed or free. All its pages are ordinary, and none is written: slots and marks stay.

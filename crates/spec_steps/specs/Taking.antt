@@ -46,7 +46,7 @@ pub record PutsIntoSlot (g : Geometry) (image image' : Image) (row : CatalogRow)
   pub empty : iam_slot (page image row.first_iam) slot ≡ 0
   pub takeable : IsTakeable g image p
   pub most : AtMost g (either (maps_of p) (either (page_of p) (page_of row.first_iam))) image image'
-  pub taken : IsTakenAs g image' p Single
+  pub taken : IsHeldAs g image' p Single
   pub put : IsSlotSet slot p (page image row.first_iam) (page image' row.first_iam)
 
 -- a page in a slot of the object is filled: only its PFS byte and its own bytes change
@@ -88,7 +88,7 @@ pub record GrowsChain (g : Geometry) (image image' : Image) (row : CatalogRow) (
   pub pages : HasLength g image row (suc last)
   pub takeable : IsTakeable g image p
   pub most : AtMost g (either (maps_of p) (either (page_of p) (page_of (pointer image row last)))) image image'
-  pub taken : IsTakenAs g image' p Iam
+  pub taken : IsHeldAs g image' p Iam
   pub linked : IsNextSet p (page image (pointer image row last)) (page image' (pointer image row last))
   pub new : IsLastIam g (length image) row.id (pointer image row last) (suc last) p (page image' p)
   pub interval : (k : ℕ) → IsChainPage g image row k → iam_interval (page image (pointer image row k)) ≢ iam_interval (page image' p)

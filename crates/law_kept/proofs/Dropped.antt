@@ -1,5 +1,5 @@
 -- DROP drops the object of its name.
-use Rattle.std.proofs.Common.{◌≡◌, ℕ, ◌+◌, ◌*◌, ◌/◌, ◌<◌, ◌==◌, ◌&&◌, not, Bool, List, [], ◌∷◌, length, Contains, replicate, Option, Some, None, refl, sym, ap, subst, ◌∙◌, inl, ⊎_elim, arith}
+use Rattle.std.proofs.Common.{◌≡◌, ℕ, ◌+◌, ◌*◌, ◌/◌, ◌<◌, ◌==◌, ◌&&◌, not, Bool, List, [], length, Contains, replicate, Option, Some, None, refl, sym, ap, subst, ◌∙◌, inl, ⊎_elim, arith}
 use Rattle.std.specs.List.{range_with_len}
 use Rattle.std.proofs.lemmas.Bool.{and_parts, and_from, eqb-true, eq-eqb, not-true, not_from_false}
 use Rattle.spec_file.specs.declared.data.Resource.TheVariants as resource
@@ -10,12 +10,12 @@ use Rattle.spec_file.specs.Places.{extent_count}
 use Rattle.spec_script.specs.declared.reply.Reply.{Reply}
 use Rattle.spec_script.specs.declared.reply.Reply.TheVariants.{Done}
 use Rattle.spec_chain.specs.Chains.{IsObject}
-use Rattle.spec_check.proofs.Members.{nothing_there, filter_in, range_in}
+use Rattle.spec_check.proofs.Members.{filter_in, range_in}
 use Rattle.spec_words.specs.NetChanges.{FileShape}
 use Rattle.spec_words.specs.Views.{View, Plan}
 use Rattle.spec_words.specs.Words.{◌then◌, give, sees, take}
 use Rattle.spec_words.specs.Tables.{table_of}
-use Rattle.spec_alloc.specs.Search.{where_found, first_in}
+use Rattle.spec_alloc.specs.Search.{where_found}
 use Rattle.spec_alloc.specs.Objects.{entry_of, entry_emptied, pages_dropped}
 use Rattle.spec_statements.specs.Objects.{drop_plan}
 use Rattle.spec_steps.specs.AtMost.{page_of, either}

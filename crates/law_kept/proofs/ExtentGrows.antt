@@ -1,8 +1,7 @@
 -- An object marks the lowest free extent, and gets its first page.
-use Rattle.std.proofs.Common.{◌≡◌, ◌≢◌, ◌⊎◌, ℕ, suc, ◌*◌, ◌/◌, ◌%◌, ◌^◌, ◌<◌, ◌==◌, not, true, false, List, ◌++◌, length, filter, Contains, Option, Some, None, refl, sym, ap, subst, ◌∙◌, inl, inr, ⊎_elim, arith}
-use Rattle.std.proofs.lemmas.Bool.{and_parts, both_ways, cases_eq, cond_both, eqb-true, eq-eqb, not-true}
-use Rattle.spec_file.specs.declared.geometry.Geometry.{Geometry}
-use Rattle.spec_file.specs.declared.pfs.PfsKind.TheVariants.{Iam, Uniform}
+use Rattle.std.proofs.Common.{◌≡◌, ◌≢◌, ℕ, suc, ◌*◌, ◌/◌, ◌%◌, ◌^◌, ◌<◌, ◌==◌, not, true, false, List, ◌++◌, length, Option, Some, None, refl, sym, ap, subst, ◌∙◌, inl, inr, ⊎_elim, arith}
+use Rattle.std.proofs.lemmas.Bool.{and_parts, both_ways, cond_both, eqb-true, eq-eqb, not-true}
+use Rattle.spec_file.specs.declared.pfs.PfsKind.TheVariants.{Uniform}
 use Rattle.spec_file.specs.CatalogRows.{CatalogRow}
 use Rattle.spec_file.specs.Iam.{iam_interval}
 use Rattle.spec_file.specs.Image.{page}
@@ -12,7 +11,6 @@ use Rattle.spec_file.specs.Roles.{is_system_extent}
 use Rattle.spec_chain.specs.Chains.{IsChainPage, pointer}
 use Rattle.spec_chain.specs.Uses.{pfs_byte, is_allocated}
 use Rattle.spec_check.proofs.Members.{filter_from, filter_in}
-use Rattle.spec_words.specs.NetChanges.{FileShape}
 use Rattle.spec_words.specs.Views.{View, Plan}
 use Rattle.spec_words.specs.Words.{◌then◌, give, sees, put_gam, found_or}
 use Rattle.spec_extents.specs.Extents.{extent_of}

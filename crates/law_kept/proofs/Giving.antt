@@ -1,5 +1,5 @@
 -- An object gives a page back.
-use Rattle.std.proofs.Common.{◌≡◌, ◌≢◌, ℕ, zero, ◌/◌, ◌%◌, ◌<◌, ◌==◌, Bool, true, false, List, length, Contains, refl, sym, ap, subst, ◌∙◌, inl, inr, ⊎_elim, arith}
+use Rattle.std.proofs.Common.{◌≡◌, ℕ, zero, ◌/◌, ◌%◌, ◌<◌, ◌==◌, Bool, true, false, List, length, Contains, refl, sym, ap, subst, ◌∙◌, inl, inr, ⊎_elim, arith}
 use Rattle.std.specs.Prelude.{IsTrue, if◌then◌else◌}
 use Rattle.std.specs.List.{list_any}
 use Rattle.std.proofs.lemmas.Bool.{both_ways, or_cases, or_left, false_from_ne_true}
@@ -14,7 +14,7 @@ use Rattle.spec_chain.specs.Marks.{IsMarked}
 use Rattle.spec_chain.specs.Uses.{HoldsPage, IsAllocatedTo, pfs_byte, is_allocated}
 use Rattle.spec_chain.proofs.ChainLaws.{below_page}
 use Rattle.spec_chain.proofs.Pointers.{inside_below}
-use Rattle.spec_plan.specs.Reading.{first_page, is_single}
+use Rattle.spec_plan.specs.Reading.{is_single}
 use Rattle.spec_words.specs.Views.{View}
 use Rattle.spec_words.specs.Words.{◌then◌, give, sees, where_good}
 use Rattle.spec_words.specs.Tables.{object_pages}
@@ -30,7 +30,7 @@ use Rattle.spec_steps.specs.Sgam.{HasExactSgam}
 use Rattle.spec_steps.specs.Taking.{ChangesMarkedPage}
 use Rattle.law_chains.specs.Laws.{chain_pages, IsWhole}
 use Rattle.law_chains.proofs.Allocated.{some_page, first_is, slot_from, slot_in, pages_are_allocated}
-use Rattle.law_frames.proofs.Held.{IsHeld, held, goods, extent_below}
+use Rattle.law_frames.proofs.Held.{IsHeld, held, goods}
 use Rattle.law_steps.proofs.OwnPages.{marked_page_clean}
 use Rattle.law_steps.proofs.FreedSlots.{freed_single_clean}
 use Rattle.law_steps.proofs.FreedExtents.{freed_last_clean}

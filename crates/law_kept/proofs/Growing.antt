@@ -1,6 +1,6 @@
 -- An object gets one more page.
-use Rattle.std.proofs.Common.{◌≡◌, ◌≢◌, ℕ, zero, suc, ◌+◌, ◌^◌, ◌<◌, ◌==◌, not, Bool, true, false, List, length, drop, Option, Some, None, refl, sym, subst, ◌∙◌, arith}
-use Rattle.std.specs.Prelude.{if◌then◌else◌, slice_index}
+use Rattle.std.proofs.Common.{◌≡◌, ℕ, zero, suc, ◌+◌, ◌^◌, ◌<◌, ◌==◌, not, Bool, true, false, List, length, drop, Option, Some, None, refl, sym, subst, arith}
+use Rattle.std.specs.Prelude.{if◌then◌else◌}
 use Rattle.std.proofs.lemmas.Bool.{eqb-true}
 use Rattle.std.proofs.lemmas.List.{get_or-drop}
 use Rattle.byteorder.specs.Numbers.{little_from-lt}
@@ -10,10 +10,8 @@ use Rattle.spec_file.specs.Header.{says}
 use Rattle.spec_file.specs.Iam.{iam_interval, has_interval}
 use Rattle.spec_file.specs.Image.{Image, AreBytes, page, number_at}
 use Rattle.spec_chain.specs.declared.end.ChainEnd.TheVariants as end
-use Rattle.spec_chain.specs.Chains.{IsObject, object_of, fault_of_bytes}
-use Rattle.spec_chain.proofs.ChainLaws.{below_page}
+use Rattle.spec_chain.specs.Chains.{IsObject, object_of}
 use Rattle.spec_chain.proofs.Pointers.{goes_good}
-use Rattle.spec_check.specs.declared.report.CheckError.{CheckError}
 use Rattle.spec_words.specs.Views.{View, Plan}
 use Rattle.spec_words.specs.Words.{◌then◌, found_or}
 use Rattle.spec_alloc.specs.Search.{either}
@@ -23,7 +21,7 @@ use Rattle.spec_alloc.specs.ObjectPages.{slot_page, marked_page, extent_page, ob
 use Rattle.spec_steps.specs.Acts.{StaysClean, LeavesOthers}
 use Rattle.law_chains.specs.Laws.{chain_pages, IsWhole}
 use Rattle.law_chains.proofs.Allocated.{some_page}
-use Rattle.law_frames.proofs.Held.{IsStart, chain_of}
+use Rattle.law_frames.proofs.Held.{chain_of}
 use Rattle.law_frames.proofs.OtherObjects.{others_are_kept}
 use Rattle.law_net.specs.GoodViews.{Leads}
 use Rattle.law_net.proofs.WordLaws.{leads_then, leads_give, leads_weaker}

@@ -1,5 +1,5 @@
 -- A chain grows, and its new page marks an extent: two steps of allocation, whatever the order in which they are written.
-use Rattle.std.proofs.Common.{◌≡◌, ◌≢◌, ◌⊎◌, ◌↔◌, ℕ, zero, suc, ◌*◌, ◌/◌, ◌%◌, ◌^◌, ◌<◌, true, false, IsTrue, List, [], ◌∷◌, length, slice_set, refl, sym, ap, subst, ◌∙◌, inl, inr, ⊎_elim, arith}
+use Rattle.std.proofs.Common.{◌≡◌, ◌≢◌, ◌⊎◌, ◌↔◌, ℕ, suc, ◌/◌, ◌%◌, ◌^◌, ◌<◌, true, false, IsTrue, [], ◌∷◌, length, slice_set, refl, sym, ap, subst, ◌∙◌, inl, inr, ⊎_elim, arith}
 use Rattle.std.proofs.lemmas.Bool.{cases_eq, lt-ltb}
 use Rattle.spec_file.specs.declared.geometry.Geometry.{Geometry}
 use Rattle.spec_file.specs.declared.geometry.Geometry.TheVariants.{Standard, Small}

@@ -1,5 +1,5 @@
 -- What holds where an object has got a page; and what is shared by the three ways to get one.
-use Rattle.std.proofs.Common.{◌≡◌, ℕ, ◌<◌, Bool, true, false, List, Option, Some, None, refl, sym, ap, subst, ◌∙◌}
+use Rattle.std.proofs.Common.{◌≡◌, ℕ, ◌<◌, true, List, Option, Some, None, refl, sym, ap, subst, ◌∙◌}
 use Rattle.spec_file.specs.declared.pfs.PfsKind.{PfsKind}
 use Rattle.spec_file.specs.declared.pfs.PfsKind.TheVariants.{Uniform}
 use Rattle.spec_file.specs.CatalogRows.{CatalogRow}

@@ -1,10 +1,9 @@
 -- A page leaves the slots of a chain, and an extent its marks.
-use Rattle.std.proofs.Common.{◌≡◌, ◌≢◌, ◌⊎◌, ℕ, ◌+◌, ◌/◌, ◌%◌, ◌^◌, ◌<◌, ◌==◌, ◌&&◌, ◌||◌, true, false, List, [], ◌∷◌, filter, Contains, refl, sym, ap, subst, ◌∙◌, inl, inr, ⊎_elim, arith}
+use Rattle.std.proofs.Common.{◌≡◌, ◌≢◌, ◌⊎◌, ℕ, ◌/◌, ◌%◌, ◌<◌, ◌==◌, ◌&&◌, true, false, List, [], ◌∷◌, filter, Contains, refl, sym, ap, subst, ◌∙◌, inl, inr, ⊎_elim, arith}
 use Rattle.std.specs.List.{range_with_len}
 use Rattle.std.proofs.lemmas.Bool.{and_parts, and_from, both_ways, cases_eq, cases_Bool, eqb-true, eq-eqb, or_cases, or_left}
-use Rattle.spec_file.specs.declared.geometry.Geometry.{Geometry}
 use Rattle.spec_file.specs.Iam.{single_slot_count, iam_interval, iam_slot, iam_mark}
-use Rattle.spec_file.specs.Image.{Image, page}
+use Rattle.spec_file.specs.Image.{page}
 use Rattle.spec_file.specs.Places.{interval_size, interval_of_page}
 use Rattle.spec_check.proofs.Members.{filter_from, filter_in, range_from, range_in}
 use Rattle.spec_plan.specs.Reading.{first_page, is_marked}
@@ -22,7 +21,6 @@ use Rattle.law_net.proofs.WordLaws.{leads_weaker}
 use Rattle.law_alloc.proofs.Searches.{sees_reads, leads_from}
 use Rattle.law_kept.proofs.Steps.{IsFile, Goes, goes_both, goes_within, nothing_within, goes_nowhere, nothing}
 use Rattle.law_kept.proofs.ReadTables.{each_does}
-use Rattle.law_kept.proofs.IamWrites.{PutsMark}
 use Rattle.law_kept.proofs.IamWords.{IsOwnPage, slot_goes, mark_goes}
 
 links_both : (a b c : List ℕ) → SameLinks a b → SameLinks b c → SameLinks a c

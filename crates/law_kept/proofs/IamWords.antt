@@ -1,5 +1,5 @@
 -- What the words that write an IAM page make of a view.
-use Rattle.std.proofs.Common.{◌≡◌, ℕ, ◌+◌, ◌*◌, ◌/◌, ◌%◌, ◌^◌, ◌<◌, Bool, true, List, [], ◌∷◌, length, refl, sym, ap, subst, ◌∙◌, inr, arith}
+use Rattle.std.proofs.Common.{◌≡◌, ℕ, ◌+◌, ◌*◌, ◌%◌, ◌^◌, ◌<◌, Bool, List, [], ◌∷◌, length, refl, sym, ap, subst, ◌∙◌, inr}
 use Rattle.std.specs.Prelude.{IsTrue, slice_index}
 use Rattle.byteorder.specs.Endian.{little_bytes}
 use Rattle.spec_file.specs.declared.data.Resource.TheVariants as resource

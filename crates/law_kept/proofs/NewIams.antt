@@ -1,5 +1,5 @@
 -- A single page becomes the last of a chain.
-use Rattle.std.proofs.Common.{◌≡◌, ◌≢◌, ◌↔◌, ℕ, zero, suc, ◌+◌, ◌/◌, ◌^◌, ◌<◌, false, IsTrue, List, [], ◌++◌, length, Option, Some, None, refl, sym, ap, subst, ◌∙◌, inl, inr, ⊎_elim}
+use Rattle.std.proofs.Common.{◌≡◌, ◌≢◌, ℕ, ◌/◌, ◌<◌, false, List, [], ◌++◌, length, Option, Some, None, refl, sym, subst, ◌∙◌, inl, inr, ⊎_elim}
 use Rattle.spec_file.specs.declared.pfs.PfsKind.TheVariants.{Iam}
 use Rattle.spec_file.specs.CatalogRows.{CatalogRow}
 use Rattle.spec_file.specs.Image.{page}

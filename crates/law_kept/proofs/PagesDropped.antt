@@ -1,7 +1,7 @@
 -- All that an object has is given back.
 use Rattle.std.proofs.Common.{◌≡◌, ◌≢◌, ◌⊎◌, ℕ, zero, ◌*◌, ◌/◌, ◌%◌, ◌<◌, ◌==◌, ◌&&◌, ◌||◌, not, Bool, true, false, List, [], ◌∷◌, length, Contains, Option, Some, None, refl, sym, ap, subst, ◌∙◌, inl, inr, ⊎_elim, arith}
 use Rattle.std.specs.Prelude.{IsTrue, is_some, if◌then◌else◌}
-use Rattle.std.specs.List.{list_any, range_with_len}
+use Rattle.std.specs.List.{list_any}
 use Rattle.std.proofs.lemmas.Bool.{and_parts, and_from, both_ways, cases_eq, or_cases, or_left, or_right, false_from_ne_true, not_from_false, eqb-true}
 use Rattle.spec_file.specs.declared.data.Resource.TheVariants as resource
 use Rattle.spec_file.specs.declared.geometry.Geometry.{Geometry}
@@ -13,8 +13,8 @@ use Rattle.spec_file.specs.Roles.{is_ordinary}
 use Rattle.spec_chain.specs.Chains.{IsInChain, pointer}
 use Rattle.spec_chain.specs.Marks.{IsMarked}
 use Rattle.spec_chain.specs.Uses.{IsUseBy, IsAllocatedTo, pfs_byte, is_allocated}
-use Rattle.spec_chain.proofs.ChainLaws.{below_page, page_below}
-use Rattle.spec_check.proofs.Members.{cons_here, cons_there, filter_from, filter_in, map_from, map_in, range_from, range_in}
+use Rattle.spec_chain.proofs.ChainLaws.{below_page}
+use Rattle.spec_check.proofs.Members.{cons_here, cons_there, filter_from, filter_in, range_from, range_in}
 use Rattle.spec_plan.specs.Reading.{is_single, is_marked}
 use Rattle.spec_words.specs.NetChanges.{FileShape, extents_of, pages_of}
 use Rattle.spec_words.specs.Views.{View}

@@ -1,20 +1,18 @@
 -- An object gets a single page in a slot, or the lowest page of an extent that it marks.
-use Rattle.std.proofs.Common.{◌≡◌, ℕ, zero, ◌+◌, ◌/◌, ◌^◌, ◌<◌, ◌==◌, ◌&&◌, Bool, true, false, List, ◌++◌, Option, Some, None, refl, sym, ap, subst, ◌∙◌, inl, inr, ⊎_elim, arith}
+use Rattle.std.proofs.Common.{◌≡◌, ℕ, zero, ◌/◌, ◌<◌, ◌==◌, ◌&&◌, false, List, ◌++◌, Option, Some, None, refl, sym, subst, inl, inr, ⊎_elim, arith}
 use Rattle.std.specs.Prelude.{IsTrue}
 use Rattle.std.proofs.lemmas.Bool.{and_parts, eqb-true}
-use Rattle.spec_file.specs.declared.geometry.Geometry.{Geometry}
 use Rattle.spec_file.specs.declared.pfs.PfsKind.TheVariants.{Single, Uniform}
 use Rattle.spec_file.specs.CatalogRows.{CatalogRow}
 use Rattle.spec_file.specs.Iam.{single_slot_count, iam_slot}
 use Rattle.spec_file.specs.Image.{page}
 use Rattle.spec_file.specs.Pfs.{expected}
 use Rattle.spec_file.specs.Roles.{is_ordinary}
-use Rattle.spec_chain.specs.Chains.{IsChainPage, pointer}
+use Rattle.spec_chain.specs.Chains.{IsChainPage}
 use Rattle.spec_chain.specs.Marks.{IsMarked}
 use Rattle.spec_chain.specs.Uses.{pfs_byte, is_allocated}
 use Rattle.spec_chain.proofs.ChainLaws.{below_page}
 use Rattle.spec_plan.specs.Reading.{first_page, is_marked}
-use Rattle.spec_words.specs.NetChanges.{FileShape}
 use Rattle.spec_words.specs.Views.{View}
 use Rattle.spec_words.specs.Words.{◌then◌, give, sees}
 use Rattle.spec_alloc.specs.Search.{search_from, first_in, is_spare}
@@ -37,8 +35,8 @@ use Rattle.law_net.proofs.WordLaws.{leads_then, leads_give, leads_weaker}
 use Rattle.law_alloc.specs.Keeps.{IfFound}
 use Rattle.law_alloc.proofs.Searches.{sees_reads, leads_from}
 use Rattle.law_alloc.proofs.Singles.{first_kept}
-use Rattle.law_kept.proofs.Steps.{IsFile, page_in, Goes, goes_both, goes_within, IsWithin}
-use Rattle.law_kept.proofs.Singles.{Takes, Finds, found_leads, single_goes, starts_open, spare_parts, bare_at, page_extent, neither}
+use Rattle.law_kept.proofs.Steps.{page_in, Goes, goes_both, goes_within, IsWithin}
+use Rattle.law_kept.proofs.Singles.{Takes, Finds, found_leads, single_goes, starts_open, spare_parts, bare_at, page_extent}
 use Rattle.law_kept.proofs.NewChains.{held_on, exact_on}
 use Rattle.law_kept.proofs.Dropping.{IsTable}
 use Rattle.law_kept.proofs.IamWords.{IsOwnPage, page_low, slot_goes}

@@ -1,9 +1,9 @@
 -- What each step of allocation does to the pages that are allocated to its object.
-use Rattle.std.proofs.Common.{◌≡◌, ◌≢◌, ◌⊎◌, ◌↔◌, ℕ, zero, suc, ◌/◌, ◌%◌, ◌<◌, true, false, IsTrue, length, refl, sym, ap, subst, ◌∙◌, inl, inr, ⊎_elim, arith}
+use Rattle.std.proofs.Common.{◌≡◌, ◌≢◌, ◌⊎◌, ◌↔◌, ℕ, zero, ◌/◌, ◌%◌, ◌<◌, true, false, IsTrue, length, refl, sym, ap, subst, ◌∙◌, inl, inr, ⊎_elim, arith}
 use Rattle.std.proofs.lemmas.Bool.{cases_eq, both_ways, eq-eqb}
 use Rattle.spec_file.specs.declared.geometry.Geometry.{Geometry}
 use Rattle.spec_file.specs.declared.pfs.PfsKind.TheVariants.{Uniform}
-use Rattle.spec_file.specs.Image.{Image, page}
+use Rattle.spec_file.specs.Image.{Image}
 use Rattle.spec_file.specs.Pfs.{is_allocated_byte}
 use Rattle.spec_file.specs.Places.{is_free}
 use Rattle.spec_file.specs.Roles.{is_ordinary}

@@ -1,6 +1,6 @@
 -- Each step of allocation leaves SGAM exact.
 use Rattle.std.proofs.Common.{◌≡◌, ◌≢◌, ◌⊎◌, ℕ, zero, suc, ◌+◌, ◌*◌, ◌/◌, ◌%◌, ◌<◌, Bool, true, false, length, refl, sym, ap, subst, ◌∙◌, inl, inr, ⊎_elim, arith}
-use Rattle.std.proofs.lemmas.Bool.{cases_eq, cases_Bool, both_ways, false_from_ne_true}
+use Rattle.std.proofs.lemmas.Bool.{cases_eq, cases_Bool, both_ways}
 use Rattle.spec_file.specs.declared.geometry.Geometry.{Geometry}
 use Rattle.spec_file.specs.declared.pfs.PfsKind.{PfsKind}
 use Rattle.spec_file.specs.Image.{Image}
@@ -11,7 +11,7 @@ use Rattle.spec_file.specs.Roles.{is_ordinary}
 use Rattle.spec_chain.specs.Chains.{pointer}
 use Rattle.spec_chain.specs.Marks.{IsMarker}
 use Rattle.spec_chain.specs.Uses.{Use, IsUse, pfs_byte, is_allocated}
-use Rattle.spec_extents.specs.Extents.{extent_of, HoldsUse, IsGoodExtent}
+use Rattle.spec_extents.specs.Extents.{extent_of, IsGoodExtent}
 use Rattle.spec_steps.specs.Taking.{HasOpenPage, IsTakenAs, PutsIntoSlot, ChangesSinglePage, ChangesMarkedPage, MarksExtent, GrowsChain}
 use Rattle.law_extents.proofs.GoodKinds.{used_allocated, owned_kind}
 use Rattle.law_frames.proofs.Held.{IsStart, goods, extent_below}

@@ -1,15 +1,15 @@
 -- A single page that is freed leaves clean maps clean.
 use Rattle.std.proofs.Common.{◌≡◌, ◌≢◌, ◌⊎◌, ◌↔◌, ℕ, zero, ◌/◌, ◌<◌, true, IsTrue, List, length, refl, sym, ap, subst, ◌∙◌, inl, inr, ⊎_elim, arith}
-use Rattle.std.proofs.lemmas.Bool.{cases_eq, cases_Bool, both_ways, false_from_ne_true}
+use Rattle.std.proofs.lemmas.Bool.{cases_eq}
 use Rattle.spec_file.specs.declared.geometry.Geometry.{Geometry}
 use Rattle.spec_file.specs.Image.{Image, page}
 use Rattle.spec_file.specs.CatalogRows.{CatalogRow}
 use Rattle.spec_file.specs.Iam.{single_slot_count, iam_slot}
-use Rattle.spec_file.specs.Places.{is_free, is_mixed, is_inside}
+use Rattle.spec_file.specs.Places.{is_inside}
 use Rattle.spec_file.specs.Roles.{is_ordinary}
 use Rattle.spec_chain.specs.Chains.{IsObject, pointer, IsChainPage}
 use Rattle.spec_chain.specs.Marks.{IsMarker}
-use Rattle.spec_chain.specs.Uses.{Use, IsUse, IsUseBy, pfs_byte, is_allocated}
+use Rattle.spec_chain.specs.Uses.{Use, IsUse, IsUseBy, pfs_byte}
 use Rattle.spec_chain.proofs.Pointers.{inside_below, inside_nonzero}
 use Rattle.spec_extents.specs.Extents.{extent_of}
 use Rattle.spec_steps.specs.AtMost.{Changed, page_of, either, maps_of}

@@ -11,7 +11,7 @@ use Rattle.spec_chain.specs.declared.end.ChainEnd.TheVariants as end
 use Rattle.spec_chain.proofs.ChainLaws.{chain_has_one_length, page_below}
 use Rattle.spec_chain.specs.Chains.{IsObject, pointer, object_of, next_of, prev_of, fault_of_bytes, is_last, GoesOn, end_at, holder, HasLength, IsChainPage, IsInChain}
 use Rattle.spec_chain.proofs.Pointers.{IsGood, goes_good, good_fault, last_whole}
-use Rattle.spec_chain.specs.Marks.{IsMarker, IsMarked}
+use Rattle.spec_chain.specs.Marks.{IsMarked}
 use Rattle.spec_chain.specs.Uses.{Use, IsUse, IsUseBy}
 use Rattle.spec_check.specs.declared.report.CheckError.{CheckError}
 use Rattle.spec_check.specs.Chains.{IsErrorAt, before, interval_at}

@@ -14,8 +14,6 @@ use Rattle.spec_extents.specs.Extents.{Extent, extent_of, IsGoodExtent}
 use Rattle.spec_clean.specs.CleanFiles.{IsClean}
 use Rattle.spec_steps.specs.AtMost.{Changed}
 use Rattle.spec_steps.specs.Acts.{Owns, Acts, StaysClean}
-use Rattle.spec_steps.specs.Taking.{HasOpenPage}
-use Rattle.spec_steps.specs.Freeing.{IsLeftShared}
 use Rattle.spec_steps.specs.Tables.{Has, UsesOf, dropped, DropsObject}
 use Rattle.law_writes.proofs.MapPages.{boot_not, differs}
 use Rattle.law_extents.proofs.Listed.{decided}

@@ -134,7 +134,7 @@ mark_exact g image image' row k e p start marks =
     (λ q u other h. mark_uses g image image' row k e p start marks q u h)
     (owned_here g image' e row.id good ((markers g image image' row k e p start marks e row.id).1 (inr (refl, refl))))
 
-own_changes : (g : Geometry) (image image' : Image) (p : ℕ) → AtMost g (either (byte_of p) (page_of p)) image image' → ChangesExtent g image image' (p / 8)
+pub own_changes : (g : Geometry) (image image' : Image) (p : ℕ) → AtMost g (either (byte_of p) (page_of p)) image image' → ChangesExtent g image image' (p / 8)
 own_changes g image image' p most = changes_from g image image' (p / 8) (either (byte_of p) (page_of p)) most
     (λ f c. absurd (⊎_elim (λ x. x) (λ x. x) c)) (λ f c. absurd (⊎_elim (λ x. x) (λ x. x) c)) (λ q c. ap (λ n. n / 8) (⊎_elim (λ here. here) (λ x. absurd x) c))
 

@@ -9,3 +9,4 @@ pub mod FreedExtents
 pub mod GrownChains
 pub mod ExactSgam
 pub mod AllocatedPages
+pub mod LeftParts

@@ -1,2 +1,3 @@
 pub mod Laws
 pub mod AllocatedPages
+pub mod LeftParts

@@ -2,6 +2,7 @@
 #![tactic(auto)]
 
 ghost use Rattle.law_steps.specs.Laws.{FreeIsTakeable, SlotStaysClean, SinglePageStaysClean, MarkedPageStaysClean, MarkStaysClean, GrowthStaysClean, FreedSingleStaysClean, FreedLastStaysClean, SgamStaysExact};
+ghost use Rattle.law_steps.specs.LeftParts.{SlotLeavesParts, MarkLeavesParts, GrowthLeavesParts, SinglePageLeavesParts, MarkedPageLeavesParts, FreedSingleLeavesParts, FreedLastLeavesParts};
 ghost use Rattle.law_steps.specs.AllocatedPages.{SlotGetsPage, MarkedGetsPage, ExtentGetsPage, GrowthKeepsPages, SingleGivesPage, MarkedGivesPage, LastGivesPage};
 
 /// The first page of a free extent can be taken as a single page. Where a single page is put into a slot, an extent is
@@ -41,4 +42,16 @@ pub fn allocated_laws()
     ensures single_freed { SingleGivesPage }
     ensures marked_freed { MarkedGivesPage }
     ensures last_freed { LastGivesPage }
+{}
+
+/// Of the parts of a clean file, a step of allocation changes what that of its table reads, and where a bit, a use or a mark
+/// of an extent changes, what that of this extent reads; and of none else, nor of the catalog.
+pub fn part_laws()
+    ensures slot { SlotLeavesParts }
+    ensures mark { MarkLeavesParts }
+    ensures growth { GrowthLeavesParts }
+    ensures single { SinglePageLeavesParts }
+    ensures marked { MarkedPageLeavesParts }
+    ensures single_freed { FreedSingleLeavesParts }
+    ensures last_freed { FreedLastLeavesParts }
 {}

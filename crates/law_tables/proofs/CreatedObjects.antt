@@ -17,6 +17,7 @@ use Rattle.spec_clean.specs.CleanFiles.{IsClean}
 use Rattle.spec_clean.specs.KnownOfObject.{known_of_object}
 use Rattle.spec_steps.specs.AtMost.{Changed, page_of, either, maps_of}
 use Rattle.spec_steps.specs.Acts.{Owns, Acts, StaysClean}
+use Rattle.spec_steps.specs.PartsRead.{LeavesParts}
 use Rattle.spec_steps.specs.Taking.{IsTakenAs}
 use Rattle.spec_steps.specs.Tables.{CreatesObject}
 use Rattle.law_writes.proofs.MapPages.{boot_not, differs}
@@ -26,6 +27,7 @@ use Rattle.law_frames.proofs.Held.{IsStart, goods}
 use Rattle.law_steps.proofs.Owners.{NobodyOwns, takeable_is_nobodys}
 use Rattle.law_steps.proofs.OneObject.{IsNotOthers, HasNoMaps, TakesOne, acts_from, other_uses, other_marks, clean_after, single_maps, single_bytes, taken_extents}
 use Rattle.law_steps.proofs.FilledSlots.{use_is}
+use Rattle.law_steps.proofs.LeftParts.{tables_left, extents_left}
 use Rattle.law_steps.proofs.ExactSgam.{exact_from, single_changes, taken_here}
 use Rattle.spec_steps.specs.Sgam.{HasExactSgam}
 use Rattle.law_tables.proofs.Entries.{GainsRow, gains}
@@ -109,6 +111,14 @@ module _ (g : Geometry) (image image' : Image) (row : CatalogRow) (p : ℕ) (sta
     bytes = single_bytes g image image' p rest no_maps creates.most;
     uses = λ q v. (use_from q v, use_in q v);
     marks = λ e m. (mark_from e m, λ h. (other_marks g image image' row.id start create_acts e m (λ same. entry.fresh h.0 h.1 (h.2 ∙ same))).1 h);
+  }
+
+  -- the parts of other tables and of other extents read the same
+  pub create_parts : LeavesParts g image image' row.id (λ e. e ≡ p / 8)
+  create_parts = record {
+    extents = extents_left g image image' (p / 8) adds.changes
+        (λ q u other. (λ h. ⊎_elim (λ old. old) (λ new. absurd (other (ap (λ n. n / 8) new.0))) (use_from q u h), λ h. use_in q u (inl h))) (λ f m other. adds.marks f m);
+    tables = tables_left g image image' row.id create_acts;
   }
 
   own_chain : (r : CatalogRow) → IsObject image' r → r.id ≡ row.id → HasCleanChain g image' r

@@ -1,5 +1,5 @@
 -- DROP leaves clean maps clean, and a clean file.
-use Rattle.std.proofs.Common.{◌≡◌, ◌≢◌, ℕ, ◌/◌, ◌<◌, true, IsTrue, length, refl, sym, ap, subst, ◌∙◌, inl, inr, ⊎_elim, arith}
+use Rattle.std.proofs.Common.{◌≡◌, ◌≢◌, ◌⊎◌, ℕ, ◌/◌, ◌<◌, true, IsTrue, length, refl, sym, ap, subst, ◌∙◌, inl, inr, ⊎_elim, arith}
 use Rattle.std.proofs.lemmas.Bool.{cases_Bool, both_ways}
 use Rattle.spec_file.specs.declared.geometry.Geometry.{Geometry}
 use Rattle.spec_file.specs.Image.{Image, page}
@@ -14,6 +14,7 @@ use Rattle.spec_extents.specs.Extents.{Extent, extent_of, IsGoodExtent}
 use Rattle.spec_clean.specs.CleanFiles.{IsClean}
 use Rattle.spec_steps.specs.AtMost.{Changed}
 use Rattle.spec_steps.specs.Acts.{Owns, Acts, StaysClean}
+use Rattle.spec_steps.specs.PartsRead.{LeavesParts}
 use Rattle.spec_steps.specs.Tables.{Has, UsesOf, dropped, DropsObject}
 use Rattle.law_writes.proofs.MapPages.{boot_not, differs}
 use Rattle.law_extents.proofs.Listed.{decided}
@@ -27,6 +28,8 @@ use Rattle.law_steps.proofs.ExactSgam.{free_here, left_here, zero_open, exact_un
 use Rattle.spec_steps.specs.Sgam.{IsSgamExact, HasExactSgam}
 use Rattle.spec_file.specs.Pfs.{is_allocated_byte}
 use Rattle.law_tables.proofs.Entries.{LosesRow, loses}
+use Rattle.law_frames.proofs.OtherObjects.{has_owned}
+use Rattle.law_steps.proofs.LeftParts.{tables_left}
 use Rattle.law_frames.proofs.WholeFiles.{after, file_stays_clean}
 
 module _ (g : Geometry) (image image' : Image) (row : CatalogRow) (start : IsStart g image) (drops : DropsObject g image image' row) where
@@ -39,13 +42,8 @@ module _ (g : Geometry) (image image' : Image) (row : CatalogRow) (start : IsSta
   object : IsObject image row
   object = entry.was
 
-  has_owned : (q : ℕ) → Has g image row q → Owns g image row q
-  has_owned q (inl (inl slot)) = inl (slot.0, inl slot.1)
-  has_owned q (inl (inr marked)) = inr marked.1
-  has_owned q (inr chain) = inl (single_slot_count, inr (refl, chain))
-
   not_others : (q : ℕ) → q < length image → Has g image row q → IsNotOthers g image row.id q
-  not_others q inside has r there other owns = other (one_owner g image start r row q inside there object owns (has_owned q has))
+  not_others q inside has r there other owns = other (one_owner g image start r row q inside there object owns (has_owned g image row q has))
 
   drop_acts : Acts g image image' row.id
   drop_acts = acts_from g image image' row.id changed (record {
@@ -179,6 +177,22 @@ module _ (g : Geometry) (image image' : Image) (row : CatalogRow) (start : IsSta
 
   pub drop_clean : IsClean g image → IsClean g image'
   drop_clean clean = file_stays_clean g image image' row.id start.shape clean drop_maps (λ r there own. absurd (entry.gone r there own))
+
+  -- the parts of other tables, and of extents of which it had nothing, read the same
+  pub drop_parts : LeavesParts g image image' row.id (λ e. IsMarked g image row e ⊎ UsesOf g image row e)
+  drop_parts = record {
+    extents = λ e low none. record {
+      free = drops.most.free e low none;
+      mixed = drops.most.mixed e low (λ uses. none (inr uses));
+      uses = λ q at u. (
+        use_from q u,
+        λ h. use_in q u (λ same. none (inr (q, at, u.place, subst (λ r. IsUseBy g image q r u.place) (own_row h.0 h.1 (h.2 ∙ same)) h.3))) h,
+      );
+      marks = λ m. (mark_from e m, λ h. mark_in e m (λ same. none (inl (subst (λ r. IsMarked g image r e) (own_row h.0 h.1 (h.2 ∙ same)) h.3))) h);
+      bytes = λ q at of. drops.most.bytes q (below e low q at) (λ has. let gone = has_gone e q at (λ marked. none (inl marked)) has in none (inr (q, at, gone.0, gone.1)));
+    };
+    tables = tables_left g image image' row.id drop_acts;
+  }
 
   -- SGAM stays exact
   later : IsStart g image'

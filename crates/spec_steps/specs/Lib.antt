@@ -8,3 +8,4 @@ pub mod Entries
 pub mod Tables
 pub mod Sgam
 pub mod AllocatedPages
+pub mod PartsRead

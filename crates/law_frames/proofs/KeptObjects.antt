@@ -1,12 +1,11 @@
 -- An object of which a check reads the same keeps its chain, uses and marks, and its pages with what is wrong with them.
-use Rattle.std.proofs.Common.{◌≡◌, ◌≢◌, ◌↔◌, ℕ, zero, ◌/◌, ◌<◌, true, List, length, refl, sym, ap, subst, ◌∙◌, inl, inr, ⊎_elim, arith}
+use Rattle.std.proofs.Common.{◌≡◌, ◌↔◌, ℕ, zero, ◌/◌, ◌<◌, true, List, length, refl, sym, ap, subst, ◌∙◌, inl, inr, ⊎_elim, arith}
 use Rattle.spec_file.specs.declared.geometry.Geometry.{Geometry}
 use Rattle.spec_file.specs.Image.{Image, page}
 use Rattle.spec_file.specs.CatalogRows.{CatalogRow}
-use Rattle.spec_file.specs.Iam.{single_slot_count}
 use Rattle.spec_file.specs.Pfs.{is_allocated_byte}
 use Rattle.spec_file.specs.Roles.{is_ordinary}
-use Rattle.spec_chain.specs.Chains.{IsObject, pointer}
+use Rattle.spec_chain.specs.Chains.{pointer}
 use Rattle.spec_chain.specs.Marks.{IsMarked}
 use Rattle.spec_chain.specs.Uses.{IsUseBy, IsAllocatedTo, pfs_byte}
 use Rattle.spec_chain.proofs.Pointers.{goes_good, inside_below}

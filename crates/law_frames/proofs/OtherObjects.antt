@@ -1,5 +1,5 @@
 -- A step on one object leaves to every other its chain, uses and marks, and its pages with what is wrong with them.
-use Rattle.std.proofs.Common.{◌≢◌, ◌↔◌, ℕ, inl, inr, ⊎_elim}
+use Rattle.std.proofs.Common.{◌≢◌, ◌↔◌, ℕ, inl, inr}
 use Rattle.spec_file.specs.declared.geometry.Geometry.{Geometry}
 use Rattle.spec_file.specs.Image.{Image}
 use Rattle.spec_file.specs.CatalogRows.{CatalogRow}

@@ -26,18 +26,20 @@ use Rattle.spec_steps.specs.Entries.{AddsEntry}
 use Rattle.spec_steps.specs.IamPages.{IsOnlyIam}
 use Rattle.law_writes.proofs.MapPages.{boot_not, differs}
 use Rattle.law_frames.proofs.Held.{IsStart}
-use Rattle.law_tables.proofs.CreatedObjects.{create_maps, create_clean, create_exact}
+use Rattle.law_tables.proofs.CreatedObjects.{create_maps, create_clean, create_exact, create_parts}
 use Rattle.law_net.specs.GoodViews.{Leads}
 use Rattle.law_net.proofs.WordLaws.{leads_then, leads_give, leads_refuse, leads_good, leads_look, leads_found, leads_weaker}
 use Rattle.law_net.proofs.ReadingLeaves.{Reads}
 use Rattle.law_alloc.proofs.Searches.{give_reads, leads_from}
 use Rattle.law_kept.specs.Views.{IsCleanView}
+use Rattle.law_kept.specs.Parts.{CreateChangesTaken}
 use Rattle.law_kept.specs.Singles.{TakesIam}
 use Rattle.law_kept.specs.Creates.{CreatesHeap, CreateCreates, CreateLeavesMapsClean, CreateLeavesFileClean, CreateLeavesSgamExact}
-use Rattle.law_kept.proofs.Steps.{IsFile, page_in, nine_inside, Goes, goes_both, goes_within, nothing}
+use Rattle.law_kept.proofs.Steps.{IsFile, page_in, nine_inside, Took, Goes, goes_both, goes_within, nothing}
 use Rattle.law_kept.proofs.Words.{take_goes, page_goes}
 use Rattle.law_kept.proofs.Singles.{IsBare, bare_on, bare_from, bare_at, page_extent, file_of, start_of}
 use Rattle.law_kept.proofs.NewChains.{chain_goes, held_on, exact_on, number_low}
+use Rattle.law_kept.proofs.PartsTaken.{taken_extents, parts_wider, ReadsSameUntaken, untaken_reads}
 use Rattle.law_kept.proofs.NewEntries.{IsFreeId, heap_back, heap_added, id_is_free, entry_is_free, name_is_free}
 
 named_reads : (boot name : List ℕ) (v : View) → Reads (unless_named boot name) v (λ u. is_some (named_among (rows_of boot) name) ≡ false)
@@ -52,10 +54,12 @@ record IsReady (boot name : List ℕ) (id i : ℕ) : Type 0 where
   empty : is_zeros (entry_at boot i) ≡ true
   unnamed : is_some (named_among (rows_of boot) name) ≡ false
 
--- the heap is created; and of the extent of its page SGAM is exact, unless another holds a byte of it alone
+-- the heap is created; of the extent of its page SGAM is exact, unless another holds a byte of it alone; and parts whose
+-- resource isn't taken read the same
 record Creates (shape : FileShape) (name : List ℕ) (v w : View) : Type 0 where
   heap : CreatesHeap shape.geometry name v.now w.now
   taken : IsBare shape v (heap.page / 8) → IsTakenAs shape.geometry w.now heap.page Iam
+  parts : ReadsSameUntaken shape.geometry v.now w
 
 module _ (shape : FileShape) (name : List ℕ) (named : is_name name ≡ true) where
   -- the page of the chain is taken, and then the entry is put
@@ -105,13 +109,13 @@ module _ (shape : FileShape) (name : List ℕ) (named : is_name name ≡ true) w
       leads_then (found_or (free_entry boot) (refuse too_many_tables)) _ v K (leads_found (free_entry boot) (refuse too_many_tables) v _ (λ i at.
       let empty = entry_is_free boot i at in
       let ready : IsReady boot name id i = record { id_free = id_is_free boot id is; within = empty.0; empty = empty.1; unnamed = unnamed } in
-      leads_then (take (resource.Table (record { 0 = id }))) _ v K (leads_weaker (take (resource.Table (record { 0 = id }))) v _ _ (λ x w h. behind v w start h.0 h.1 id i ready) (take_goes shape (resource.Table (record { 0 = id })) v f)))
+      leads_then (take (resource.Table (record { 0 = id }))) _ v K (leads_weaker (take (resource.Table (record { 0 = id }))) v _ _ (λ x w h. behind v w start h.0 h.1 id i h.3 ready) (take_goes shape (resource.Table (record { 0 = id })) v f)))
       (λ e. leads_refuse too_many_tables v _)))
       (λ e. leads_refuse too_many_tables v _)))))))
     where
-      behind : (v w : View) → IsStart shape.geometry v.now → Goes shape nothing v w → w.now ≡ v.now → (id i : ℕ) → IsReady (page v.now 9) name id i →
+      behind : (v w : View) → IsStart shape.geometry v.now → Goes shape nothing v w → w.now ≡ v.now → (id i : ℕ) → Took w (resource.Table (record { 0 = id })) → IsReady (page v.now 9) name id i →
           Leads (new_chain shape id then (λ q. entry_put i (new_heap id name q) then (λ _. give Done))) w (λ reply z. Creates shape name v z)
-      behind v w start first now id i ready =
+      behind v w start first now id i table ready =
           let g = shape.geometry in
           let file = first.file in
           let ready_w : IsReady (page w.now 9) name id i = subst (λ image. IsReady (page image 9) name id i) (sym now) ready in
@@ -124,14 +128,17 @@ module _ (shape : FileShape) (name : List ℕ) (named : is_name name ≡ true) w
           let inside : q < shape.pages = subst (λ n. q < n) file.pages takeable.inside in
           leads_then (entry_put i (new_heap id name q)) (λ _. give Done) y K
           (leads_weaker (entry_put i (new_heap id name q)) y _ _ (λ s z m. leads_give Done z K
-          (let held = held_on shape 9 q Iam y z inside chained.file m.0 takes.taken in record {
+          (let held = held_on shape 9 q Iam y z inside chained.file m.0 takes.taken in
+          let put = m.0 in
+          let creates : CreatesObject g v.now z.now (new_heap id name q) q =
+          subst (λ image. CreatesObject g image z.now (new_heap id name q) q) now (heap_made id i q w y z file ready_w chained takes put m.1) in
+          let id_taken = put.taken (resource.Table (record { 0 = id })) (chained.taken (resource.Table (record { 0 = id })) table) in record {
             heap = record {
               row = new_heap id name q;
               page = q;
               kind = refl;
               named = refl;
-              creates = subst (λ image. CreatesObject g image z.now (new_heap id name q) q) now
-                  (heap_made id i q w y z file ready_w chained takes m.0 m.1);
+              creates = creates;
             };
             taken = λ bare. record {
               free = held.free;
@@ -139,6 +146,9 @@ module _ (shape : FileShape) (name : List ℕ) (named : is_name name ≡ true) w
               mixed = exact_on shape 9 (q / 8) y z (page_extent shape w q file inside) chained.file m.0
                   (k.2 (bare_on shape v w (q / 8) first.other (λ r at un. subst (λ image. is_allocated g image r ≡ false) now un) bare));
             };
+            parts = untaken_reads g v.now z id (parts_wider g v.now z.now id (λ e. e ≡ q / 8) (taken_extents z)
+                (λ e low here. subst (taken_extents z) (sym here) (put.taken (resource.Extent (record { 0 = q / 8 })) k.3))
+                (create_parts g v.now z.now (new_heap id name q) q start creates)) id_taken m.2;
           }))
           (page_goes shape resource.Catalog 9 (96 + 40 * i) (entry_bytes (new_heap id name q)) y (nine_inside shape y.now chained.file) (inl refl) chained.file)))
           (chain_goes shape id w file (subst (IsStart g) (sym now) start) free.low))
@@ -148,6 +158,9 @@ creates_of v name named clean = create_goes v.shape name named v (file_of v clea
 
 pub create_creates : CreateCreates
 create_creates v name named clean = leads_weaker (create_plan v.shape name) v _ _ (λ reply w h. h.heap) (creates_of v name named clean)
+
+pub create_changes_taken : CreateChangesTaken
+create_changes_taken v name named clean = leads_weaker (create_plan v.shape name) v _ _ (λ reply w h. h.parts) (creates_of v name named clean)
 
 pub create_leaves_maps : CreateLeavesMapsClean
 create_leaves_maps v name named clean =

@@ -1,15 +1,18 @@
 -- DROP drops the object of its name.
-use Rattle.std.proofs.Common.{◌≡◌, ℕ, ◌+◌, ◌*◌, ◌/◌, ◌<◌, ◌==◌, ◌&&◌, not, Bool, List, [], length, Contains, replicate, Option, Some, None, refl, sym, ap, subst, ◌∙◌, inl, ⊎_elim, arith}
+use Rattle.std.proofs.Common.{◌≡◌, ◌⊎◌, ℕ, ◌+◌, ◌*◌, ◌/◌, ◌<◌, ◌==◌, ◌&&◌, not, Bool, List, [], length, Contains, replicate, Option, Some, None, refl, sym, ap, subst, ◌∙◌, inl, ⊎_elim, arith}
 use Rattle.std.specs.List.{range_with_len}
 use Rattle.std.proofs.lemmas.Bool.{and_parts, and_from, eqb-true, eq-eqb, not-true, not_from_false}
+use Rattle.spec_file.specs.declared.data.Resource.{Resource}
 use Rattle.spec_file.specs.declared.data.Resource.TheVariants as resource
+use Rattle.spec_file.specs.declared.geometry.Geometry.{Geometry}
 use Rattle.spec_file.specs.Catalog.{entry_count, entry_at, entry_id, is_zeros, IsUsed}
 use Rattle.spec_file.specs.CatalogRows.{CatalogRow, row_of_entry, rows_of}
-use Rattle.spec_file.specs.Image.{page}
+use Rattle.spec_file.specs.Image.{Image, page}
 use Rattle.spec_file.specs.Places.{extent_count}
 use Rattle.spec_script.specs.declared.reply.Reply.{Reply}
 use Rattle.spec_script.specs.declared.reply.Reply.TheVariants.{Done}
 use Rattle.spec_chain.specs.Chains.{IsObject}
+use Rattle.spec_chain.specs.Marks.{IsMarked}
 use Rattle.spec_check.proofs.Members.{filter_in, range_in}
 use Rattle.spec_words.specs.NetChanges.{FileShape}
 use Rattle.spec_words.specs.Views.{View, Plan}
@@ -20,18 +23,20 @@ use Rattle.spec_alloc.specs.Objects.{entry_of, entry_emptied, pages_dropped}
 use Rattle.spec_statements.specs.Objects.{drop_plan}
 use Rattle.spec_steps.specs.AtMost.{page_of, either}
 use Rattle.spec_steps.specs.Entries.{IsEntrySet}
-use Rattle.spec_steps.specs.Tables.{dropped, DropsObject}
+use Rattle.spec_steps.specs.Tables.{UsesOf, dropped, DropsObject}
 use Rattle.spec_log.specs.Cells.{with_bytes}
 use Rattle.law_frames.proofs.Held.{IsStart, the_row}
 use Rattle.law_tables.proofs.Entries.{stands_from, stands_in}
-use Rattle.law_tables.proofs.DroppedObjects.{drop_maps, drop_clean, drop_exact}
+use Rattle.law_tables.proofs.DroppedObjects.{drop_maps, drop_clean, drop_exact, drop_parts}
 use Rattle.law_net.specs.GoodViews.{Leads}
 use Rattle.law_net.proofs.WordLaws.{leads_then, leads_give, leads_weaker}
 use Rattle.law_alloc.specs.Keeps.{IfFound}
 use Rattle.law_alloc.proofs.Searches.{sees_reads, leads_from}
 use Rattle.law_alloc.proofs.Singles.{first_kept}
 use Rattle.law_kept.specs.Drops.{maps_dropped, GivesBack, DropsTable, DropDrops, DropLeavesMapsClean, DropLeavesFileClean, DropLeavesSgamExact}
-use Rattle.law_kept.proofs.Steps.{IsFile, page_in, nine_inside, Goes, goes_both, goes_within, nothing}
+use Rattle.law_kept.specs.Parts.{DropChangesTaken}
+use Rattle.law_kept.specs.Views.{IsCleanView}
+use Rattle.law_kept.proofs.Steps.{IsFile, page_in, nine_inside, Took, Goes, goes_both, goes_within, nothing}
 use Rattle.law_kept.proofs.Words.{take_goes, page_goes}
 use Rattle.law_kept.proofs.Singles.{neither, file_of, start_of}
 use Rattle.law_kept.proofs.EntryPages.{entry_set}
@@ -39,7 +44,8 @@ use Rattle.law_kept.proofs.ChainLists.{first_there}
 use Rattle.law_kept.proofs.ReadTables.{table_found}
 use Rattle.law_kept.proofs.Freed.{left_same}
 use Rattle.law_kept.proofs.Dropping.{IsTable}
-use Rattle.law_kept.proofs.PagesDropped.{pages_give_back}
+use Rattle.law_kept.proofs.PagesDropped.{TakesBack, pages_give_back}
+use Rattle.law_kept.proofs.PartsTaken.{taken_extents, parts_wider, ReadsSameUntaken, untaken_reads}
 
 -- ---- the entry of an object
 
@@ -103,6 +109,11 @@ drop_made shape row i v y z b f start object entry gone given taken put is =
           (stands_in boot (row_of_entry (entry_at boot i)) (record { entry = i; inside = entry.within; used = entry.used; is = refl })) entry.same);
     }
 
+-- the object of this name is dropped, and the parts of resources that aren't taken read the same
+record DropsSo (g : Geometry) (name : List ℕ) (image : Image) (w : View) : Type 0 where
+  drops : DropsTable g name image w.now
+  parts : ReadsSameUntaken g image w
+
 -- what DROP does once the table is taken
 abbrev dropping : FileShape → CatalogRow → Plan Reply
 dropping shape row =
@@ -112,44 +123,57 @@ dropping shape row =
     where_found entry entry_emptied then (λ _.
     give Done))))
 
--- the object's pages are given back, and its entry is emptied
-row_goes : (name : List ℕ) (row : CatalogRow) (v : View) → IsTable v.shape v row → row.name ≡ name →
-    Leads (dropping v.shape row) v (λ reply w. DropsTable v.shape.geometry name v.now w.now)
-row_goes name row v table named =
-    let g = v.shape.geometry in
-    let K : Reply → View → Type 0 = λ reply w. DropsTable g name v.now w.now in
-    let boot = page v.now 9 in
-    leads_then (pages_dropped v.shape row) _ v K (leads_weaker (pages_dropped v.shape row) v _ _ (λ u y k.
-    let gone = k.0 in
-    leads_then (take resource.Catalog) _ y K (leads_weaker (take resource.Catalog) y _ _ (λ s z l.
-    let taken = l.0 in
-    let same : page z.now 9 ≡ boot = taken.most.pages 9 (inl refl) (λ c. c) ∙ gone.most.pages 9 (inl refl) (λ c. c) in
-    leads_from (sees (λ view. entry_of (page view.now 9) row.id)) _ z (λ entry. entry ≡ entry_of boot row.id) K
-    (sees_reads (λ view. entry_of (page view.now 9) row.id) z (λ entry. entry ≡ entry_of boot row.id) (ap (λ bytes. entry_of bytes row.id) same)) (λ entry is.
-    leads_then (where_found entry entry_emptied) (λ _. give Done) z K
-    (by_entry y z gone k.1 taken same entry is (subst (IfFound (IsEntryOf boot row.id)) (sym is) (entry_found boot row.id)))))
-    (take_goes v.shape resource.Catalog y gone.file)))
-    (pages_give_back v row table))
-  where
-    by_entry : (y z : View) → Goes v.shape (maps_dropped v.shape.geometry v.now row) v y → GivesBack v.shape.geometry v.now y.now row → Goes v.shape nothing y z → page z.now 9 ≡ page v.now 9
-        → (entry : Option ℕ) → entry ≡ entry_of (page v.now 9) row.id → IfFound (IsEntryOf (page v.now 9) row.id) entry
-        → Leads (where_found entry entry_emptied) z (λ e b. Leads (give Done) b (λ reply w. DropsTable v.shape.geometry name v.now w.now))
-    by_entry y z gone given taken same None is found = absurd (entry_there (page v.now 9) row table.object (sym is))
-    by_entry y z gone given taken same (Some i) is found =
-        let file = table.file in
-        leads_then (entry_emptied i) (λ e. give (Some e)) z _
-        (leads_weaker (entry_emptied i) z _ _ (λ u b m. leads_give (Some u) b _ (leads_give Done b (λ reply w. DropsTable v.shape.geometry name v.now w.now) (record {
-          row = row;
-          named = named;
-          object = table.object;
-          drops = drop_made v.shape row i v y z b file table.start table.object found gone given taken m.0 (m.1 ∙ ap (λ bytes. with_bytes bytes (96 + 40 * i) (replicate 40 0)) same);
-        })))
-        (page_goes v.shape resource.Catalog 9 (96 + 40 * i) (replicate 40 0) z (nine_inside v.shape v.now file) (inl refl) taken.file))
+module _ (name : List ℕ) (row : CatalogRow) (v : View) (table : IsTable v.shape v row) (named : row.name ≡ name) (id_taken : Took v (resource.Table (record { 0 = row.id }))) where
+  abbrev DropsIt : Reply → View → Type 0
+  DropsIt reply w = DropsSo v.shape.geometry name v.now w
 
-pub drop_drops : DropDrops
-drop_drops v name clean =
+  -- the entry is emptied behind all that
+  emptied : (i : ℕ) (y z b : View) → IsEntryOf (page v.now 9) row.id i → Goes v.shape (maps_dropped v.shape.geometry v.now row) v y → GivesBack v.shape.geometry v.now y.now row
+      → TakesBack v row y → Goes v.shape nothing y z → Took z resource.Catalog → Goes v.shape (page_of 9) z b
+      → page b.now 9 ≡ with_bytes (page v.now 9) (96 + 40 * i) (replicate 40 0) → DropsSo v.shape.geometry name v.now b
+  emptied i y z b entry gone given extents taken catalog put is =
+      let g = v.shape.geometry in
+      let later = λ (r : Resource) (took : Took y r). let still : Took b r = put.taken r (taken.taken r took) in still in
+      let drops = drop_made v.shape row i v y z b table.file table.start table.object entry gone given taken put is in record {
+        drops = record { row = row; named = named; object = table.object; drops = drops };
+        parts = untaken_reads g v.now b row.id
+            (parts_wider g v.now b.now row.id (λ e. IsMarked g v.now row e ⊎ UsesOf g v.now row e) (taken_extents b) (λ e low touched. later (resource.Extent (record { 0 = e })) (extents e low touched))
+            (drop_parts g v.now b.now row table.start drops)) (later (resource.Table (record { 0 = row.id })) (gone.taken (resource.Table (record { 0 = row.id })) id_taken))
+            (put.taken resource.Catalog catalog);
+      }
+
+  by_entry : (y z : View) → Goes v.shape (maps_dropped v.shape.geometry v.now row) v y → GivesBack v.shape.geometry v.now y.now row → TakesBack v row y → Goes v.shape nothing y z
+      → Took z resource.Catalog → page z.now 9 ≡ page v.now 9
+      → (entry : Option ℕ) → entry ≡ entry_of (page v.now 9) row.id → IfFound (IsEntryOf (page v.now 9) row.id) entry
+      → Leads (where_found entry entry_emptied) z (λ e b. Leads (give Done) b DropsIt)
+  by_entry y z gone given extents taken catalog same None is found = absurd (entry_there (page v.now 9) row table.object (sym is))
+  by_entry y z gone given extents taken catalog same (Some i) is found =
+      let file = table.file in
+      leads_then (entry_emptied i) (λ e. give (Some e)) z _
+      (leads_weaker (entry_emptied i) z _ _ (λ u b m. leads_give (Some u) b _ (leads_give Done b DropsIt
+      (emptied i y z b found gone given extents taken catalog m.0 (m.1 ∙ ap (λ bytes. with_bytes bytes (96 + 40 * i) (replicate 40 0)) same))))
+      (page_goes v.shape resource.Catalog 9 (96 + 40 * i) (replicate 40 0) z (nine_inside v.shape v.now file) (inl refl) taken.file))
+
+  -- the object's pages are given back, and its entry is emptied
+  row_goes : Leads (dropping v.shape row) v DropsIt
+  row_goes =
+      let boot = page v.now 9 in
+      leads_then (pages_dropped v.shape row) _ v DropsIt (leads_weaker (pages_dropped v.shape row) v _ _ (λ u y k.
+      let gone = k.0 in
+      leads_then (take resource.Catalog) _ y DropsIt (leads_weaker (take resource.Catalog) y _ _ (λ s z l.
+      let taken = l.0 in
+      let same : page z.now 9 ≡ boot = taken.most.pages 9 (inl refl) (λ c. c) ∙ gone.most.pages 9 (inl refl) (λ c. c) in
+      leads_from (sees (λ view. entry_of (page view.now 9) row.id)) _ z (λ entry. entry ≡ entry_of boot row.id) DropsIt
+      (sees_reads (λ view. entry_of (page view.now 9) row.id) z (λ entry. entry ≡ entry_of boot row.id) (ap (λ bytes. entry_of bytes row.id) same)) (λ entry is.
+      leads_then (where_found entry entry_emptied) (λ _. give Done) z DropsIt
+      (by_entry y z gone k.1 k.2 taken l.3 same entry is (subst (IfFound (IsEntryOf boot row.id)) (sym is) (entry_found boot row.id)))))
+      (take_goes v.shape resource.Catalog y gone.file)))
+      (pages_give_back v row table))
+
+drop_goes : (v : View) (name : List ℕ) → IsCleanView v → Leads (drop_plan v.shape name) v (λ reply w. DropsSo v.shape.geometry name v.now w)
+drop_goes v name clean =
     let g = v.shape.geometry in
-    let K : Reply → View → Type 0 = λ reply w. DropsTable g name v.now w.now in
+    let K : Reply → View → Type 0 = λ reply w. DropsSo g name v.now w in
     leads_from (table_of name) _ v (λ row. IsObject v.now row × (row.name ≡ name)) K (table_found name v) (λ row found.
     leads_then (take (resource.Table (record { 0 = row.id }))) _ v K (leads_weaker (take (resource.Table (record { 0 = row.id }))) v _ _ (λ u w h.
     let taken = h.0 in
@@ -158,10 +182,16 @@ drop_drops v name clean =
       start = subst (IsStart g) (sym h.1) (start_of v clean);
       object = subst (λ image. IsObject image row) (sym h.1) found.0;
     } in
-    subst (λ image. Leads (dropping v.shape row) w (λ reply z. DropsTable g name image z.now)) h.1
-    (subst (λ s. Leads (dropping s row) w (λ reply z. DropsTable s.geometry name w.now z.now)) taken.same
-    (row_goes name row w (subst (λ s. IsTable s w row) (sym taken.same) here) found.1)))
+    subst (λ image. Leads (dropping v.shape row) w (λ reply z. DropsSo g name image z)) h.1
+    (subst (λ s. Leads (dropping s row) w (λ reply z. DropsSo s.geometry name w.now z)) taken.same
+    (row_goes name row w (subst (λ s. IsTable s w row) (sym taken.same) here) found.1 h.3)))
     (take_goes v.shape (resource.Table (record { 0 = row.id })) v (file_of v clean))))
+
+pub drop_drops : DropDrops
+drop_drops v name clean = leads_weaker (drop_plan v.shape name) v _ _ (λ reply w h. h.drops) (drop_goes v name clean)
+
+pub drop_changes_taken : DropChangesTaken
+drop_changes_taken v name clean = leads_weaker (drop_plan v.shape name) v _ _ (λ reply w h. h.parts) (drop_goes v name clean)
 
 pub drop_leaves_maps : DropLeavesMapsClean
 drop_leaves_maps v name clean =

@@ -1,6 +1,7 @@
 -- What holds while the pages of an object are given back, page by page and extent by extent.
 use Rattle.std.proofs.Common.{◌≡◌, ◌≢◌, ◌⊎◌, ℕ, ◌/◌, ◌<◌, true, false, length, refl, sym, ap, subst, ◌∙◌, inl, inr, ⊎_elim, arith}
 use Rattle.std.proofs.lemmas.Bool.{cases_eq, false_from_ne_true}
+use Rattle.spec_file.specs.declared.data.Resource.TheVariants as resource
 use Rattle.spec_file.specs.CatalogRows.{CatalogRow}
 use Rattle.spec_file.specs.Pfs.{is_allocated_byte}
 use Rattle.spec_file.specs.Places.{is_free}
@@ -18,7 +19,7 @@ use Rattle.spec_steps.specs.Tables.{Has, UsesOf}
 use Rattle.law_extents.proofs.GoodKinds.{zero_not}
 use Rattle.law_frames.proofs.Held.{IsStart, goods, held}
 use Rattle.law_kept.specs.Drops.{maps_dropped}
-use Rattle.law_kept.proofs.Steps.{IsFile, page_in, extent_in, Goes, goes_both, goes_within, IsWithin, nothing, nothing_within, goes_nowhere}
+use Rattle.law_kept.proofs.Steps.{IsFile, page_in, extent_in, Took, Goes, goes_both, goes_within, IsWithin, nothing, nothing_within, goes_nowhere}
 use Rattle.law_kept.proofs.Freed.{use_back, left_same}
 
 -- a change at page p and its extent alone
@@ -92,6 +93,7 @@ module _ (shape : FileShape) (v : View) (row : CatalogRow) (table : IsTable shap
     pub inside : p < shape.pages
     pub byte : pfs_byte shape.geometry w.now p ≡ 0
     pub shared : (place : ℕ) → IsUseBy shape.geometry v.now p row place → IsLeftShared shape.geometry w.now (p / 8)
+    pub held : (place : ℕ) → IsUseBy shape.geometry v.now p row place → Took w (resource.Extent (record { 0 = p / 8 }))
 
   -- ---- one step
 
@@ -148,4 +150,5 @@ module _ (shape : FileShape) (v : View) (row : CatalogRow) (table : IsTable shap
           byte = ⊎_elim (λ same. same ∙ done.byte) (λ none. none) (fall q low);
           shared = λ place by. ⊎_elim (λ here. subst (IsLeftShared shape.geometry x.now) (sym here) (settles (subst Uses here (q, refl, place, by))).left)
               (λ other. still_left (q / 8) (let file = f.file in let whole = file.whole in omega (arith, low, whole)) other (done.shared place by)) (cases_eq (q / 8) (p / 8));
+          held = λ place by. step.taken (resource.Extent (record { 0 = q / 8 })) (done.held place by);
         }

@@ -1,6 +1,7 @@
 -- An object marks the lowest free extent, and gets its first page.
-use Rattle.std.proofs.Common.{◌≡◌, ◌≢◌, ℕ, suc, ◌*◌, ◌/◌, ◌%◌, ◌^◌, ◌<◌, ◌==◌, not, true, false, List, ◌++◌, length, Option, Some, None, refl, sym, ap, subst, ◌∙◌, inl, inr, ⊎_elim, arith}
+use Rattle.std.proofs.Common.{◌≡◌, ◌≢◌, ◌⊎◌, ℕ, suc, ◌*◌, ◌/◌, ◌%◌, ◌^◌, ◌<◌, ◌==◌, not, true, false, List, ◌++◌, length, Option, Some, None, refl, sym, ap, subst, ◌∙◌, inl, inr, ⊎_elim, arith}
 use Rattle.std.proofs.lemmas.Bool.{and_parts, both_ways, cond_both, eqb-true, eq-eqb, not-true}
+use Rattle.spec_file.specs.declared.data.Resource.TheVariants as resource
 use Rattle.spec_file.specs.declared.pfs.PfsKind.TheVariants.{Uniform}
 use Rattle.spec_file.specs.CatalogRows.{CatalogRow}
 use Rattle.spec_file.specs.Iam.{iam_interval}
@@ -28,11 +29,13 @@ use Rattle.law_frames.proofs.Held.{IsHeld, held, goods}
 use Rattle.law_steps.proofs.MarkedExtents.{mark_clean}
 use Rattle.law_steps.proofs.AllocatedPages.{mark_gets}
 use Rattle.law_steps.proofs.ExactSgam.{mark_exact}
+use Rattle.law_steps.proofs.LeftParts.{mark_parts}
 use Rattle.law_net.specs.GoodViews.{Leads}
 use Rattle.law_net.proofs.WordLaws.{leads_then, leads_give, leads_weaker}
 use Rattle.law_alloc.specs.Keeps.{IfFound}
 use Rattle.law_alloc.proofs.Searches.{sees_reads, leads_from, search_reads}
-use Rattle.law_kept.proofs.Steps.{IsFile, page_in, extent_in, Goes, goes_both, goes_within}
+use Rattle.law_kept.proofs.PartsTaken.{taken_extents, all_wider}
+use Rattle.law_kept.proofs.Steps.{IsFile, page_in, extent_in, Goes, goes_both, goes_within, Took}
 use Rattle.law_kept.proofs.Words.{gam_goes}
 use Rattle.law_kept.proofs.Singles.{Opens, Finds, found_leads, starts_open, bare_on, bare_at, page_extent, in_extent, neither}
 use Rattle.law_kept.proofs.NewChains.{exact_on}
@@ -41,7 +44,7 @@ use Rattle.law_kept.proofs.ChainLists.{in_chain, chain_in, chain_count, last_is,
 use Rattle.law_kept.proofs.IamWrites.{PutsMark}
 use Rattle.law_kept.proofs.IamWords.{IsOwnPage, mark_goes}
 use Rattle.law_kept.proofs.Grows.{Grows, kind_fits, marked_taken}
-use Rattle.law_kept.proofs.GrownAndMarked.{grown_and_marked, GrowsAndMarks, both_clean, both_gets, both_exact}
+use Rattle.law_kept.proofs.GrownAndMarked.{grown_and_marked, GrowsAndMarks, both_clean, both_gets, both_exact, both_left}
 use Rattle.law_kept.proofs.NewIams.{TakesNext, next_taken}
 
 module _ (v : View) (row : CatalogRow) (table : IsTable v.shape v row) (j : ℕ) (whole : IsWhole v.shape.geometry v.now row (suc j)) (low_id : row.id < 256 ^ 4) where
@@ -66,6 +69,7 @@ module _ (v : View) (row : CatalogRow) (table : IsTable v.shape v row) (j : ℕ)
     goes : Goes v.shape (either (free_bit (p / 8)) (byte_of p)) v x
     free : is_free v.shape.geometry x.now (p / 8) ≡ false
     byte : pfs_byte v.shape.geometry x.now p ≡ expected Uniform 0
+    held : Took x (resource.Extent (record { 0 = p / 8 }))
 
   module _ (p : ℕ) (is : IsFirstFree p) where
     inside : p < v.shape.pages
@@ -117,6 +121,9 @@ module _ (v : View) (row : CatalogRow) (table : IsTable v.shape v row) (j : ℕ)
           stays = mark_clean g v.now y.now row k e p table.start marks;
           gets = mark_gets g v.now y.now row k e p table.start marks;
           exact = λ bare exact. mark_exact g v.now y.now row k e p table.start marks exact;
+          left = all_wider g v.now y.now row.id (λ d. d ≡ e) (taken_extents y)
+              (λ d here. subst (taken_extents y) (sym here) (put.taken (resource.Extent (record { 0 = e })) opened.held)) (mark_parts g v.now y.now row k e p table.start marks);
+          taken = both.taken;
         }
 
     -- ---- where it has none
@@ -236,6 +243,11 @@ module _ (v : View) (row : CatalogRow) (table : IsTable v.shape v row) (j : ℕ)
               sym (ap is_allocated_byte (goes.most.bytes r (in_extent v.shape v (q / 8) r f low_q at) (λ c. ⊎_elim (λ c. c) (λ here. apart (sym at ∙ ap (λ m. m / 8) here)) c))) ∙ un in w in
               both_exact v.shape row v.now y.now j p q f table.start table.object does
               (exact_on v.shape q (q / 8) z y low_q grown.file put (next.exact (bare_on v.shape v x (q / 8) goes.other opens (bare_at v.shape v q f table.start bare old)))) exact;
+          left = all_wider g v.now y.now row.id (λ d. (d ≡ q / 8) ⊎ (d ≡ p / 8)) (taken_extents y) (λ d touched. ⊎_elim
+              (λ here. subst (taken_extents y) (sym here) (put.taken (resource.Extent (record { 0 = q / 8 })) next.held))
+              (λ here. subst (taken_extents y) (sym here) (put.taken (resource.Extent (record { 0 = p / 8 })) (grown.taken (resource.Extent (record { 0 = p / 8 })) opened.held))) touched)
+              (both_left v.shape row v.now y.now j p q f table.start table.object does);
+          taken = all.taken;
         }
 
     -- ---- the words
@@ -302,6 +314,7 @@ module _ (v : View) (row : CatalogRow) (table : IsTable v.shape v row) (j : ℕ)
           goes = goes_both v.shape (free_bit e) (byte_of p) v w x a b;
           free = b.most.free e (extent_in v.shape w.now e a.file low) (λ c. c) ∙ h.1;
           byte = k.2;
+          held = b.taken (resource.Extent (record { 0 = e })) h.3;
         } in
         leads_from (sees (iam_of v.shape chain p)) _ x (λ iam. iam ≡ iam_of v.shape chain p x) K (sees_reads (iam_of v.shape chain p) x (λ iam. iam ≡ iam_of v.shape chain p x) refl) (λ iam same.
         leads_then (found_or iam (new_iam v.shape row chain path p)) _ x K (by_iam path x opened iam same)))

@@ -20,7 +20,7 @@ use Rattle.law_extents.proofs.GoodKinds.{zero_not}
 use Rattle.law_net.specs.GoodViews.{Leads}
 use Rattle.law_net.proofs.WordLaws.{leads_then, leads_give, leads_weaker}
 use Rattle.law_alloc.proofs.Searches.{Any, sees_reads, leads_from, map_reads}
-use Rattle.law_kept.proofs.Steps.{IsFile, page_in, extent_in, Goes, goes_both, goes_within, nothing, nothing_within, goes_nowhere}
+use Rattle.law_kept.proofs.Steps.{IsFile, page_in, extent_in, Took, Goes, goes_both, goes_within, nothing, nothing_within, goes_nowhere}
 use Rattle.law_kept.proofs.Words.{take_goes, gam_goes, sgam_goes, pfs_goes}
 use Rattle.law_kept.proofs.Singles.{any_from, any_in, page_extent, in_extent, neither}
 
@@ -45,6 +45,7 @@ pub record FreesShared (shape : FileShape) (p : ℕ) (v w : View) : Type 0 where
   pub byte : pfs_byte shape.geometry w.now p ≡ 0
   pub left : IsLeftShared shape.geometry w.now (p / 8)
   pub busy : is_in_use shape (p / 8) w ≡ true → is_free shape.geometry w.now (p / 8) ≡ false
+  pub held : Took w (resource.Extent (record { 0 = p / 8 }))
 
 -- what is said of an extent of single pages stays where its bits and bytes stay
 pub left_same : (g : Geometry) (image image' : Image) (e : ℕ) → is_free g image' e ≡ is_free g image e → is_mixed g image' e ≡ is_mixed g image e →
@@ -117,6 +118,7 @@ shared_goes shape p v inside f busy =
       byte = bits.most.bytes p (page_in shape x.now p put.file inside) neither ∙ k.1;
       left = l.left;
       busy = l.busy;
+      held = bits.taken extent (put.taken extent h.3);
     })
     (bits_go shape e in_use x low put.file is (λ used. both.most.free e (extent_in shape v.now e f low) neither ∙ busy (use_back shape v x e both.other was used)))))
     (pfs_goes shape p 0 w inside taken.file)))))
@@ -130,6 +132,7 @@ pub record FreesMarked (shape : FileShape) (p : ℕ) (in_use : Bool) (v w : View
   pub stays : in_use ≡ true → Goes shape (byte_of p) v w
   pub free : in_use ≡ false → is_free shape.geometry w.now (p / 8) ≡ true
   pub none : in_use ≡ false → (q : ℕ) → q / 8 ≡ p / 8 → is_allocated shape.geometry w.now q ≡ false
+  pub held : in_use ≡ false → Took w (resource.Extent (record { 0 = p / 8 }))
 
 behind_nothing : (shape : FileShape) (e : ℕ) (v w x : View) → Goes shape nothing v w → Goes shape (free_bit e) w x → Goes shape (free_bit e) v x
 behind_nothing shape e v w x first second =
@@ -145,6 +148,7 @@ record FreesExtent (shape : FileShape) (e : ℕ) (in_use : Bool) (v w : View) : 
   goes : Goes shape (free_bit e) v w
   stays : in_use ≡ true → w ≡ v
   free : in_use ≡ false → is_free shape.geometry w.now e ≡ true
+  held : in_use ≡ false → Took w (resource.Extent (record { 0 = e }))
 
 extent_goes : (shape : FileShape) (e : ℕ) (in_use : Bool) (v : View) → e < shape.pages / 8 → IsFile shape v.now → Leads (extent_freed shape e in_use) v (λ u w. FreesExtent shape e in_use v w)
 extent_goes shape e true v low f =
@@ -154,6 +158,7 @@ extent_goes shape e true v low f =
       goes = subst (Goes shape (free_bit e) v) (sym h.0) (goes_within shape nothing (free_bit e) v v (nothing_within (free_bit e)) (goes_nowhere shape v f));
       stays = λ used. h.0;
       free = λ unused. absurd (cc);
+      held = λ unused. absurd (cc);
     }) (map_reads _ _ v))
 extent_goes shape e false v low f =
     let extent = resource.Extent (record { 0 = e }) in
@@ -162,7 +167,7 @@ extent_goes shape e false v low f =
     let taken = h.0 in
     leads_from (gam_read shape e) _ w Any K (map_reads _ _ w) (λ c d.
     leads_from (sgam_read shape e) _ w Any K (map_reads _ _ w) (λ c d.
-    leads_weaker (put_gam shape e 1) w _ K (λ s x k. record { goes = behind_nothing shape e v w x taken k.0; stays = λ used. absurd (cc); free = λ unused. k.1 }) (gam_goes shape e true w low taken.file))))
+    leads_weaker (put_gam shape e 1) w _ K (λ s x k. record { goes = behind_nothing shape e v w x taken k.0; stays = λ used. absurd (cc); free = λ unused. k.1; held = λ unused. k.3 }) (gam_goes shape e true w low taken.file))))
     (take_goes shape extent v f))
 
 pub marked_goes : (shape : FileShape) (p : ℕ) (v : View) → p < shape.pages → IsFile shape v.now → Leads (marked_freed shape p) v (λ in_use w. FreesMarked shape p in_use v w)
@@ -183,17 +188,18 @@ marked_goes shape p v inside f =
       stays = λ used. subst (Goes shape (byte_of p) v) (sym (l.stays used)) put;
       free = l.free;
       none = λ unused q at. ap is_allocated_byte (freed.most.bytes q (in_extent shape x e q put.file low at) (λ c. c)) ∙ none_allocated shape x e q (is ∙ unused) at;
+      held = l.held;
     }))
     (extent_goes shape e in_use x low put.file))))
     (pfs_goes shape p 0 v inside f)))
 
 -- an extent that nobody uses any more is free
-pub left_goes : (shape : FileShape) (e : ℕ) (v : View) → e < shape.pages / 8 → IsFile shape v.now → Leads (left_freed shape e) v (λ u w. Goes shape (free_bit e) v w × (is_free shape.geometry w.now e ≡ true))
+pub left_goes : (shape : FileShape) (e : ℕ) (v : View) → e < shape.pages / 8 → IsFile shape v.now → Leads (left_freed shape e) v (λ u w. Goes shape (free_bit e) v w × (is_free shape.geometry w.now e ≡ true) × Took w (resource.Extent (record { 0 = e })))
 left_goes shape e v low f =
     let extent = resource.Extent (record { 0 = e }) in
-    let K : Unit {0} → View → Type 0 = λ u w. Goes shape (free_bit e) v w × (is_free shape.geometry w.now e ≡ true) in
+    let K : Unit {0} → View → Type 0 = λ u w. Goes shape (free_bit e) v w × (is_free shape.geometry w.now e ≡ true) × Took w extent in
     leads_then (take extent) _ v K (leads_weaker (take extent) v _ _ (λ u w h.
     let taken = h.0 in
     leads_from (gam_read shape e) _ w Any K (map_reads _ _ w) (λ c d.
-    leads_weaker (put_gam shape e 1) w _ K (λ s x k. (behind_nothing shape e v w x taken k.0, k.1)) (gam_goes shape e true w low taken.file)))
+    leads_weaker (put_gam shape e 1) w _ K (λ s x k. (behind_nothing shape e v w x taken k.0, k.1, k.3)) (gam_goes shape e true w low taken.file)))
     (take_goes shape extent v f))

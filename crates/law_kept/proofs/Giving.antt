@@ -3,6 +3,8 @@ use Rattle.std.proofs.Common.{◌≡◌, ℕ, zero, ◌/◌, ◌%◌, ◌<◌, �
 use Rattle.std.specs.Prelude.{IsTrue, if◌then◌else◌}
 use Rattle.std.specs.List.{list_any}
 use Rattle.std.proofs.lemmas.Bool.{both_ways, or_cases, or_left, false_from_ne_true}
+use Rattle.spec_file.specs.declared.data.Resource.{Resource}
+use Rattle.spec_file.specs.declared.data.Resource.TheVariants as resource
 use Rattle.spec_file.specs.declared.pfs.PfsKind.TheVariants.{Unused}
 use Rattle.spec_file.specs.CatalogRows.{CatalogRow}
 use Rattle.spec_file.specs.Image.{page}
@@ -26,6 +28,7 @@ use Rattle.spec_steps.specs.AllocatedPages.{GivesPage}
 use Rattle.spec_steps.specs.AtMost.{Changed, free_bit, byte_of, page_of, either, maps_of}
 use Rattle.spec_steps.specs.Freeing.{FreesSingle, FreesLast, chain_pages as pages_of_chain}
 use Rattle.spec_steps.specs.IamPages.{IsOutOfSlots, IsMarkCleared}
+use Rattle.spec_steps.specs.PartsRead.{LeavesAllParts}
 use Rattle.spec_steps.specs.Sgam.{HasExactSgam}
 use Rattle.spec_steps.specs.Taking.{ChangesMarkedPage}
 use Rattle.law_chains.specs.Laws.{chain_pages, IsWhole}
@@ -35,13 +38,16 @@ use Rattle.law_steps.proofs.OwnPages.{marked_page_clean}
 use Rattle.law_steps.proofs.FreedSlots.{freed_single_clean}
 use Rattle.law_steps.proofs.FreedExtents.{freed_last_clean}
 use Rattle.law_steps.proofs.AllocatedPages.{own_apart, own_allocated, single_gives, marked_gives, last_gives}
+use Rattle.law_steps.proofs.LeftParts.{freed_single_parts, marked_page_parts, freed_last_parts}
 use Rattle.law_steps.proofs.ExactSgam.{freed_single_exact, freed_last_exact, marked_exact, zero_open}
 use Rattle.law_net.specs.GoodViews.{Leads}
 use Rattle.law_net.proofs.WordLaws.{leads_then, leads_give, leads_good, leads_weaker}
 use Rattle.law_alloc.proofs.Searches.{sees_reads, leads_from}
 use Rattle.law_kept.specs.Views.{IsCleanView}
 use Rattle.law_kept.specs.Giving.{PageIsGivenBack, GivingLeavesMapsClean, GivingLeavesOthers, GivingLeavesSgamExact}
-use Rattle.law_kept.proofs.Steps.{IsFile, page_in, extent_in, Goes, goes_both, goes_within}
+use Rattle.law_kept.specs.Parts.{GivingChangesTaken}
+use Rattle.law_kept.proofs.PartsTaken.{taken_extents, all_wider, all_untaken}
+use Rattle.law_kept.proofs.Steps.{IsFile, page_in, extent_in, Goes, goes_both, goes_within, Took}
 use Rattle.law_kept.proofs.Singles.{page_extent, in_extent, neither, file_of, start_of}
 use Rattle.law_kept.proofs.ChainLists.{in_chain, chain_in}
 use Rattle.law_kept.proofs.Freed.{FreesShared, FreesMarked, left_same, shared_goes, marked_goes}
@@ -53,11 +59,14 @@ use Rattle.law_kept.proofs.IamEmptied.{slots_gone, Clears, marks_gone}
 use Rattle.law_kept.proofs.Grows.{kind_fits}
 use Rattle.law_kept.proofs.Growing.{leaves_others}
 
--- the object has page p no more, the step is on it alone, and leaves maps clean, and SGAM exact
+-- the object has page p no more, the step is on it alone, and leaves maps clean, and SGAM exact; of the parts it touches but
+-- those of its table and of extents that are taken then
 record Gives (v : View) (row : CatalogRow) (p : ℕ) (w : View) : Type 0 where
   stays : StaysClean v.shape.geometry v.now w.now row.id
   gives : GivesPage v.shape.geometry v.now w.now row p
   exact : HasExactSgam v.shape.geometry v.now → HasExactSgam v.shape.geometry w.now
+  left : LeavesAllParts v.shape.geometry v.now w.now row.id (taken_extents w)
+  taken : (r : Resource) → Took v r → Took w r
 
 zero_marks : (byte : ℕ) → byte ≡ 0 → FitsMark byte
 zero_marks byte none = subst FitsMark (sym none) (record { allocated = λ is. absurd (cc); unallocated = λ not. kind_fits Unused 0 refl })
@@ -122,6 +131,9 @@ module _ (v : View) (row : CatalogRow) (table : IsTable v.shape v row) (n : ℕ)
         stays = freed_single_clean g v.now y.now row p table.start frees;
         gives = single_gives g v.now y.now row p table.start frees;
         exact = λ exact. freed_single_exact g v.now y.now row p table.start frees exact;
+        left = all_wider g v.now y.now row.id (λ e. e ≡ p / 8) (taken_extents y)
+            (λ e here. subst (taken_extents y) (sym here) (put.taken (resource.Extent (record { 0 = p / 8 })) freed.held)) (freed_single_parts g v.now y.now row p table.start frees);
+        taken = both.taken;
       }
 
   single_given : (i : ℕ) → HoldsPage v.shape.geometry v.now row i p
@@ -157,6 +169,8 @@ module _ (v : View) (row : CatalogRow) (table : IsTable v.shape v row) (n : ℕ)
         stays = marked_page_clean g v.now w.now row p table.start sets;
         gives = marked_gives g v.now w.now row p table.start sets was (zero_open g w.now p freed.byte);
         exact = λ exact. marked_exact g v.now w.now row p table.start sets exact;
+        left = all_wider g v.now w.now row.id (λ e. ⊥) (taken_extents w) (λ e c. absurd c) (marked_page_parts g v.now w.now row p table.start sets);
+        taken = both.taken;
       }
 
   -- a page of the chain is as it was
@@ -204,6 +218,9 @@ module _ (v : View) (row : CatalogRow) (table : IsTable v.shape v row) (n : ℕ)
         stays = freed_last_clean g v.now y.now row p table.start frees;
         gives = last_gives g v.now y.now row p table.start frees was;
         exact = λ exact. freed_last_exact g v.now y.now row p table.start frees exact;
+        left = all_wider g v.now y.now row.id (λ d. d ≡ e) (taken_extents y)
+            (λ d here. subst (taken_extents y) (sym here) (put.taken (resource.Extent (record { 0 = e })) (freed.held refl))) (freed_last_parts g v.now y.now row p table.start frees);
+        taken = both.taken;
       }
 
   marked_given : IsMarked v.shape.geometry v.now row (p / 8)
@@ -267,6 +284,11 @@ giving_leaves_maps v row p clean object ordinary = leads_weaker (object_page_fre
 pub giving_leaves_others : GivingLeavesOthers
 giving_leaves_others v row p clean object ordinary =
     leads_weaker (object_page_freed v.shape row p) v _ _ (λ u w h. leaves_others v w row clean h.stays) (object_gives v row p clean object ordinary)
+
+pub giving_changes_taken : GivingChangesTaken
+giving_changes_taken v row p clean object ordinary table =
+    leads_weaker (object_page_freed v.shape row p) v _ _ (λ u w h. all_untaken v.shape.geometry v.now w row.id h.left (h.taken (resource.Table (record { 0 = row.id })) table))
+    (object_gives v row p clean object ordinary)
 
 pub giving_leaves_sgam : GivingLeavesSgamExact
 giving_leaves_sgam v row p clean object ordinary exact = leads_weaker (object_page_freed v.shape row p) v _ _ (λ u w h. h.exact exact) (object_gives v row p clean object ordinary)

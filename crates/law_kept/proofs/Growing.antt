@@ -4,6 +4,7 @@ use Rattle.std.specs.Prelude.{if◌then◌else◌}
 use Rattle.std.proofs.lemmas.Bool.{eqb-true}
 use Rattle.std.proofs.lemmas.List.{get_or-drop}
 use Rattle.byteorder.specs.Numbers.{little_from-lt}
+use Rattle.spec_file.specs.declared.data.Resource.TheVariants as resource
 use Rattle.spec_file.specs.declared.geometry.Geometry.{Geometry}
 use Rattle.spec_file.specs.CatalogRows.{CatalogRow}
 use Rattle.spec_file.specs.Header.{says}
@@ -29,6 +30,8 @@ use Rattle.law_alloc.proofs.Searches.{leads_from}
 use Rattle.law_alloc.proofs.Objects.{none_leads}
 use Rattle.law_kept.specs.Views.{IsCleanView}
 use Rattle.law_kept.specs.Growing.{PageIsGot, GrowingLeavesMapsClean, GrowingLeavesOthers, GrowingLeavesSgamExact}
+use Rattle.law_kept.specs.Parts.{GrowingChangesTaken}
+use Rattle.law_kept.proofs.PartsTaken.{all_untaken}
 use Rattle.law_kept.proofs.Singles.{Finds, either_leads, bare_from, file_of, start_of}
 use Rattle.law_kept.proofs.ReadTables.{IsReadChain, chain_now_reads}
 use Rattle.law_kept.proofs.Dropping.{IsTable}
@@ -95,6 +98,10 @@ growing_leaves_maps v row path clean object = leads_weaker (object_page v.shape 
 
 pub growing_leaves_others : GrowingLeavesOthers
 growing_leaves_others v row path clean object = leads_weaker (object_page v.shape row path) v _ _ (λ p w h. leaves_others v w row clean h.stays) (object_grows v row path clean object)
+
+pub growing_changes_taken : GrowingChangesTaken
+growing_changes_taken v row path clean object table =
+    leads_weaker (object_page v.shape row path) v _ _ (λ p w h. all_untaken v.shape.geometry v.now w row.id h.left (h.taken (resource.Table (record { 0 = row.id })) table)) (object_grows v row path clean object)
 
 pub growing_leaves_sgam : GrowingLeavesSgamExact
 growing_leaves_sgam v row path clean object others exact =

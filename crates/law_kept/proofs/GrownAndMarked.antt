@@ -20,6 +20,7 @@ use Rattle.spec_steps.specs.Acts.{Owns, StaysClean}
 use Rattle.spec_steps.specs.AllocatedPages.{KeepsPages, GetsPage}
 use Rattle.spec_steps.specs.AtMost.{Changed, AtMost, free_bit, byte_of, page_of, either}
 use Rattle.spec_steps.specs.IamPages.{IsNextSet, IsMarkSet, IsLastIam}
+use Rattle.spec_steps.specs.PartsRead.{LeavesAllParts}
 use Rattle.spec_steps.specs.Sgam.{HasExactSgam}
 use Rattle.spec_steps.specs.Taking.{HasOpenPage, IsTakeable, IsTakenAs, MarksExtent, GrowsChain}
 use Rattle.spec_steps.specs.Writes.{Single, WritesSingle}
@@ -38,6 +39,8 @@ use Rattle.law_steps.proofs.GrownChains.{onto, new_page, pointer_new, growth_cle
 use Rattle.law_steps.proofs.MarkedExtents.{mark_clean}
 use Rattle.law_steps.proofs.AllocatedPages.{single_pages, growth_keeps, mark_gets}
 use Rattle.law_steps.proofs.ExactSgam.{single_changes, growth_exact, mark_exact}
+use Rattle.law_steps.proofs.LeftParts.{growth_parts, mark_parts}
+use Rattle.law_kept.proofs.PartsTaken.{all_both}
 use Rattle.law_kept.proofs.Steps.{IsFile, file_shape, page_in, extent_in}
 use Rattle.law_kept.proofs.Words.{file_put}
 use Rattle.law_kept.proofs.NewPages.{last_iam}
@@ -267,6 +270,15 @@ module _ (shape : FileShape) (row : CatalogRow) (image image' : Image) (j p q : 
       let m = middle.0 in
       let w = middle.1 in
       keeps_gets g image m image' row p (growth_keeps g image m row j q start (grows m w)) (mark_gets g m image' row (suc j) (p / 8) p (start_m m w) (marks m w))
+
+  pub both_left : LeavesAllParts shape.geometry image image' row.id (λ e. (e ≡ q / 8) ⊎ (e ≡ p / 8))
+  both_left =
+      let g = shape.geometry in
+      let m = middle.0 in
+      let w = middle.1 in
+      let most = w.most in
+      all_both g image m image' row.id (λ e. e ≡ q / 8) (λ e. e ≡ p / 8) most.size both_clean.acts (growth_parts g image m row j q start (grows m w))
+      (mark_parts g m image' row (suc j) (p / 8) p (start_m m w) (marks m w))
 
   pub both_exact : (IsTrue (is_mixed shape.geometry image' (q / 8)) ↔ HasOpenPage shape.geometry image' (q / 8)) → HasExactSgam shape.geometry image → HasExactSgam shape.geometry image'
   both_exact here exact =

@@ -1,5 +1,6 @@
 -- What holds where an object has got a page; and what is shared by the three ways to get one.
 use Rattle.std.proofs.Common.{◌≡◌, ℕ, ◌<◌, true, List, Option, Some, None, refl, sym, ap, subst, ◌∙◌}
+use Rattle.spec_file.specs.declared.data.Resource.{Resource}
 use Rattle.spec_file.specs.declared.pfs.PfsKind.{PfsKind}
 use Rattle.spec_file.specs.declared.pfs.PfsKind.TheVariants.{Uniform}
 use Rattle.spec_file.specs.CatalogRows.{CatalogRow}
@@ -15,21 +16,25 @@ use Rattle.spec_extents.specs.Extents.{Fits, FitsMark}
 use Rattle.spec_steps.specs.AtMost.{byte_of}
 use Rattle.spec_steps.specs.Acts.{StaysClean}
 use Rattle.spec_steps.specs.AllocatedPages.{GetsPage}
+use Rattle.spec_steps.specs.PartsRead.{LeavesAllParts}
 use Rattle.spec_steps.specs.Sgam.{HasExactSgam}
 use Rattle.law_net.specs.GoodViews.{Leads}
 use Rattle.law_net.proofs.WordLaws.{leads_then, leads_give, leads_weaker}
 use Rattle.law_alloc.proofs.Searches.{sees_reads, leads_from}
-use Rattle.law_kept.proofs.Steps.{IsFile, Goes}
+use Rattle.law_kept.proofs.PartsTaken.{taken_extents}
+use Rattle.law_kept.proofs.Steps.{IsFile, Took, Goes}
 use Rattle.law_kept.proofs.Words.{pfs_goes}
 use Rattle.law_kept.proofs.Singles.{AreBare, Finds}
 use Rattle.law_kept.proofs.NewChains.{taken_reads}
 
 -- the object has page p more, the step is on it alone, and leaves maps clean; and SGAM exact, where others hold extents
--- with bytes
+-- with bytes. Of the parts it touches but those of its table and of extents that are taken then
 pub record Grows (shape : FileShape) (row : CatalogRow) (v : View) (p : ℕ) (w : View) : Type 0 where
   pub stays : StaysClean shape.geometry v.now w.now row.id
   pub gets : GetsPage shape.geometry v.now w.now row p
   pub exact : AreBare shape v → HasExactSgam shape.geometry v.now → HasExactSgam shape.geometry w.now
+  pub left : LeavesAllParts shape.geometry v.now w.now row.id (taken_extents w)
+  pub taken : (r : Resource) → Took v r → Took w r
 
 -- what is found, and what is then done with it
 pub where_leads : (plan : Plan (Option ℕ)) (next : ℕ → Plan ℕ) (v : View) (T K : ℕ → View → Type 0) → Leads plan v (Finds v T) → ((p : ℕ) (w : View) → T p w → Leads (next p) w K) →

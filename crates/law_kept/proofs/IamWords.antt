@@ -36,7 +36,7 @@ page_low shape v p f inside = let file = f.file in number_low shape.geometry p s
 module _ (shape : FileShape) (q : ℕ) (own : IsOwnPage shape q) (v : View) (f : IsFile shape v.now) where
   -- bytes of the page
   pub iam_goes : (at : ℕ) (bytes : List ℕ) → Leads (put_iam q at bytes) v (λ u w. Goes shape (page_of q) v w × (page w.now q ≡ with_bytes (page v.now q) at bytes))
-  iam_goes at bytes = page_goes shape (resource.Page (record { 0 = q })) q at bytes v own.inside (inr own.ordinary) f
+  iam_goes at bytes = leads_weaker (put_iam q at bytes) v _ _ (λ u w h. (h.0, h.1)) (page_goes shape (resource.Page (record { 0 = q })) q at bytes v own.inside (inr own.ordinary) f)
 
   long : length (page v.now q) ≡ 8192
   long = f.whole q [] (page_in shape v.now q f own.inside)

@@ -5,6 +5,7 @@ pub mod NewPages
 pub mod NewChains
 pub mod EntryPages
 pub mod NewEntries
+pub mod PartsTaken
 pub mod Created
 pub mod ChainLists
 pub mod IamWrites

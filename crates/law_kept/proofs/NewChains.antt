@@ -25,7 +25,7 @@ use Rattle.law_net.specs.GoodViews.{Leads}
 use Rattle.law_net.proofs.WordLaws.{leads_then, leads_give, leads_good, leads_look, leads_weaker}
 use Rattle.law_alloc.proofs.Objects.{none_leads}
 use Rattle.law_kept.specs.Singles.{TakesIam, ChainIsTaken}
-use Rattle.law_kept.proofs.Steps.{IsFile, page_in, Goes, goes_both}
+use Rattle.law_kept.proofs.Steps.{IsFile, page_in, Took, Goes, goes_both}
 use Rattle.law_kept.proofs.Words.{page_goes}
 use Rattle.law_kept.proofs.Singles.{IsBare, IsExact, Finds, Takes, single_goes, starts_open, page_extent, in_extent, file_of, start_of}
 use Rattle.law_kept.proofs.Steps.{extent_in}
@@ -64,7 +64,7 @@ number_low Small p n low few = omega (arith, low, few)
 
 module _ (shape : FileShape) (id : ℕ) (v : View) (f : IsFile shape v.now) (start : IsStart shape.geometry v.now) (low_id : id < 256 ^ 4) where
   abbrev pub Chains : ℕ → View → Type 0
-  Chains q w = Goes shape (either (maps_of q) (page_of q)) v w × TakesIam shape.geometry id q v.now w.now × (IsBare shape v (q / 8) → IsExact shape (q / 8) w)
+  Chains q w = Goes shape (either (maps_of q) (page_of q)) v w × TakesIam shape.geometry id q v.now w.now × (IsBare shape v (q / 8) → IsExact shape (q / 8) w) × Took w (resource.Extent (record { 0 = q / 8 }))
 
   page_put : (q : ℕ) (w : View) → Takes shape v (expected Iam 0) q w → Leads (put_page q (new_iam_page id q 0 0 0)) w (λ u x. Chains q x)
   page_put q w h =
@@ -87,6 +87,7 @@ module _ (shape : FileShape) (id : ℕ) (v : View) (f : IsFile shape v.now) (sta
           new = subst (IsOnlyIam id q) (sym is) (only_iam id q low_id low);
         },
         (λ bare. exact_on shape q (q / 8) w x (page_extent shape v q f inside) after k.0 (t.mixed bare)),
+        (k.0).taken (resource.Extent (record { 0 = q / 8 })) t.held,
       ))
       (page_goes shape (resource.Page (record { 0 = q })) q 0 (new_iam_page id q 0 0 0) w inside (inr takeable.ordinary) after)
 

@@ -1,5 +1,6 @@
 -- A single page becomes the last of a chain.
 use Rattle.std.proofs.Common.{◌≡◌, ◌≢◌, ℕ, ◌/◌, ◌<◌, false, List, [], ◌++◌, length, Option, Some, None, refl, sym, subst, ◌∙◌, inl, inr, ⊎_elim}
+use Rattle.spec_file.specs.declared.data.Resource.TheVariants as resource
 use Rattle.spec_file.specs.declared.pfs.PfsKind.TheVariants.{Iam}
 use Rattle.spec_file.specs.CatalogRows.{CatalogRow}
 use Rattle.spec_file.specs.Image.{page}
@@ -20,7 +21,7 @@ use Rattle.spec_steps.specs.Taking.{IsTakeable}
 use Rattle.law_net.specs.GoodViews.{Leads}
 use Rattle.law_net.proofs.WordLaws.{leads_then, leads_give, leads_weaker}
 use Rattle.law_alloc.proofs.Objects.{none_leads}
-use Rattle.law_kept.proofs.Steps.{IsFile, page_in, extent_in, Goes, goes_both, goes_within}
+use Rattle.law_kept.proofs.Steps.{IsFile, page_in, extent_in, Took, Goes, goes_both, goes_within}
 use Rattle.law_kept.proofs.Singles.{Opens, Takes, Finds, IsBare, IsExact, single_goes, page_extent}
 use Rattle.law_kept.proofs.NewPages.{page_long, whole_put}
 use Rattle.law_kept.proofs.NewChains.{exact_on}
@@ -36,6 +37,7 @@ pub record TakesNext (shape : FileShape) (last : ℕ) (bytes : List ℕ) (x : Vi
   pub exact : IsBare shape x (q / 8) → IsExact shape (q / 8) z
   pub own : page z.now q ≡ bytes
   pub linked : IsNextSet q (page x.now last) (page z.now last)
+  pub held : Took z (resource.Extent (record { 0 = q / 8 }))
 
 module _ (shape : FileShape) (row : CatalogRow) (chain path : List ℕ) (p last : ℕ) (x : View) (f : IsFile shape x.now) (opens : Opens shape x) (own : IsOwnPage shape last)
     (is_last : last_of 0 chain ≡ last) (other : (q : ℕ) → IsTakeable shape.geometry x.now q → q ≢ last) where
@@ -75,6 +77,7 @@ module _ (shape : FileShape) (row : CatalogRow) (chain path : List ℕ) (p last 
             ∙ whole_put (page w.now q) (new_iam_page row.id q (last_of 0 chain) (interval_of_page shape.geometry p) (length chain))
             (long ∙ sym (file.whole q [] (page_in shape w.now q goes.file inside)));
         linked = subst (λ b. IsNextSet q b (page z.now last)) old set;
+        held = link.taken (resource.Extent (record { 0 = q / 8 })) (put.taken (resource.Extent (record { 0 = q / 8 })) t.held);
       }
 
   pub next_taken : Leads (new_iam shape row chain path p) x Next

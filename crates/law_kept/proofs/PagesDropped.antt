@@ -8,7 +8,7 @@ use Rattle.spec_file.specs.declared.geometry.Geometry.{Geometry}
 use Rattle.spec_file.specs.CatalogRows.{CatalogRow}
 use Rattle.spec_file.specs.Iam.{single_slot_count, iam_interval, iam_mark, iam_slots}
 use Rattle.spec_file.specs.Image.{page}
-use Rattle.spec_file.specs.Places.{is_free, interval_size, interval_of_page}
+use Rattle.spec_file.specs.Places.{is_free, extent_count, interval_size, interval_of_page}
 use Rattle.spec_file.specs.Roles.{is_ordinary}
 use Rattle.spec_chain.specs.Chains.{IsInChain, pointer}
 use Rattle.spec_chain.specs.Marks.{IsMarked}
@@ -35,7 +35,7 @@ use Rattle.law_net.specs.GoodViews.{Leads}
 use Rattle.law_net.proofs.WordLaws.{leads_then, leads_give, leads_weaker}
 use Rattle.law_alloc.proofs.Searches.{sees_reads, leads_from}
 use Rattle.law_kept.specs.Drops.{maps_dropped, GivesBack, PagesAreGivenBack}
-use Rattle.law_kept.proofs.Steps.{IsFile, page_in, extent_in, Goes, IsWithin}
+use Rattle.law_kept.proofs.Steps.{IsFile, page_in, extent_in, Took, Goes, IsWithin}
 use Rattle.law_kept.proofs.Singles.{any_from, page_extent, neither, file_of, start_of}
 use Rattle.law_kept.proofs.ChainLists.{in_chain, chain_in}
 use Rattle.law_kept.proofs.Freed.{shared_goes, marked_goes, left_goes}
@@ -93,7 +93,7 @@ module _ (shape : FileShape) (v : View) (row : CatalogRow) (table : IsTable shap
       } in
       let fall : BytesFall shape v row table w x = λ q inside_. ⊎_elim (λ here. inr (ap (pfs_byte g x.now) here ∙ step.byte)) (λ other. inl (same q inside_ other)) (cases_eq q p) in (
         drops_on shape v row table p (maps_of p) w x inside drops moved within at fall (λ h. settles),
-        record { inside = inside; byte = step.byte; shared = λ place_ by_. step.left },
+        record { inside = inside; byte = step.byte; shared = λ place_ by_. step.left; held = λ place_ by_. step.held },
         done_on shape v row table p (maps_of p) w x inside drops moved within at fall (λ h. settles),
       ))
       (shared_goes shape p w inside goes.file (drops.busy (p / 8) low uses))
@@ -118,14 +118,19 @@ module _ (shape : FileShape) (v : View) (row : CatalogRow) (table : IsTable shap
       (λ other. inl (moved.most.bytes q (page_in shape w.now q goes.file inside_) (λ c. other (at.bytes q c)))) (cases_eq q p) in
       let settles = λ (uses : UsesOf g v.now row (p / 8)). absurd {A = Settles shape v row table p x} (not_both shape v row table (p / 8) low uses marked) in (
         drops_on shape v row table p c w x inside drops moved within at fall settles,
-        record { inside = inside; byte = step.byte; shared = λ place by. absurd (not_both shape v row table (p / 8) low (p, refl, place, by) marked) },
+        record {
+          inside = inside;
+          byte = step.byte;
+          shared = λ place by. absurd (not_both shape v row table (p / 8) low (p, refl, place, by) marked);
+          held = λ place by. absurd (not_both shape v row table (p / 8) low (p, refl, place, by) marked);
+        },
         done_on shape v row table p c w x inside drops moved within at fall settles,
       ))
       (marked_goes shape p w inside goes.file)
 
   -- extent e is free, and what is given back stays so
   abbrev Freed : ℕ → View → Type 0
-  Freed e w = (e < shape.pages / 8) × (is_free shape.geometry w.now e ≡ true)
+  Freed e w = (e < shape.pages / 8) × (is_free shape.geometry w.now e ≡ true) × Took w (resource.Extent (record { 0 = e }))
 
   left_step : (e : ℕ) (w : View) → e < shape.pages / 8 → IsMarked shape.geometry v.now row e → Dropped w →
       Leads (left_freed shape e) w (λ u x. (Dropped x × ((q : ℕ) → Done q w → Done q x)) × Freed e x × ((d : ℕ) → Freed d w → Freed d x))
@@ -147,12 +152,16 @@ module _ (shape : FileShape) (v : View) (row : CatalogRow) (table : IsTable shap
       let fall : BytesFall shape v row table w x = λ q inside_. inl (moved.most.bytes q (page_in shape w.now q goes.file inside_) (λ c. c)) in
       let settles = λ (uses : UsesOf g v.now row (p / 8)). absurd {A = Settles shape v row table p x} (not_both shape v row table e low (subst (UsesOf g v.now row) (sym here) uses) marked) in (
         (drops_on shape v row table p (free_bit e) w x inside drops moved within at fall settles, done_on shape v row table p (free_bit e) w x inside drops moved within at fall settles),
-        (low, step.1),
-        λ d old. (old.0, ⊎_elim (λ same. ap (is_free g x.now) same ∙ step.1) (λ other. moved.most.free d (extent_in shape w.now d goes.file old.0) other ∙ old.1) (cases_eq d e)),
+        (low, step.1, step.2),
+        λ d old. (old.0, ⊎_elim (λ same. ap (is_free g x.now) same ∙ step.1) (λ other. moved.most.free d (extent_in shape w.now d goes.file old.0) other ∙ old.1) (cases_eq d e), moved.taken (resource.Extent (record { 0 = d })) old.2),
       ))
       (left_goes shape e w low goes.file)
 
 -- ---- all of them
+
+-- the extents that the object marks or uses pages of are taken
+abbrev pub TakesBack : View → CatalogRow → View → Type 0
+TakesBack v row y = (e : ℕ) → e < extent_count v.now → IsMarked v.shape.geometry v.now row e ⊎ UsesOf v.shape.geometry v.now row e → Took y (resource.Extent (record { 0 = e }))
 
 module _ (v : View) (row : CatalogRow) (table : IsTable v.shape v row) (n : ℕ) (whole : IsWhole v.shape.geometry v.now row n) where
   abbrev g : Geometry
@@ -220,7 +229,7 @@ module _ (v : View) (row : CatalogRow) (table : IsTable v.shape v row) (n : ℕ)
 
   -- all that the object has is given back
   abbrev pub Back : Unit {0} → View → Type 0
-  Back u y = Goes v.shape (maps_dropped v.shape.geometry v.now row) v y × GivesBack v.shape.geometry v.now y.now row
+  Back u y = Goes v.shape (maps_dropped v.shape.geometry v.now row) v y × GivesBack v.shape.geometry v.now y.now row × TakesBack v row y
 
   abbrev AllGiven : View → Type 0
   AllGiven w = (p : ℕ) → Has v.shape.geometry v.now row p → Given p w
@@ -284,6 +293,10 @@ module _ (v : View) (row : CatalogRow) (table : IsTable v.shape v row) (n : ℕ)
             shared = λ e low uses. let gone = l.0.1 uses.0 (use_owns v.shape v row table uses.0 uses.2 uses.3) in
                 subst (IsLeftShared v.shape.geometry y.now) uses.1 (gone.shared uses.2 uses.3);
           },
+          λ e low touched. ⊎_elim
+              (λ marked. (l.1 e (subst (λ list. Contains list e) (sym same) (left_in e z (subst (λ m. e < m / 8) file.pages low) marked drops given))).2)
+              (λ uses. let gone = l.0.1 uses.0 (use_owns v.shape v row table uses.0 uses.2 uses.3) in
+              subst (λ d. Took y (resource.Extent (record { 0 = d }))) uses.1 (gone.held uses.2 uses.3)) touched,
         ))
         (each_does (left_freed v.shape) es (λ y. Falls y × AllGiven y) (Freed v.shape v row table) z (λ e y there keeps.
         let at = left_from e z drops (subst (λ list. Contains list e) same there) in
@@ -315,9 +328,9 @@ module _ (v : View) (row : CatalogRow) (table : IsTable v.shape v row) (n : ℕ)
         (each_does (page_dropped v.shape (chain_pages v.now row n)) pages Falls Given v (λ p y there keeps. page_step p y (from p there) keeps) (drops_none v.shape v row table)))))
 
 pub pages_give_back : (v : View) (row : CatalogRow) → IsTable v.shape v row →
-    Leads (pages_dropped v.shape row) v (λ u y. Goes v.shape (maps_dropped v.shape.geometry v.now row) v y × GivesBack v.shape.geometry v.now y.now row)
+    Leads (pages_dropped v.shape row) v (λ u y. Goes v.shape (maps_dropped v.shape.geometry v.now row) v y × GivesBack v.shape.geometry v.now y.now row × TakesBack v row y)
 pages_give_back v row table =
-    let K : Unit {0} → View → Type 0 = λ u y. Goes v.shape (maps_dropped v.shape.geometry v.now row) v y × GivesBack v.shape.geometry v.now y.now row in
+    let K : Unit {0} → View → Type 0 = λ u y. Goes v.shape (maps_dropped v.shape.geometry v.now row) v y × GivesBack v.shape.geometry v.now y.now row × TakesBack v row y in
     let file = table.file in
     let form = file.file in
     let low = form.low in

@@ -28,7 +28,7 @@ use Rattle.law_alloc.proofs.Searches.{sees_reads, leads_from, search_reads}
 use Rattle.law_alloc.proofs.Singles.{first_kept}
 use Rattle.law_kept.specs.Views.{OthersHoldExtents, IsCleanView}
 use Rattle.law_kept.specs.Singles.{TakesPage, SingleIsTaken, SingleSetsSgam}
-use Rattle.law_kept.proofs.Steps.{IsFile, file_shape, page_in, extent_in, Goes, goes_both, goes_within, nothing, nothing_within, goes_nowhere}
+use Rattle.law_kept.proofs.Steps.{IsFile, file_shape, page_in, extent_in, Took, Goes, goes_both, goes_within, nothing, nothing_within, goes_nowhere}
 use Rattle.law_kept.proofs.Words.{take_goes, gam_goes, sgam_goes, pfs_goes}
 
 -- the pages of an extent
@@ -114,6 +114,7 @@ pub record IsTaken (shape : FileShape) (value p : ℕ) (v w : View) : Type 0 whe
   pub free : is_free shape.geometry w.now (p / 8) ≡ false
   pub mixed : IsBare shape v (p / 8) → IsExact shape (p / 8) w
   pub byte : pfs_byte shape.geometry w.now p ≡ value
+  pub held : Took w (resource.Extent (record { 0 = p / 8 }))
 
 pub neither : ⊥ ⊎ ⊥ → ⊥
 neither h = ⊎_elim (λ x. x) (λ x. x) h
@@ -150,6 +151,7 @@ mixed_goes shape value p v inside allocated f mixed free =
         free = (l.0).most.free e (extent_in shape x.now e b.file low) (λ c. c) ∙ free_x;
         mixed = λ bare. l.1 (bare_on shape v x e both.other opens bare);
         byte = (l.0).most.bytes p (page_in shape x.now p b.file inside) (λ c. c) ∙ k.1;
+        held = (l.0).taken extent (b.taken extent h.3);
       },
     ))
     (lower_goes shape e x low b.file mixed_x (ap (λ o. o extent) both.other ∙ h.2))))
@@ -185,6 +187,7 @@ free_goes shape value p v inside allocated f =
         free = t.free;
         mixed = λ bare. t.mixed (bare_on shape v x e both.other opens bare);
         byte = t.byte;
+        held = t.held;
       },
     ))
     (mixed_goes shape value p x inside allocated b.file k.1 free_x))

@@ -2,6 +2,7 @@
 use Rattle.std.proofs.Common.{◌≡◌, ℕ, zero, ◌/◌, ◌<◌, ◌==◌, ◌&&◌, false, List, ◌++◌, Option, Some, None, refl, sym, subst, inl, inr, ⊎_elim, arith}
 use Rattle.std.specs.Prelude.{IsTrue}
 use Rattle.std.proofs.lemmas.Bool.{and_parts, eqb-true}
+use Rattle.spec_file.specs.declared.data.Resource.TheVariants as resource
 use Rattle.spec_file.specs.declared.pfs.PfsKind.TheVariants.{Single, Uniform}
 use Rattle.spec_file.specs.CatalogRows.{CatalogRow}
 use Rattle.spec_file.specs.Iam.{single_slot_count, iam_slot}
@@ -30,6 +31,7 @@ use Rattle.law_steps.proofs.OwnPages.{marked_page_clean}
 use Rattle.law_steps.proofs.FilledSlots.{slot_clean}
 use Rattle.law_steps.proofs.AllocatedPages.{slot_gets, marked_gets}
 use Rattle.law_steps.proofs.ExactSgam.{slot_exact, marked_exact}
+use Rattle.law_steps.proofs.LeftParts.{slot_parts, marked_page_parts}
 use Rattle.law_net.specs.GoodViews.{Leads}
 use Rattle.law_net.proofs.WordLaws.{leads_then, leads_give, leads_weaker}
 use Rattle.law_alloc.specs.Keeps.{IfFound}
@@ -39,6 +41,7 @@ use Rattle.law_kept.proofs.Steps.{page_in, Goes, goes_both, goes_within, IsWithi
 use Rattle.law_kept.proofs.Singles.{Takes, Finds, found_leads, single_goes, starts_open, spare_parts, bare_at, page_extent}
 use Rattle.law_kept.proofs.NewChains.{held_on, exact_on}
 use Rattle.law_kept.proofs.Dropping.{IsTable}
+use Rattle.law_kept.proofs.PartsTaken.{taken_extents, all_wider}
 use Rattle.law_kept.proofs.IamWords.{IsOwnPage, page_low, slot_goes}
 use Rattle.law_kept.proofs.Grows.{Grows, where_leads, after_taken, kind_fits, uniform_marks, uniform_allocated, marked_taken}
 
@@ -102,6 +105,9 @@ module _ (v : View) (row : CatalogRow) (table : IsTable v.shape v row) (n : ℕ)
           mixed = exact_on shape row.first_iam (p / 8) w y (page_extent shape v p file inside) goes.file put (t.mixed (bare_at shape v p file table.start bare takeable));
           byte = kept.byte;
         }) exact;
+        left = all_wider shape.geometry v.now y.now row.id (λ e. e ≡ p / 8) (taken_extents y)
+            (λ e here. subst (taken_extents y) (sym here) (put.taken (resource.Extent (record { 0 = p / 8 })) t.held)) (slot_parts shape.geometry v.now y.now row i p table.start puts);
+        taken = both.taken;
       }
 
   pub slot_grows : (path : List ℕ) → Leads (slot_page v.shape (chain_pages v.now row n) path) v (Finds v (Grows v.shape row v))
@@ -161,6 +167,8 @@ module _ (v : View) (row : CatalogRow) (table : IsTable v.shape v row) (n : ℕ)
         stays = marked_page_clean g v.now w.now row p table.start sets;
         gets = marked_gets g v.now w.now row p table.start sets is.open_page (uniform_allocated (pfs_byte g w.now p) byte);
         exact = λ bare exact. marked_exact g v.now w.now row p table.start sets exact;
+        left = all_wider g v.now w.now row.id (λ e. ⊥) (taken_extents w) (λ e c. absurd c) (marked_page_parts g v.now w.now row p table.start sets);
+        taken = put.taken;
       }
 
   pub marked_grows : (path : List ℕ) → Leads (marked_page v.shape (chain_pages v.now row n) path) v (Finds v (Grows v.shape row v))

@@ -1,9 +1,11 @@
 -- What words leave of a view: its file's form, who holds what, and all but a few places of its image.
-use Rattle.std.proofs.Common.{◌≡◌, ℕ, ◌/◌, ◌<◌, length, refl, sym, subst, ◌∙◌, arith}
+use Rattle.std.proofs.Common.{◌≡◌, ℕ, ◌/◌, ◌<◌, true, length, refl, sym, subst, ◌∙◌, arith}
+use Rattle.spec_file.specs.declared.data.Resource.{Resource}
 use Rattle.spec_file.specs.Image.{Image}
 use Rattle.spec_file.specs.Places.{HasShape, extent_count}
 use Rattle.spec_log.specs.Cells.{HasWholePages}
 use Rattle.spec_words.specs.NetChanges.{FileShape}
+use Rattle.spec_words.specs.Takes.{is_among}
 use Rattle.spec_words.specs.Views.{View}
 use Rattle.spec_steps.specs.AtMost.{Changed, AtMost, either}
 use Rattle.spec_file.specs.declared.geometry.Geometry.{Geometry}
@@ -27,12 +29,17 @@ extent_in shape image e f inside = subst (λ n. e < n / 8) (sym f.pages) inside
 pub nine_inside : (shape : FileShape) (image : Image) → IsFile shape image → 9 < shape.pages
 nine_inside shape image f = let file = f.file in let low = file.low in omega (arith, low)
 
+-- the statement has taken the resource
+abbrev pub Took : View → Resource → Type 0
+Took v r = is_among v.taken r ≡ true
+
 -- from one view to a later one of the same statement
 pub record Goes (shape : FileShape) (changed : Changed) (v w : View) : Type 0 where
   pub file : IsFile shape w.now
   pub same : w.shape ≡ v.shape
   pub other : w.other ≡ v.other
   pub most : AtMost shape.geometry changed v.now w.now
+  pub taken : (r : Resource) → Took v r → Took w r
 
 pub goes_both : (shape : FileShape) (a b : Changed) (v w x : View) → Goes shape a v w → Goes shape b w x → Goes shape (either a b) v x
 goes_both shape a b v w x first second = record {
@@ -40,6 +47,7 @@ goes_both shape a b v w x first second = record {
   same = second.same ∙ first.same;
   other = second.other ∙ first.other;
   most = at_most_both shape.geometry a b v.now w.now x.now first.most second.most;
+  taken = λ r took. second.taken r (first.taken r took);
 }
 
 -- what one changes at most, the other does too
@@ -60,7 +68,13 @@ most_within g a b image image' within most = record {
 }
 
 pub goes_within : (shape : FileShape) (a b : Changed) (v w : View) → IsWithin a b → Goes shape a v w → Goes shape b v w
-goes_within shape a b v w within goes = record { file = goes.file; same = goes.same; other = goes.other; most = most_within shape.geometry a b v.now w.now within goes.most }
+goes_within shape a b v w within goes = record {
+  file = goes.file;
+  same = goes.same;
+  other = goes.other;
+  most = most_within shape.geometry a b v.now w.now within goes.most;
+  taken = goes.taken;
+}
 
 -- nothing changes
 abbrev pub nothing : Changed
@@ -82,4 +96,5 @@ goes_nowhere shape v f = record {
     pages = λ q whole other. refl;
     system = λ q type low other is. refl;
   };
+  taken = λ r took. took;
 }

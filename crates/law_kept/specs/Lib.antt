@@ -4,3 +4,4 @@ pub mod Creates
 pub mod Drops
 pub mod Growing
 pub mod Giving
+pub mod Parts

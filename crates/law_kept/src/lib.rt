@@ -6,6 +6,7 @@ ghost use Rattle.law_kept.specs.Creates.{CreateCreates, CreateLeavesMapsClean, C
 ghost use Rattle.law_kept.specs.Drops.{PagesAreGivenBack, DropDrops, DropLeavesMapsClean, DropLeavesFileClean, DropLeavesSgamExact};
 ghost use Rattle.law_kept.specs.Giving.{PageIsGivenBack, GivingLeavesMapsClean, GivingLeavesOthers, GivingLeavesSgamExact};
 ghost use Rattle.law_kept.specs.Growing.{PageIsGot, GrowingLeavesMapsClean, GrowingLeavesOthers, GrowingLeavesSgamExact};
+ghost use Rattle.law_kept.specs.Parts.{CreateChangesTaken, DropChangesTaken, GrowingChangesTaken, GivingChangesTaken};
 ghost use Rattle.law_kept.specs.Singles.{SingleIsTaken, SingleSetsSgam, ChainIsTaken};
 
 /// A single page that is found on a clean view is a page that nobody has, and is taken; and so is the page of a new
@@ -55,4 +56,13 @@ pub fn giving_laws()
     ensures maps { GivingLeavesMapsClean }
     ensures others { GivingLeavesOthers }
     ensures sgam { GivingLeavesSgamExact }
+{}
+
+/// On a clean view CREATE HEAP and DROP change what a part of a clean file reads only where they have taken the part's
+/// resource; so do a page that an object gets and one that it gives back, where the object's table is taken.
+pub fn part_laws()
+    ensures create { CreateChangesTaken }
+    ensures drop { DropChangesTaken }
+    ensures growing { GrowingChangesTaken }
+    ensures giving { GivingChangesTaken }
 {}

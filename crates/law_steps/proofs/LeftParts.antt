@@ -1,5 +1,5 @@
 -- What each step leaves of what the parts of a clean file read.
-use Rattle.std.proofs.Common.{◌≡◌, ◌≢◌, ◌⊎◌, ◌↔◌, ℕ, zero, ◌/◌, ◌<◌, true, false, IsTrue, length, refl, sym, ap, subst, ◌∙◌, inl, inr, ⊎_elim}
+use Rattle.std.proofs.Common.{◌≡◌, ◌≢◌, ◌⊎◌, ◌↔◌, ℕ, zero, ◌/◌, ◌<◌, true, IsTrue, refl, sym, ap, subst, ◌∙◌, inl, inr, ⊎_elim}
 use Rattle.std.proofs.lemmas.Bool.{both_ways}
 use Rattle.spec_file.specs.declared.geometry.Geometry.{Geometry}
 use Rattle.spec_file.specs.Image.{Image}
@@ -12,7 +12,7 @@ use Rattle.spec_chain.specs.Uses.{Use, IsUse, HasUse}
 use Rattle.spec_steps.specs.Acts.{Acts}
 use Rattle.spec_steps.specs.AtMost.{Changed, AtMost, free_bit, byte_of, page_of, either, maps_of}
 use Rattle.spec_steps.specs.Freeing.{FreesSingle, FreesLast, chain_pages}
-use Rattle.spec_steps.specs.PartsRead.{ReadsSameCatalog, IsOfExtent, ReadsSameExtent, ReadsSameTable, LeavesParts, LeavesAllParts}
+use Rattle.spec_steps.specs.PartsRead.{ReadsSameCatalog, IsOfExtent, ReadsSameExtent, ReadsSameTable, LeavesAllParts}
 use Rattle.spec_steps.specs.Taking.{PutsIntoSlot, ChangesSinglePage, ChangesMarkedPage, MarksExtent, GrowsChain}
 use Rattle.law_writes.proofs.MapPages.{boot_not, differs}
 use Rattle.law_frames.proofs.Held.{IsStart, held}

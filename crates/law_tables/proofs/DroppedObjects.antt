@@ -13,7 +13,7 @@ use Rattle.spec_chain.specs.Uses.{Use, IsUse, IsUseBy, pfs_byte, is_allocated}
 use Rattle.spec_extents.specs.Extents.{Extent, extent_of, IsGoodExtent}
 use Rattle.spec_clean.specs.CleanFiles.{IsClean}
 use Rattle.spec_steps.specs.AtMost.{Changed}
-use Rattle.spec_steps.specs.Acts.{Owns, Acts, StaysClean}
+use Rattle.spec_steps.specs.Acts.{Acts, StaysClean}
 use Rattle.spec_steps.specs.PartsRead.{LeavesParts}
 use Rattle.spec_steps.specs.Tables.{Has, UsesOf, dropped, DropsObject}
 use Rattle.law_writes.proofs.MapPages.{boot_not, differs}

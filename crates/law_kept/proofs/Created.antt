@@ -32,7 +32,7 @@ use Rattle.law_net.proofs.WordLaws.{leads_then, leads_give, leads_refuse, leads_
 use Rattle.law_net.proofs.ReadingLeaves.{Reads}
 use Rattle.law_alloc.proofs.Searches.{give_reads, leads_from}
 use Rattle.law_kept.specs.Views.{IsCleanView}
-use Rattle.law_kept.specs.Parts.{CreateChangesTaken}
+use Rattle.law_kept.specs.Parts.{ChangesTaken}
 use Rattle.law_kept.specs.Singles.{TakesIam}
 use Rattle.law_kept.specs.Creates.{CreatesHeap, CreateCreates, CreateLeavesMapsClean, CreateLeavesFileClean, CreateLeavesSgamExact}
 use Rattle.law_kept.proofs.Steps.{IsFile, page_in, nine_inside, Took, Goes, goes_both, goes_within, nothing}
@@ -159,7 +159,7 @@ creates_of v name named clean = create_goes v.shape name named v (file_of v clea
 pub create_creates : CreateCreates
 create_creates v name named clean = leads_weaker (create_plan v.shape name) v _ _ (λ reply w h. h.heap) (creates_of v name named clean)
 
-pub create_changes_taken : CreateChangesTaken
+pub create_changes_taken : (v : View) (name : List ℕ) → is_name name ≡ true → IsCleanView v → Leads (create_plan v.shape name) v (λ reply w. ChangesTaken v w)
 create_changes_taken v name named clean = leads_weaker (create_plan v.shape name) v _ _ (λ reply w h. h.parts) (creates_of v name named clean)
 
 pub create_leaves_maps : CreateLeavesMapsClean

@@ -34,7 +34,7 @@ use Rattle.law_alloc.specs.Keeps.{IfFound}
 use Rattle.law_alloc.proofs.Searches.{sees_reads, leads_from}
 use Rattle.law_alloc.proofs.Singles.{first_kept}
 use Rattle.law_kept.specs.Drops.{maps_dropped, GivesBack, DropsTable, DropDrops, DropLeavesMapsClean, DropLeavesFileClean, DropLeavesSgamExact}
-use Rattle.law_kept.specs.Parts.{DropChangesTaken}
+use Rattle.law_kept.specs.Parts.{ChangesTaken}
 use Rattle.law_kept.specs.Views.{IsCleanView}
 use Rattle.law_kept.proofs.Steps.{IsFile, page_in, nine_inside, Took, Goes, goes_both, goes_within, nothing}
 use Rattle.law_kept.proofs.Words.{take_goes, page_goes}
@@ -190,7 +190,7 @@ drop_goes v name clean =
 pub drop_drops : DropDrops
 drop_drops v name clean = leads_weaker (drop_plan v.shape name) v _ _ (λ reply w h. h.drops) (drop_goes v name clean)
 
-pub drop_changes_taken : DropChangesTaken
+pub drop_changes_taken : (v : View) (name : List ℕ) → IsCleanView v → Leads (drop_plan v.shape name) v (λ reply w. ChangesTaken v w)
 drop_changes_taken v name clean = leads_weaker (drop_plan v.shape name) v _ _ (λ reply w h. h.parts) (drop_goes v name clean)
 
 pub drop_leaves_maps : DropLeavesMapsClean

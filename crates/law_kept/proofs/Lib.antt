@@ -21,5 +21,7 @@ pub mod GrownAndMarked
 pub mod NewIams
 pub mod ExtentGrows
 pub mod Growing
+pub mod Inserts
 pub mod IamEmptied
 pub mod Giving
+pub mod Statements

@@ -54,11 +54,11 @@ each_tested test at (x ∷ xs) v =
 
 -- ---- the chain and its PFS bytes
 
-abbrev byte_looked : FileShape → ℕ → Plan (Unit {0})
+abbrev pub byte_looked : FileShape → ℕ → Plan (Unit {0})
 byte_looked shape p =
     look (resource.Byte (record { 0 = p })) (pfs_page shape.geometry p) then (λ bytes. where_good (says PFS_TYPE (pfs_page shape.geometry p) bytes) (pfs_page shape.geometry p))
 
-bytes_unheld : (shape : FileShape) (xs : List ℕ) (v : View) → Reads (for_each (byte_looked shape) xs) v (λ u. (p : ℕ) → Contains xs p → v.other (resource.Byte (record { 0 = p })) ≡ None)
+pub bytes_unheld : (shape : FileShape) (xs : List ℕ) (v : View) → Reads (for_each (byte_looked shape) xs) v (λ u. (p : ℕ) → Contains xs p → v.other (resource.Byte (record { 0 = p })) ≡ None)
 unfolding for_each
 bytes_unheld shape [] v = leads_give tt v _ (refl, (λ p there. absurd (nothing_there p there)))
 bytes_unheld shape (x ∷ xs) v =
@@ -76,10 +76,10 @@ pub record IsReadChain (v : View) (row : CatalogRow) (chain : List ℕ) : Type 0
   pub is : chain ≡ chain_pages v.now row count
   pub unheld : (p : ℕ) → Contains (byte_pages v.shape chain v) p → v.other (resource.Byte (record { 0 = p })) ≡ None
 
-abbrev IsChain : View → CatalogRow → List ℕ → Type 0
+abbrev pub IsChain : View → CatalogRow → List ℕ → Type 0
 IsChain v row chain = (n : ℕ) × IsWhole v.shape.geometry v.now row n × (chain ≡ chain_pages v.now row n)
 
-chain_reads : (row : CatalogRow) (v : View) → 0 < v.shape.pages → length v.now ≡ v.shape.pages → Reads (chain_of v.shape row) v (IsChain v row)
+pub chain_reads : (row : CatalogRow) (v : View) → 0 < v.shape.pages → length v.now ≡ v.shape.pages → Reads (chain_of v.shape row) v (IsChain v row)
 chain_reads row v some long = by_end (chain_of v.shape row v).ending (chain_is_read v row some long)
   where
     by_end : (read : End (List ℕ)) → laws.Reads v row read → IfGives (λ chain w. (w ≡ v) × IsChain v row chain) read

@@ -5,3 +5,4 @@ pub mod Drops
 pub mod Growing
 pub mod Giving
 pub mod Parts
+pub mod Statements

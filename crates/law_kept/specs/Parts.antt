@@ -2,7 +2,6 @@
 use Rattle.std.specs.Prelude.{◌≡◌, ℕ, true, List, IsTrue}
 use Rattle.spec_file.specs.declared.data.Resource.{Resource}
 use Rattle.spec_file.specs.declared.data.Resource.TheVariants as resource
-use Rattle.spec_file.specs.Catalog.{is_name}
 use Rattle.spec_file.specs.CatalogRows.{CatalogRow}
 use Rattle.spec_file.specs.Roles.{is_ordinary}
 use Rattle.spec_chain.specs.Chains.{IsObject}
@@ -10,7 +9,6 @@ use Rattle.spec_words.specs.Takes.{is_among}
 use Rattle.spec_words.specs.Views.{View}
 use Rattle.spec_alloc.specs.ObjectPages.{object_page}
 use Rattle.spec_alloc.specs.Freeing.{object_page_freed}
-use Rattle.spec_statements.specs.Objects.{create_plan, drop_plan}
 use Rattle.spec_steps.specs.PartsRead.{ReadsSame}
 use Rattle.law_net.specs.GoodViews.{Leads}
 use Rattle.law_kept.specs.Views.{IsCleanView}
@@ -20,17 +18,7 @@ abbrev pub ChangesTaken : View → View → Type 0
 ChangesTaken view after =
     (r : Resource) → (is_among after.taken r ≡ true → ⊥) → ReadsSame view.shape.geometry view.now after.now r
 
--- so it is of CREATE HEAP
-abbrev pub CreateChangesTaken : Type 0
-CreateChangesTaken = (view : View) (name : List ℕ) → is_name name ≡ true → IsCleanView view →
-    Leads (create_plan view.shape name) view (λ reply after. ChangesTaken view after)
-
--- of DROP
-abbrev pub DropChangesTaken : Type 0
-DropChangesTaken = (view : View) (name : List ℕ) → IsCleanView view →
-    Leads (drop_plan view.shape name) view (λ reply after. ChangesTaken view after)
-
--- of a page that an object gets, where its table is taken
+-- so it is of a page that an object gets, where its table is taken
 abbrev pub GrowingChangesTaken : Type 0
 GrowingChangesTaken = (view : View) (row : CatalogRow) (path : List ℕ) → IsCleanView view → IsObject view.now row → is_among view.taken (resource.Table (record { 0 = row.id })) ≡ true →
     Leads (object_page view.shape row path) view (λ p after. ChangesTaken view after)

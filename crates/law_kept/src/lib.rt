@@ -1,13 +1,14 @@
-//! Laws of CREATE HEAP and of DROP, and of a page that an object gets or gives back, as they are planned: they are the steps
-//! that leave a clean file, or clean maps, clean.
+//! Laws of statements as they are planned, and of a page that an object gets or gives back: they are the steps that leave a
+//! clean file, or clean maps, clean, and change its parts only where these are held.
 #![tactic(auto)]
 
 ghost use Rattle.law_kept.specs.Creates.{CreateCreates, CreateLeavesMapsClean, CreateLeavesFileClean, CreateLeavesSgamExact};
 ghost use Rattle.law_kept.specs.Drops.{PagesAreGivenBack, DropDrops, DropLeavesMapsClean, DropLeavesFileClean, DropLeavesSgamExact};
 ghost use Rattle.law_kept.specs.Giving.{PageIsGivenBack, GivingLeavesMapsClean, GivingLeavesOthers, GivingLeavesSgamExact};
 ghost use Rattle.law_kept.specs.Growing.{PageIsGot, GrowingLeavesMapsClean, GrowingLeavesOthers, GrowingLeavesSgamExact};
-ghost use Rattle.law_kept.specs.Parts.{CreateChangesTaken, DropChangesTaken, GrowingChangesTaken, GivingChangesTaken};
+ghost use Rattle.law_kept.specs.Parts.{GrowingChangesTaken, GivingChangesTaken};
 ghost use Rattle.law_kept.specs.Singles.{SingleIsTaken, SingleSetsSgam, ChainIsTaken};
+ghost use Rattle.law_kept.specs.Statements.{StatementsLeaveMapsClean, StatementsChangeTaken, StatementsLeaveSgamExact};
 
 /// A single page that is found on a clean view is a page that nobody has, and is taken; and so is the page of a new
 /// chain, which is the one IAM page of its object. SGAM is right then, where others hold extents with bytes.
@@ -58,11 +59,17 @@ pub fn giving_laws()
     ensures sgam { GivingLeavesSgamExact }
 {}
 
-/// On a clean view CREATE HEAP and DROP change what a part of a clean file reads only where they have taken the part's
-/// resource; so do a page that an object gets and one that it gives back, where the object's table is taken.
+/// On a clean view a page that an object gets and one that it gives back change what a part of a clean file reads only where
+/// the part's resource is taken, the object's table among them.
 pub fn part_laws()
-    ensures create { CreateChangesTaken }
-    ensures drop { DropChangesTaken }
     ensures growing { GrowingChangesTaken }
     ensures giving { GivingChangesTaken }
+{}
+
+/// Every planned statement that gives a reply on a clean view leaves maps and chains clean, changes what a part of a clean
+/// file reads only where it has taken the part's resource, and leaves SGAM exact, where others hold extents with bytes.
+pub fn statement_laws()
+    ensures maps { StatementsLeaveMapsClean }
+    ensures parts { StatementsChangeTaken }
+    ensures sgam { StatementsLeaveSgamExact }
 {}

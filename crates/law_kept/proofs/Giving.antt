@@ -44,8 +44,7 @@ use Rattle.law_net.specs.GoodViews.{Leads}
 use Rattle.law_net.proofs.WordLaws.{leads_then, leads_give, leads_good, leads_weaker}
 use Rattle.law_alloc.proofs.Searches.{sees_reads, leads_from}
 use Rattle.law_kept.specs.Views.{IsCleanView}
-use Rattle.law_kept.specs.Giving.{PageIsGivenBack, GivingLeavesMapsClean, GivingLeavesOthers, GivingLeavesSgamExact}
-use Rattle.law_kept.specs.Parts.{GivingChangesTaken}
+use Rattle.law_kept.specs.Giving.{PageIsGivenBack, GivingLeavesMapsClean, GivingLeavesOthers, GivingLeavesSgamExact, GivingChangesTaken}
 use Rattle.law_kept.proofs.PartsTaken.{taken_extents, all_wider, all_untaken}
 use Rattle.law_kept.proofs.Steps.{IsFile, page_in, extent_in, Goes, goes_both, goes_within, Took}
 use Rattle.law_kept.proofs.Singles.{page_extent, in_extent, neither, file_of, start_of}

@@ -29,8 +29,7 @@ use Rattle.law_net.proofs.WordLaws.{leads_then, leads_give, leads_weaker}
 use Rattle.law_alloc.proofs.Searches.{leads_from}
 use Rattle.law_alloc.proofs.Objects.{none_leads}
 use Rattle.law_kept.specs.Views.{IsCleanView}
-use Rattle.law_kept.specs.Growing.{PageIsGot, GrowingLeavesMapsClean, GrowingLeavesOthers, GrowingLeavesSgamExact}
-use Rattle.law_kept.specs.Parts.{GrowingChangesTaken}
+use Rattle.law_kept.specs.Growing.{PageIsGot, GrowingLeavesMapsClean, GrowingLeavesOthers, GrowingLeavesSgamExact, GrowingChangesTaken}
 use Rattle.law_kept.proofs.PartsTaken.{all_untaken}
 use Rattle.law_kept.proofs.Singles.{Finds, either_leads, bare_from, file_of, start_of}
 use Rattle.law_kept.proofs.ReadTables.{IsReadChain, chain_now_reads}

@@ -25,3 +25,4 @@ pub mod Inserts
 pub mod IamEmptied
 pub mod Giving
 pub mod Statements
+pub mod Covered

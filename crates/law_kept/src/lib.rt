@@ -2,11 +2,11 @@
 //! clean file, or clean maps, clean, and change its parts only where these are held.
 #![tactic(auto)]
 
+ghost use Rattle.law_kept.specs.Covered.{CoveredIsAtMost};
 ghost use Rattle.law_kept.specs.Creates.{CreateCreates, CreateLeavesMapsClean, CreateLeavesFileClean, CreateLeavesSgamExact};
 ghost use Rattle.law_kept.specs.Drops.{PagesAreGivenBack, DropDrops, DropLeavesMapsClean, DropLeavesFileClean, DropLeavesSgamExact};
-ghost use Rattle.law_kept.specs.Giving.{PageIsGivenBack, GivingLeavesMapsClean, GivingLeavesOthers, GivingLeavesSgamExact};
-ghost use Rattle.law_kept.specs.Growing.{PageIsGot, GrowingLeavesMapsClean, GrowingLeavesOthers, GrowingLeavesSgamExact};
-ghost use Rattle.law_kept.specs.Parts.{GrowingChangesTaken, GivingChangesTaken};
+ghost use Rattle.law_kept.specs.Giving.{PageIsGivenBack, GivingLeavesMapsClean, GivingLeavesOthers, GivingChangesTaken, GivingLeavesSgamExact};
+ghost use Rattle.law_kept.specs.Growing.{PageIsGot, GrowingLeavesMapsClean, GrowingLeavesOthers, GrowingChangesTaken, GrowingLeavesSgamExact};
 ghost use Rattle.law_kept.specs.Singles.{SingleIsTaken, SingleSetsSgam, ChainIsTaken};
 ghost use Rattle.law_kept.specs.Statements.{StatementsLeaveMapsClean, StatementsChangeTaken, StatementsLeaveSgamExact};
 
@@ -41,12 +41,13 @@ pub fn drop_laws()
 {}
 
 /// An object of a clean view that gets one more page has that page then, besides those that it had, which are as they were.
-/// Maps stay clean, every other object keeps its chain and its pages, and SGAM stays exact, where others hold extents with
-/// bytes.
+/// Maps stay clean, and every other object keeps its chain and its pages; what a part of a clean file reads changes only
+/// where its resource is taken, if the table is; and SGAM stays exact, where others hold extents with bytes.
 pub fn growing_laws()
     ensures got { PageIsGot }
     ensures maps { GrowingLeavesMapsClean }
     ensures others { GrowingLeavesOthers }
+    ensures parts { GrowingChangesTaken }
     ensures sgam { GrowingLeavesSgamExact }
 {}
 
@@ -56,14 +57,8 @@ pub fn giving_laws()
     ensures given { PageIsGivenBack }
     ensures maps { GivingLeavesMapsClean }
     ensures others { GivingLeavesOthers }
+    ensures parts { GivingChangesTaken }
     ensures sgam { GivingLeavesSgamExact }
-{}
-
-/// On a clean view a page that an object gets and one that it gives back change what a part of a clean file reads only where
-/// the part's resource is taken, the object's table among them.
-pub fn part_laws()
-    ensures growing { GrowingChangesTaken }
-    ensures giving { GivingChangesTaken }
 {}
 
 /// Every planned statement that gives a reply on a clean view leaves maps and chains clean, changes what a part of a clean
@@ -72,4 +67,10 @@ pub fn statement_laws()
     ensures maps { StatementsLeaveMapsClean }
     ensures parts { StatementsChangeTaken }
     ensures sgam { StatementsLeaveSgamExact }
+{}
+
+/// Where two images of a file differ only under some resources, as those before and behind a log's changes, all else that a
+/// check reads of maps and pages is the same.
+pub fn cover_law()
+    ensures { CoveredIsAtMost }
 {}

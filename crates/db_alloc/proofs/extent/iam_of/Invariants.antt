@@ -8,4 +8,4 @@ use Rattle.db_alloc.proofs.extent.iam_of.Given as goal
 abbrev pub invariant-loop-i : goal.invariant-loop-i
 invariant-loop-i l =
     (image : Image) → bytes_of l.iams ≡ map (page image) (numbers l.chain)
-        → first_in (filter (speaks image l.interval) (numbers l.chain)) ≡ first_in (filter (speaks image l.interval) (drop l.i (numbers l.chain)))
+    → first_in (filter (speaks image l.interval) (numbers l.chain)) ≡ first_in (filter (speaks image l.interval) (drop l.i (numbers l.chain)))

@@ -22,7 +22,7 @@ pub returns-in_err-found-clause-does : goal.returns-in_err-found-clause-does
 returns-in_err-found-clause-does g c = λ looked read.
     let chain = numbers c.args.chain.now.numbers.items in
     let own = c.requires.chain in
-    let first = λ told. (read told).pages (first_page chain) (first_contained chain (some_numbers c.args.chain.now.numbers.items own.is.some)) in
+    let first : IsTrue (g.P.PlanPages.state c.args.v.now).told → Contains looked (first_page chain) = λ told. (read told).pages (first_page chain) (first_contained chain (some_numbers c.args.chain.now.numbers.items own.is.some)) in
     page_stopped _ _ (does_stop {meaning = stop_of} stop_of _ c.in_err-found.field-0.0 refl (c.in_err-found.ensures.does looked first)) c.from_residual.ensures.1
 
 pub returns-then-is_some-clause-does : goal.returns-then-is_some-clause-does
@@ -32,7 +32,7 @@ returns-then-is_some-clause-does g c = λ looked read.
     let chain = numbers c.args.chain.now.numbers.items in
     let path = numbers c.args.path.now in
     let own = c.requires.chain in
-    let first = λ told. (read told).pages (first_page chain) (first_contained chain (some_numbers c.args.chain.now.numbers.items own.is.some)) in
+    let first : IsTrue (g.P.PlanPages.state c.args.v.now).told → Contains looked (first_page chain) = λ told. (read told).pages (first_page chain) (first_contained chain (some_numbers c.args.chain.now.numbers.items own.is.some)) in
     either_found (slot_page a.view.shape chain path) (extent_had a.view.shape row chain path) c.in_ok-found.found (sym c.is_some.ensures ∙ c.if-is_some.true) (does_ok {meaning = stop_of} (c.in_ok-found.ensures.does looked first))
 
 pub page_of_extent-requires-clause-geometry : goal.page_of_extent-requires-clause-geometry

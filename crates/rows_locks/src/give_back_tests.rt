@@ -4,10 +4,10 @@ ghost use Rattle.std.specs.Prelude.{◌≡◌, IfOk};
 ghost use Rattle.spec_file.specs.declared.geometry.Geometry.TheVariants.{Small};
 
 use crate::changes::Change;
-use crate::page_cases::{FULL, Left, expect_left, heap_on, small_view};
-use db_alloc::free_page;
+use crate::page_cases::{FULL, Left, Wanted, expect_left, heap_on, small_view, stop_of};
+use db_alloc::{AllocStop, free_page};
 use db_locks::{PageStop, PlanPages};
-use pg_base::{ExtentNo, PageNo, Resource, Tran};
+use pg_base::{ExtentNo, PageNo, Resource};
 use rows_files::pieces::Piece;
 use rows_files::pieces::Piece::{Bytes, Pfs};
 use std::alloc::Global;
@@ -135,7 +135,11 @@ static FREED: [Freed; 8] = [
         name: "other marks stay",
         parts: &[
             FULL,
-            &[Bytes(8, 136, &[0b11000]), Pfs(32, 0x40), Bytes(2, 96, &[0b100000])],
+            &[
+                Bytes(8, 136, &[0b11000]),
+                Pfs(32, 0x40),
+                Bytes(2, 96, &[0b100000]),
+            ],
         ],
         held: &[],
         page: 24,
@@ -179,15 +183,7 @@ struct Refused {
     parts: &'static [&'static [Piece]],
     held: &'static [Resource],
     page: u32,
-    stop: PageStop,
-}
-
-// Transaction 2 holds this.
-const fn held(resource: Resource) -> PageStop {
-    PageStop::Held {
-        resource,
-        by: Tran(2),
-    }
+    stop: Wanted,
 }
 
 const BAD_GAM: &[Piece] = &[Bytes(2, 1, &[7])];
@@ -198,79 +194,75 @@ static REFUSED: [Refused; 10] = [
         parts: &[FULL],
         held: &[Resource::Page(PageNo(8))],
         page: 18,
-        stop: held(Resource::Page(PageNo(8))),
+        stop: Wanted::Held(Resource::Page(PageNo(8))),
     },
     Refused {
         name: "a byte of the table's is held, whatever the page is",
         parts: &[FULL],
         held: &[Resource::Byte(PageNo(30))],
         page: 18,
-        stop: held(Resource::Byte(PageNo(30))),
+        stop: Wanted::Held(Resource::Byte(PageNo(30))),
     },
     Refused {
         name: "a page of a mixed extent that no slot holds, before its maps are read",
         parts: &[FULL, BAD_GAM, &[Pfs(18, 0x60)]],
         held: &[Resource::Extent(ExtentNo(2))],
         page: 18,
-        stop: PageStop::Bad(PageNo(18)),
+        stop: Wanted::Bad(18),
     },
     Refused {
         name: "a page of a marked extent that isn't allocated",
         parts: &[FULL, BAD_GAM],
         held: &[],
         page: 25,
-        stop: PageStop::Bad(PageNo(25)),
+        stop: Wanted::Bad(25),
     },
     Refused {
         name: "a page that the file doesn't have",
         parts: &[FULL],
         held: &[],
         page: 48,
-        stop: PageStop::Bad(PageNo(48)),
+        stop: Wanted::Bad(48),
     },
     Refused {
         name: "the extent of a slot's page is held, before its GAM page is read",
         parts: &[FULL, BAD_GAM],
         held: &[Resource::Extent(ExtentNo(1))],
         page: 11,
-        stop: held(Resource::Extent(ExtentNo(1))),
+        stop: Wanted::Held(Resource::Extent(ExtentNo(1))),
     },
     Refused {
         name: "a bad GAM page comes before a bad SGAM page",
         parts: &[FULL, BAD_GAM, &[Bytes(3, 1, &[7])]],
         held: &[],
         page: 11,
-        stop: PageStop::Bad(PageNo(2)),
+        stop: Wanted::Bad(2),
     },
     Refused {
         name: "a bad SGAM page, though the marked extent stays in use",
         parts: &[FULL, &[Pfs(31, 0x41), Bytes(3, 1, &[7])]],
         held: &[],
         page: 24,
-        stop: PageStop::Bad(PageNo(3)),
+        stop: Wanted::Bad(3),
     },
     Refused {
         name: "the marked extent is held, whose last page it is",
         parts: &[FULL, BAD_GAM],
         held: &[Resource::Extent(ExtentNo(3))],
         page: 24,
-        stop: held(Resource::Extent(ExtentNo(3))),
+        stop: Wanted::Held(Resource::Extent(ExtentNo(3))),
     },
     Refused {
         name: "a page of the chain isn't one of the table's",
         parts: &[FULL],
         held: &[],
         page: 8,
-        stop: PageStop::Bad(PageNo(8)),
+        stop: Wanted::Bad(8),
     },
 ];
 
 // Heap t of a view of 48 pages gives this one back.
-fn given_back<P: PlanPages>(
-    alloc: Global,
-    v: &mut P,
-    p: u32,
-) -> Result<Result<(), PageStop>, Fail>
+fn given_back<P: PlanPages>(alloc: Global, v: &mut P, p: u32) -> Result<Result<(), PageStop>, Fail>
     requires geometry { (P.state v.old).view.shape.geometry ≡ Small }
     requires pages { (P.state v.old).view.shape.pages ≡ 48 }
     ensures { IfOk result (λ done. (P.state v.new).view.shape ≡ (P.state v.old).view.shape) }
@@ -292,7 +284,7 @@ fn expect_refused(alloc: Global, refused: &Refused) -> Result<(), Fail> {
     match given_back(alloc, &mut view, refused.page)? {
         Ok(()) => Err(Fail::from(refused.name)),
         Err(stop) => {
-            if stop != refused.stop {
+            if AllocStop::Page(stop) != stop_of(refused.stop) {
                 return Err(Fail::new(format_args!("{}: {stop:?}", refused.name)));
             }
             Ok(())

@@ -7,10 +7,10 @@ ghost use Rattle.db_locks.specs.Memory.{state_of};
 
 use crate::changes::{Change, are_changes};
 use crate::made::{locks_on, pages_in};
-use db_alloc::{Table, find_table};
-use db_locks::{MemView, PlanPages};
+use db_alloc::{AllocStop, Table, find_table};
+use db_locks::{MemView, PageStop, PlanPages};
 use net_changes::{net_changes, net_takes};
-use pg_base::{Geometry, Resource};
+use pg_base::{Geometry, PageNo, Resource, Tran};
 use rows_files::pieces::Piece::{Bytes, Chain, Heap, Marks, Pfs, Slots};
 use rows_files::pieces::{New, ONLY, Piece};
 use spec_script::Name;
@@ -31,6 +31,26 @@ pub const FULL: &[Piece] = &[
     Bytes(3, 96, &[0b100]),
 ];
 
+/// Why a page is neither given nor given back: transaction 2 holds a resource, a page is bad, or none is to be had.
+#[derive(Clone, Copy)]
+pub enum Wanted {
+    Held(Resource),
+    Bad(u32),
+    Full,
+}
+
+/// The stop that is wanted.
+pub fn stop_of(wanted: Wanted) -> AllocStop {
+    match wanted {
+        Wanted::Held(resource) => AllocStop::Page(PageStop::Held {
+            resource,
+            by: Tran(2),
+        }),
+        Wanted::Bad(p) => AllocStop::Page(PageStop::Bad(PageNo(p))),
+        Wanted::Full => AllocStop::Full,
+    }
+}
+
 /// What is expected of the view in the end: which cells differ, and what was taken.
 #[derive(Drop)]
 pub struct Left {
@@ -39,11 +59,7 @@ pub struct Left {
 }
 
 /// A view of a file of six extents with these pieces, of which transaction 2 holds these resources.
-pub fn small_view(
-    alloc: Global,
-    parts: &[&[Piece]],
-    held: &[Resource],
-) -> Result<MemView, Fail>
+pub fn small_view(alloc: Global, parts: &[&[Piece]], held: &[Resource]) -> Result<MemView, Fail>
     ensures geometry { IfOk result (λ v. (state_of v).view.shape.geometry ≡ Small) }
     ensures pages { IfOk result (λ v. (state_of v).view.shape.pages ≡ 48) }
 {
@@ -55,11 +71,7 @@ pub fn small_view(
 }
 
 /// A view of a file of two intervals, likewise.
-pub fn large_view(
-    alloc: Global,
-    parts: &[&[Piece]],
-    held: &[Resource],
-) -> Result<MemView, Fail>
+pub fn large_view(alloc: Global, parts: &[&[Piece]], held: &[Resource]) -> Result<MemView, Fail>
     ensures geometry { IfOk result (λ v. (state_of v).view.shape.geometry ≡ Small) }
     ensures pages { IfOk result (λ v. (state_of v).view.shape.pages ≡ 1024) }
 {

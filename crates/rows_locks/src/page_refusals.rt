@@ -1,9 +1,8 @@
 // Why a heap gets no page, in the order in which it is met. What is expected is worked by hand.
-use crate::page_cases::{FULL, large_view, small_view};
+use crate::page_cases::{FULL, Wanted, large_view, small_view, stop_of};
 use crate::page_tests::{SECOND, one_page};
 use db_alloc::AllocStop;
-use db_locks::PageStop;
-use pg_base::{ExtentNo, PageNo, Resource, Tran};
+use pg_base::{ExtentNo, PageNo, Resource};
 use rows_files::pieces::Piece;
 use rows_files::pieces::Piece::{Bytes, Pfs};
 use std::alloc::Global;
@@ -16,20 +15,7 @@ struct Refused {
     parts: &'static [&'static [Piece]],
     held: &'static [Resource],
     path: &'static [PageNo],
-    stop: AllocStop,
-}
-
-// Transaction 2 holds this.
-const fn held(resource: Resource) -> AllocStop {
-    AllocStop::Page(PageStop::Held {
-        resource,
-        by: Tran(2),
-    })
-}
-
-// 824 at this page.
-const fn bad(p: u32) -> AllocStop {
-    AllocStop::Page(PageStop::Bad(PageNo(p)))
+    stop: Wanted,
 }
 
 const BAD_GAM: &[Piece] = &[Bytes(2, 1, &[7])];
@@ -46,105 +32,105 @@ static REFUSED: [Refused; 15] = [
         parts: &[FULL, ONE_SLOT, BAD_GAM],
         held: &[Resource::Page(PageNo(8))],
         path: &[],
-        stop: held(Resource::Page(PageNo(8))),
+        stop: Wanted::Held(Resource::Page(PageNo(8))),
     },
     Refused {
         name: "a byte of a marked extent is held, though a slot is empty",
         parts: &[FULL, ONE_SLOT, BAD_GAM],
         held: &[Resource::Byte(PageNo(31))],
         path: &[],
-        stop: held(Resource::Byte(PageNo(31))),
+        stop: Wanted::Held(Resource::Byte(PageNo(31))),
     },
     Refused {
         name: "a bad PFS page comes before a bad GAM page, for its bytes are read first",
         parts: &[FULL, ONE_SLOT, BAD_GAM, &[Bytes(1, 1, &[7])]],
         held: &[],
         path: &[],
-        stop: bad(1),
+        stop: Wanted::Bad(1),
     },
     Refused {
         name: "a slot is empty: a bad GAM page",
         parts: &[FULL, ONE_SLOT, BAD_GAM],
         held: &[],
         path: &[],
-        stop: bad(2),
+        stop: Wanted::Bad(2),
     },
     Refused {
         name: "the single page is held",
         parts: &[FULL, ONE_SLOT],
         held: &[Resource::Page(PageNo(12))],
         path: &[],
-        stop: held(Resource::Page(PageNo(12))),
+        stop: Wanted::Held(Resource::Page(PageNo(12))),
     },
     Refused {
         name: "the statement stands on the single page",
         parts: &[FULL, ONE_SLOT],
         held: &[],
         path: &[PageNo(10), PageNo(12)],
-        stop: bad(12),
+        stop: Wanted::Bad(12),
     },
     Refused {
         name: "the single page is one of the chain, whose byte doesn't say so",
         parts: &[FULL, ONE_SLOT, &[Pfs(8, 0)]],
         held: &[],
         path: &[],
-        stop: bad(8),
+        stop: Wanted::Bad(8),
     },
     Refused {
         name: "the statement stands on the page of the marked extent",
         parts: &[FULL],
         held: &[],
         path: &[PageNo(25)],
-        stop: bad(25),
+        stop: Wanted::Bad(25),
     },
     Refused {
         name: "that page is held, which is told first",
         parts: &[FULL],
         held: &[Resource::Page(PageNo(25))],
         path: &[PageNo(25)],
-        stop: held(Resource::Page(PageNo(25))),
+        stop: Wanted::Held(Resource::Page(PageNo(25))),
     },
     Refused {
         name: "the marked extent is full: a bad GAM page",
         parts: &[FULL, BAD_GAM, &[Bytes(1, 120, &[0x40; 8])]],
         held: &[],
         path: &[],
-        stop: bad(2),
+        stop: Wanted::Bad(2),
     },
     Refused {
         name: "the first page of the free extent is held",
         parts: &[FULL, &[Bytes(1, 120, &[0x40; 8])]],
         held: &[Resource::Page(PageNo(32))],
         path: &[],
-        stop: held(Resource::Page(PageNo(32))),
+        stop: Wanted::Held(Resource::Page(PageNo(32))),
     },
     Refused {
         name: "the statement stands on it",
         parts: &[FULL, &[Bytes(1, 120, &[0x40; 8])]],
         held: &[],
         path: &[PageNo(32)],
-        stop: bad(32),
+        stop: Wanted::Bad(32),
     },
     Refused {
         name: "nothing is free, and nobody holds an extent",
         parts: &[FULL, NOTHING_LEFT],
         held: &[Resource::Byte(PageNo(33)), Resource::Page(PageNo(34))],
         path: &[],
-        stop: AllocStop::Full,
+        stop: Wanted::Full,
     },
     Refused {
         name: "nothing is free, and the lowest extent that is held is told",
         parts: &[FULL, NOTHING_LEFT],
         held: &[Resource::Extent(ExtentNo(5)), Resource::Extent(ExtentNo(1))],
         path: &[],
-        stop: held(Resource::Extent(ExtentNo(1))),
+        stop: Wanted::Held(Resource::Extent(ExtentNo(1))),
     },
     Refused {
         name: "the free extents are held",
         parts: &[FULL, &[Bytes(1, 120, &[0x40; 8])]],
         held: &[Resource::Extent(ExtentNo(5)), Resource::Extent(ExtentNo(4))],
         path: &[],
-        stop: held(Resource::Extent(ExtentNo(4))),
+        stop: Wanted::Held(Resource::Extent(ExtentNo(4))),
     },
 ];
 
@@ -154,35 +140,35 @@ static REFUSED_BEYOND: [Refused; 5] = [
         parts: &[SECOND],
         held: &[],
         path: &[PageNo(15), PageNo(520)],
-        stop: bad(520),
+        stop: Wanted::Bad(520),
     },
     Refused {
         name: "the statement stands on the new page of the chain",
         parts: &[SECOND],
         held: &[],
         path: &[PageNo(15)],
-        stop: bad(15),
+        stop: Wanted::Bad(15),
     },
     Refused {
         name: "the new page of the chain is held",
         parts: &[SECOND],
         held: &[Resource::Page(PageNo(15))],
         path: &[],
-        stop: held(Resource::Page(PageNo(15))),
+        stop: Wanted::Held(Resource::Page(PageNo(15))),
     },
     Refused {
         name: "no single page is to be had for the chain, for the one free extent is taken by then",
         parts: &[SECOND, &[Bytes(3, 96, &[0])]],
         held: &[],
         path: &[],
-        stop: AllocStop::Full,
+        stop: Wanted::Full,
     },
     Refused {
         name: "nor is one, and an extent is held",
         parts: &[SECOND],
         held: &[Resource::Extent(ExtentNo(1))],
         path: &[],
-        stop: held(Resource::Extent(ExtentNo(1))),
+        stop: Wanted::Held(Resource::Extent(ExtentNo(1))),
     },
 ];
 
@@ -190,7 +176,7 @@ fn expect_stop(refused: &Refused, found: Result<PageNo, AllocStop>) -> Result<()
     match found {
         Ok(p) => Err(Fail::new(format_args!("{}: {p:?}", refused.name))),
         Err(stop) => {
-            if stop != refused.stop {
+            if stop != stop_of(refused.stop) {
                 return Err(Fail::new(format_args!("{}: {stop:?}", refused.name)));
             }
             Ok(())

@@ -117,11 +117,7 @@ static GIVEN: [Given; 10] = [
     },
     Given {
         name: "no single page is to be had: a page of the marked extent, though a slot is empty",
-        parts: &[
-            FULL,
-            TWO_SLOTS,
-            &[Bytes(2, 96, &[0]), Bytes(3, 96, &[0])],
-        ],
+        parts: &[FULL, TWO_SLOTS, &[Bytes(2, 96, &[0]), Bytes(3, 96, &[0])]],
         held: &[],
         page: 25,
         left: Left {
@@ -235,11 +231,12 @@ const ITS_PAGE: &[Piece] = &[
 ];
 
 // From its first byte to its mark: header, interval 1 and sequence 1, extent 1 of the interval.
-static NEW_IAM: [u8; 137] = [
-    1, 10, 0, 0, 15, 0, 0, 0, 1, 0, 0, 0, 8, 0, 0, 0, 0, 0, 0, 0, 0, 0, 0, 0, 0, 0, 0, 0, 0, 0, 0, 0, 0, 0, 0, 0, 0, 0, 0, 0,
-    0, 0, 0, 0, 0, 0, 0, 0, 0, 0, 0, 0, 0, 0, 0, 0, 0, 0, 0, 0, 0, 0, 0, 0, 0, 0, 0, 0, 0, 0, 0, 0, 0, 0, 0, 0, 0, 0, 0, 0,
-    0, 0, 0, 0, 0, 0, 0, 0, 0, 0, 0, 0, 0, 0, 0, 0, 1, 0, 0, 0, 1, 0, 0, 0, 0, 0, 0, 0, 0, 0, 0, 0, 0, 0, 0, 0, 0, 0, 0, 0,
-    0, 0, 0, 0, 0, 0, 0, 0, 0, 0, 0, 0, 0, 0, 0, 0, 0b10,
+const NEW_IAM: &[u8] = &[
+    1, 10, 0, 0, 15, 0, 0, 0, 1, 0, 0, 0, 8, 0, 0, 0, 0, 0, 0, 0, 0, 0, 0, 0, 0, 0, 0, 0, 0, 0, 0,
+    0, 0, 0, 0, 0, 0, 0, 0, 0, 0, 0, 0, 0, 0, 0, 0, 0, 0, 0, 0, 0, 0, 0, 0, 0, 0, 0, 0, 0, 0, 0, 0,
+    0, 0, 0, 0, 0, 0, 0, 0, 0, 0, 0, 0, 0, 0, 0, 0, 0, 0, 0, 0, 0, 0, 0, 0, 0, 0, 0, 0, 0, 0, 0, 0,
+    0, 1, 0, 0, 0, 1, 0, 0, 0, 0, 0, 0, 0, 0, 0, 0, 0, 0, 0, 0, 0, 0, 0, 0, 0, 0, 0, 0, 0, 0, 0, 0,
+    0, 0, 0, 0, 0, 0, 0, 0, 0, 0b10,
 ];
 
 static GIVEN_BEYOND: [Given; 2] = [
@@ -273,7 +270,7 @@ static GIVEN_BEYOND: [Given; 2] = [
                 Change::Cell(1, 111, &[0], &[0x70]),
                 Change::Cell(440, 176, &[0], &[0x40]),
                 Change::Cell(8, 16, &[0], &[15]),
-                Change::Cell(15, 0, &[0; 137], &NEW_IAM),
+                Change::Cell(15, 0, &[0; 137], NEW_IAM),
             ],
             takes: &[
                 Resource::Extent(ExtentNo(1)),

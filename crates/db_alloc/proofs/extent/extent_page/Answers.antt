@@ -1,11 +1,9 @@
-use Rattle.std.proofs.Common.{ℕ, ◌<◌, ◌++◌, List, IsTrue, Contains, Option, Some, None, refl, sym, ap, ◌∙◌, subst}
+use Rattle.std.proofs.Common.{◌<◌, ◌++◌, Option, Some, None, refl, sym, ap, ◌∙◌, subst}
 use Rattle.std.specs.Prelude.{IfSome}
 use Rattle.std.proofs.lemmas.List.Elements.{Contains-append_left}
 use Rattle.spec_file.specs.declared.data.PageNo.{PageNo}
-use Rattle.spec_words.specs.NetChanges.{FileShape}
-use Rattle.spec_words.specs.Views.{View, Plan}
-use Rattle.spec_words.specs.Words.{give}
-use Rattle.spec_alloc.specs.Search.{search, where_found}
+use Rattle.spec_words.specs.Views.{View}
+use Rattle.spec_alloc.specs.Search.{search}
 use Rattle.spec_alloc.specs.SinglePages.{is_unused, first_page_of}
 use Rattle.spec_alloc.specs.ObjectPages.{extent_marked}
 use Rattle.db_cat.specs.Rows.{row_of}
@@ -13,7 +11,6 @@ use Rattle.db_locks.specs.Does.{stop_of}
 use Rattle.db_locks.proofs.PlanLaws.{does_after, does_more, does_stop, does_give}
 use Rattle.db_alloc.specs.declared.search.Wanted.TheVariants.{Unused}
 use Rattle.db_alloc.specs.Maps.{IsOwnable}
-use Rattle.db_alloc.specs.Objects.{HasChain}
 use Rattle.db_alloc.specs.Searches.{WereReached}
 use Rattle.db_alloc.specs.Tables.{numbers}
 use Rattle.db_alloc.proofs.ObjectSteps.{page_stopped}

@@ -1,13 +1,10 @@
-use Rattle.std.proofs.Common.{ℕ, List, IsTrue, Contains, Some, None, sym, ap, ◌∙◌, subst}
+use Rattle.std.proofs.Common.{List, Contains, Some, None, sym, ap, ◌∙◌, subst}
 use Rattle.std.specs.Option.{option_map}
-use Rattle.std.proofs.lemmas.List.Elements.{All-contains}
 use Rattle.spec_file.specs.declared.data.PageNo.{PageNo}
 use Rattle.spec_plan.specs.Changes.{last_of}
 use Rattle.spec_alloc.specs.ObjectPages.{iam_of, new_iam}
 use Rattle.db_cat.specs.Rows.{row_of}
 use Rattle.db_locks.proofs.PlanLaws.{does_see, does_give}
-use Rattle.db_alloc.specs.Maps.{IsOwnable}
-use Rattle.db_alloc.specs.Objects.{IsChain}
 use Rattle.db_alloc.specs.Tables.{numbers}
 use Rattle.db_alloc.proofs.ExtentSteps.{iam_told}
 use Rattle.db_alloc.proofs.GrowSteps.{interval_is, last_contained}

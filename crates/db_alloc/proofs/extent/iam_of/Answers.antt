@@ -1,8 +1,8 @@
-use Rattle.std.proofs.Common.{◌≡◌, ◌<◌, ℕ, length, Box, refl, sym, ap, ◌∙◌, arith}
+use Rattle.std.proofs.Common.{◌<◌, length, Box, refl, sym, ap, ◌∙◌, arith}
 use Rattle.std.specs.Global.{Global}
 use Rattle.pg_base.specs.declared.page.Page.{Page}
 use Rattle.spec_file.specs.Iam.{iam_interval}
-use Rattle.db_alloc.proofs.ExtentSteps.{iam_hit, iam_miss, iam_none}
+use Rattle.db_alloc.proofs.ExtentSteps.{iam_hit, iam_miss}
 use Rattle.db_alloc.proofs.extent.iam_of.Goals as goal
 
 pub loop-i-init : goal.loop-i-init

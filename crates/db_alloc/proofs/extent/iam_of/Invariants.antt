@@ -1,4 +1,4 @@
-use Rattle.std.proofs.Common.{◌≡◌, ◌==◌, List, map, filter, drop}
+use Rattle.std.proofs.Common.{◌≡◌, map, filter, drop}
 use Rattle.spec_file.specs.Image.{Image, page}
 use Rattle.spec_alloc.specs.Search.{first_in}
 use Rattle.db_alloc.specs.Tables.{numbers, bytes_of}

@@ -1,4 +1,4 @@
-use Rattle.std.proofs.Common.{ℕ, ◌+◌, ◌/◌, ◌++◌, IsTrue, List, Contains, refl, sym, ap, ◌∙◌, subst}
+use Rattle.std.proofs.Common.{ℕ, ◌/◌, ◌++◌, IsTrue, List, Contains, refl, sym, ap, ◌∙◌, subst}
 use Rattle.spec_file.specs.declared.data.PageNo.{PageNo}
 use Rattle.spec_words.specs.NetChanges.{FileShape}
 use Rattle.spec_words.specs.Views.{Plan}

@@ -1,5 +1,4 @@
-use Rattle.std.proofs.Common.{◌<◌, ◌/◌, ◌++◌, refl, sym, ap, ◌∙◌, subst}
-use Rattle.spec_file.specs.Places.{pfs_page}
+use Rattle.std.proofs.Common.{◌<◌, ◌++◌, refl, sym, subst}
 use Rattle.spec_words.specs.NetChanges.{FileShape}
 use Rattle.spec_alloc.specs.ObjectPages.{marked_page_taken}
 use Rattle.db_alloc.specs.Tables.{numbers}

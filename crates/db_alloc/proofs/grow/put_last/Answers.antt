@@ -1,17 +1,14 @@
 use Rattle.std.proofs.Common.{ℕ, [], ◌∷◌, ◌++◌, Contains, refl, sym, ap, ◌∙◌, subst, arith}
 use Rattle.std.proofs.lemmas.List.Elements.{Contains-append_left, Contains-append_right, Contains-push}
-use Rattle.byteorder.specs.Endian.{little_bytes}
-use Rattle.spec_plan.specs.Changes.{last_of}
 use Rattle.spec_words.specs.NetChanges.{FileShape}
 use Rattle.spec_words.specs.Words.{put_page as page_put}
-use Rattle.spec_alloc.specs.Chains.{page_taken, put_iam, put_next}
-use Rattle.db_locks.specs.Does.{DoesAfter}
+use Rattle.spec_alloc.specs.Chains.{page_taken, put_next}
 use Rattle.db_locks.proofs.PlanLaws.{does_more, does_after, stays_then}
 use Rattle.db_alloc.specs.Maps.{IsOwnable}
 use Rattle.db_alloc.specs.Tables.{numbers}
-use Rattle.db_alloc.proofs.GrowSteps.{chain_short, chain_stays, last_ownable, iam_bytes}
+use Rattle.db_alloc.proofs.GrowSteps.{chain_short, last_ownable, iam_bytes}
 use Rattle.db_alloc.proofs.ObjectSteps.{then_given}
-use Rattle.db_alloc.proofs.SingleSteps.{does_next, stays_of}
+use Rattle.db_alloc.proofs.SingleSteps.{does_next}
 use Rattle.db_alloc.proofs.Steps.{does_plan, does_exit_as}
 use Rattle.db_alloc.proofs.grow.put_last.Goals as goal
 

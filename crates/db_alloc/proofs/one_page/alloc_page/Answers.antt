@@ -1,7 +1,6 @@
-use Rattle.std.proofs.Common.{ℕ, ◌++◌, List, [], Some, None, refl, sym, ap, ◌∙◌, subst}
+use Rattle.std.proofs.Common.{ℕ, ◌++◌, [], Some, None, refl, sym, ap, ◌∙◌}
 use Rattle.spec_words.specs.NetChanges.{FileShape}
-use Rattle.spec_words.specs.Views.{View, Plan}
-use Rattle.spec_words.specs.Words.{◌then◌, found_or}
+use Rattle.spec_words.specs.Words.{found_or}
 use Rattle.spec_alloc.specs.SinglePages.{no_page}
 use Rattle.db_cat.specs.Rows.{row_of}
 use Rattle.db_locks.specs.Does.{stop_of}

@@ -1,4 +1,4 @@
-use Rattle.std.proofs.Common.{ℕ, List, Contains, refl, sym, ap, ◌∙◌, subst}
+use Rattle.std.proofs.Common.{refl, sym, ap, ◌∙◌, subst}
 use Rattle.std.specs.Prelude.{IfOk, IfSome}
 use Rattle.spec_words.specs.NetChanges.{FileShape}
 use Rattle.spec_alloc.specs.ObjectPages.{marked_page, extent_page}
@@ -6,7 +6,6 @@ use Rattle.db_cat.specs.Rows.{row_of}
 use Rattle.db_locks.specs.Does.{stop_of}
 use Rattle.db_locks.proofs.PlanLaws.{does_stop}
 use Rattle.db_alloc.specs.Maps.{IsOwnable}
-use Rattle.db_alloc.specs.Objects.{WasRead}
 use Rattle.db_alloc.specs.Tables.{numbers}
 use Rattle.db_alloc.proofs.ObjectSteps.{page_stopped}
 use Rattle.db_alloc.proofs.OnePageSteps.{all_reached, all_read, chain_later}

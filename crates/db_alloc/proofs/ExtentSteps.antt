@@ -1,12 +1,12 @@
 -- The first page of a free extent is taken, and the extent is marked, call by call.
-use Rattle.std.proofs.Common.{◌≡◌, refl, ℕ, ◌+◌, ◌/◌, ◌<◌, ◌≤◌, Bool, true, false, not, IsTrue, List, [], ◌∷◌, ◌++◌, length, map, filter, drop, get_or, Contains, Option, Some, None, Ok, sym, ap, ◌∙◌, subst, arith}
+use Rattle.std.proofs.Common.{◌≡◌, refl, ℕ, ◌+◌, ◌/◌, ◌<◌, Bool, true, false, not, IsTrue, List, [], ◌∷◌, ◌++◌, length, map, filter, drop, get_or, Contains, Option, Some, None, Ok, sym, ap, ◌∙◌, subst, arith}
 use Rattle.std.specs.Prelude.{◌==◌, Box}
 use Rattle.std.specs.Global.{Global}
 use Rattle.std.specs.List.{list_any}
 use Rattle.std.proofs.Math.ListN.{get_or-map}
 use Rattle.std.proofs.lemmas.Bool.{eq-eqb, ne_eqb}
 use Rattle.std.proofs.lemmas.List.{length-map, get_or_default}
-use Rattle.std.proofs.lemmas.List.Elements.{Contains-append_left, Contains-append_right, Contains-get_or, Contains-push}
+use Rattle.std.proofs.lemmas.List.Elements.{Contains-append_left, Contains-append_right, Contains-push}
 use Rattle.pg_base.specs.declared.page.Page.{Page}
 use Rattle.spec_file.specs.declared.data.PageNo.{PageNo}
 use Rattle.spec_file.specs.declared.data.Resource.TheVariants as resource
@@ -35,7 +35,7 @@ use Rattle.db_alloc.proofs.DropSteps.{chain_same}
 use Rattle.db_alloc.proofs.GrowSteps.{chain_stays}
 use Rattle.db_alloc.proofs.Leaves.{opened_leaves}
 use Rattle.db_alloc.proofs.MapReads.{first_hit, first_miss}
-use Rattle.db_alloc.proofs.MarkedSteps.{here_first, here_not, none_left, none_some}
+use Rattle.db_alloc.proofs.MarkedSteps.{here_first, here_not, none_some}
 use Rattle.db_alloc.proofs.NearPages.{number_at}
 use Rattle.db_alloc.proofs.Reaches.{Ends, ends_then, ends_look, any_ends, by_ending, weaker}
 use Rattle.db_alloc.proofs.Steps.{then_assoc, then_same}
@@ -46,6 +46,7 @@ use Rattle.db_alloc.proofs.Steps.{then_assoc, then_same}
 abbrev pub speaks : Image → ℕ → ℕ → Bool
 speaks image interval q = iam_interval (page image q) == interval
 
+-- a place of a list is one of its numbers
 below_numbers : (chain : List PageNo) (i : ℕ) → i < length chain → i < length (numbers chain)
 below_numbers chain i lt = subst (λ (n : ℕ). i < n) (sym (length-map chain (λ (p : PageNo). p.0))) lt
 
@@ -58,6 +59,7 @@ bytes_at image chain iams i d same lt below =
     sym (get_or-map (λ (b : Box Page Global). b.value.bytes) iams i d) ∙ get_or_default bytes i d.value.bytes (page image 0) there
     ∙ ap (λ (xs : List (List ℕ)). get_or xs i (page image 0)) same ∙ get_or-map (page image) (numbers chain) i 0
 
+-- page i of the chain speaks of the interval: it is the first of the rest
 pub iam_hit : (image : Image) (interval : ℕ) (chain : List PageNo) (iams : List (Box Page Global)) (i : ℕ) (q : PageNo) (d : Box Page Global) → bytes_of iams ≡ map (page image) (numbers chain)
     → i < length chain → i < length iams → iam_interval (get_or iams i d).value.bytes ≡ interval → first_in (filter (speaks image interval) (drop i (numbers chain))) ≡ Some (get_or chain i q).0
 iam_hit image interval chain iams i q d same lt below is =
@@ -65,20 +67,13 @@ iam_hit image interval chain iams i q d same lt below is =
     (eq-eqb (iam_interval (page image (get_or (numbers chain) i 0))) interval (ap iam_interval (sym (bytes_at image chain iams i d same lt below)) ∙ is))
     ∙ ap (λ (p : ℕ). Some p) (number_at chain i q lt 0)
 
+-- it doesn't: the first of the rest stands behind it
 pub iam_miss : (image : Image) (interval : ℕ) (chain : List PageNo) (iams : List (Box Page Global)) (i : ℕ) (d : Box Page Global) → bytes_of iams ≡ map (page image) (numbers chain)
     → i < length chain → i < length iams → (iam_interval (get_or iams i d).value.bytes ≡ interval → ⊥)
     → first_in (filter (speaks image interval) (drop i (numbers chain))) ≡ first_in (filter (speaks image interval) (drop (i + 1) (numbers chain)))
 iam_miss image interval chain iams i d same lt below ne =
     here_not (speaks image interval) (numbers chain) i (below_numbers chain i lt)
     (ne_eqb (iam_interval (page image (get_or (numbers chain) i 0))) interval (λ e. ne (ap iam_interval (bytes_at image chain iams i d same lt below) ∙ e)))
-
-pub iam_none : (image : Image) (interval : ℕ) (chain : List PageNo) (iams : List (Box Page Global)) (i least : ℕ) → bytes_of iams ≡ map (page image) (numbers chain) → (length chain ≤ length iams → length chain ≤ least) → least ≤ i
-    → first_in (filter (speaks image interval) (drop i (numbers chain))) ≡ None
-iam_none image interval chain iams i least same short le =
-    let count = sym (length-map iams (λ (b : Box Page Global). b.value.bytes)) ∙ ap (λ (xs : List (List ℕ)). length xs) same ∙ length-map (numbers chain) (page image) ∙ length-map chain (λ (p : PageNo). p.0) in
-    let all : length chain ≤ least = short (omega (arith, count)) in
-    let long = length-map chain (λ (p : PageNo). p.0) in
-    none_left (speaks image interval) (numbers chain) i (omega (arith, all, le, long))
 
 -- that is what the words look for
 pub iam_told : (shape : FileShape) (view : View) (chain ps : List PageNo) (items iams : List (Box Page Global)) (p interval : ℕ) (found : Option ℕ) → ps ≡ chain → iams ≡ items
@@ -89,12 +84,9 @@ iam_told shape view chain ps items iams p interval found same_ps same_iams read 
     ∙ ap (λ (qs : List PageNo). first_in (filter (speaks view.now interval) (numbers qs))) same_ps
     ∙ ap (λ (k : ℕ). first_in (filter (speaks view.now k) (numbers chain))) is
 
--- it is a page of the chain
-pub number_among : (chain : List PageNo) (i : ℕ) (q : PageNo) → i < length chain → Contains (numbers chain) (get_or chain i q).0
-number_among chain i q lt = subst (λ (p : ℕ). Contains (numbers chain) p) (number_at chain i q lt 0) (Contains-get_or (numbers chain) i 0 (below_numbers chain i lt))
-
 -- ---- it was reached
 
+-- a page that was taken was reached
 taken_end : (standing : List ℕ) (q : ℕ) (v : View) → Ends (page_taken standing q v) (λ reached x w. Contains reached q)
 taken_end standing q v =
     let r = resource.Page (record { 0 = q }) in
@@ -103,6 +95,7 @@ taken_end standing q v =
     (ends_look r q v (λ reached bytes w. Ends (next bytes w) (λ more x u. Contains (reached ++ more) q))
     (any_ends _ (next (page v.now q) v).ending (λ x u. Contains-append_left (q ∷ []) (next (page v.now q) v).reached q (Contains-push [] q))))
 
+-- a page that became the last of a chain was reached
 last_end : (id : ℕ) (chain path : List ℕ) (interval q : ℕ) (v : View) → Ends (last_page_put id chain path interval q v) (λ reached x w. Contains reached x)
 unfolding give
 last_end id chain path interval q v =
@@ -119,6 +112,7 @@ last_end id chain path interval q v =
     (any_ends _ (put_next last q u).ending (λ t z. Contains-append_left first ((put w).reached ++ ((put_next last q u).reached ++ [])) q here)))))
     (taken_end (chain ++ path) q v))
 
+-- so was a new IAM page
 new_end : (shape : FileShape) (row : CatalogRow) (chain path : List ℕ) (p : ℕ) (v : View) → Ends (new_iam shape row chain path p v) (λ reached x w. Contains reached x)
 new_end shape row chain path p v =
     let single : Plan (Option ℕ) = single_page shape (expected kinds.Iam 0) in
@@ -134,18 +128,22 @@ new_end shape row chain path p v =
     (λ x z h. Contains-append_right first (second ++ (put q u).reached) x (Contains-append_right second (put q u).reached x h))
     (last_end row.id chain path (interval_of_page shape.geometry p) q u)))))
 
+-- what there is, or another number
 abbrev one : ℕ → Option ℕ → ℕ
 one other None = other
 one other (Some x) = x
 
+-- the first that passes a test is one of the list, by whether the first item passes
 among_by : (f : ℕ → Bool) (x : ℕ) (xs : List ℕ) (q : ℕ) → (first_in (filter f xs) ≡ Some q → Contains xs q) → (b : Bool) → f x ≡ b → first_in (filter f (x ∷ xs)) ≡ Some q → Contains (x ∷ xs) q
 among_by f x xs q later true is e = subst (λ (y : ℕ). Contains (x ∷ xs) y) (ap (one x) (sym (first_hit f x xs is) ∙ e)) (0, omega arith, refl)
 among_by f x xs q later false is e = Contains-append_right (x ∷ []) xs q (later (sym (first_miss f x xs is) ∙ e))
 
+-- and so for any list
 first_among : (f : ℕ → Bool) (xs : List ℕ) (q : ℕ) → first_in (filter f xs) ≡ Some q → Contains xs q
 first_among f [] q e = absurd (none_some q e)
 first_among f (x ∷ xs) q e = among_by f x xs q (first_among f xs q) (f x) refl e
 
+-- the page that was found is of the chain, which was reached; a new one was reached now
 iam_by : (shape : FileShape) (row : CatalogRow) (chain path : List ℕ) (p : ℕ) (looked : List ℕ) (v : View) → ((q : ℕ) → Contains chain q → Contains looked q) → (iam : Option ℕ)
     → ((q : ℕ) → iam ≡ Some q → Contains chain q) → Ends (found_or iam (new_iam shape row chain path p) v) (λ reached q w. Contains (looked ++ reached) q)
 unfolding give
@@ -154,6 +152,7 @@ iam_by shape row chain path p looked v before None there =
     weaker (λ q w. Contains (new v).reached q) (λ q w. Contains (looked ++ (new v).reached) q) (new v).ending (λ q w h. Contains-append_right looked (new v).reached q h) (new_end shape row chain path p v)
 iam_by shape row chain path p looked v before (Some q) there = Contains-append_left looked [] q (before q (there q refl))
 
+-- the same of what is seen first
 iam_end : (shape : FileShape) (row : CatalogRow) (chain path : List ℕ) (p : ℕ) (looked : List ℕ) (v : View) → ((q : ℕ) → Contains chain q → Contains looked q)
     → Ends (iam_had shape row chain path p v) (λ reached q w. Contains (looked ++ reached) q)
 unfolding sees
@@ -176,6 +175,7 @@ iam_reached {a = a} {b} looked row chain path p q before d told =
 abbrev pub maps_of : FileShape → ℕ → List ℕ
 maps_of shape p = (gam_place shape.geometry (p / 8)).page ∷ (sgam_place shape.geometry (p / 8)).page ∷ pfs_page shape.geometry p ∷ []
 
+-- they are those that a page needs
 pub maps_reached : (shape : FileShape) (p : ℕ) → WereReached (maps_of shape p) shape p
 maps_reached shape p = record { gam = (0, omega arith, refl); sgam = (1, omega arith, refl); pfs = (2, omega arith, refl) }
 
@@ -191,6 +191,7 @@ chain_opened {a = a} {b} chain standing p {x} d has = record {
       has.read begun ∙ sym (chain_same a.view.shape a.view b.view (numbers chain.numbers.items) own.ownable leaves);
 }
 
+-- the parts of the plan in a row are the plan
 pub marked_plan : (shape : FileShape) (row : CatalogRow) (chain path : List ℕ) (p : ℕ)
     → (extent_opened shape (chain ++ path) p then (λ _. iam_had shape row chain path p then (λ q. put_mark shape (p / 8) 1 q then (λ _. give p)))) ≡ extent_marked shape row chain path p
 marked_plan shape row chain path p =

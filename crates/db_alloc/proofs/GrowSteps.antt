@@ -18,6 +18,7 @@ use Rattle.db_alloc.proofs.SlotSteps.{some_numbers}
 
 -- ---- the last page of a chain
 
+-- the last of a list that goes on behind page i
 last_from : (i : ℕ) (ps : List PageNo) (d : PageNo) → 1 ≤ length ps → (get_or ps (length ps - 1) d).0 ≡ last_of i (numbers ps)
 last_from i [] d some = absurd (omega (arith, some))
 last_from i (p ∷ []) d some =
@@ -31,6 +32,7 @@ last_from i (p ∷ (q ∷ qs)) d some =
 pub last_at : (chain : List PageNo) (d : PageNo) → 1 ≤ length chain → (get_or chain (length chain - 1) d).0 ≡ last_of 0 (numbers chain)
 last_at chain d some = last_from 0 chain d some
 
+-- the last of a list is among its items
 last_among : (i : ℕ) (ps : List ℕ) → 1 ≤ length ps → Contains ps (last_of i ps)
 last_among i [] some = absurd (omega (arith, some))
 last_among i (p ∷ []) some = (0, omega arith, refl)

@@ -139,15 +139,19 @@ leaves_each g each (x ∷ xs) h = leaves_then g (each x) _ (h x) (λ _. leaves_e
 
 -- ---- what takes the first page of a free extent
 
+-- a look leaves them
 leaves_look : (g : Geometry) (r : Resource) (q : ℕ) → Leaves g (look r q)
 leaves_look g r q v = leads_look r q v (λ x w. LeavesPages g v w) (λ free. leaves_all g v)
 
+-- so does a test
 leaves_good : (g : Geometry) (good : Bool) (q : ℕ) → Leaves g (where_good good q)
 leaves_good g good q v = leads_good good q v (λ x w. LeavesPages g v w) (λ e. leaves_all g v)
 
+-- so does taking a page
 leaves_taken : (g : Geometry) (standing : List ℕ) (p : ℕ) → Leaves g (page_taken standing p)
 leaves_taken g standing p = leaves_then g (look (resource.Page (record { 0 = p })) p) _ (leaves_look g _ p) (λ bytes. leaves_then g _ (λ _. give p) (leaves_good g _ p) (λ _. leaves_give g p))
 
+-- and so do the bit and the byte that are put before
 pub opened_leaves : (shape : FileShape) (standing : List ℕ) (p : ℕ) → Leaves shape.geometry (extent_opened shape standing p)
 opened_leaves shape standing p =
     let g = shape.geometry in

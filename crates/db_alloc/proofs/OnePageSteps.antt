@@ -43,6 +43,7 @@ read_later looked chain stays same read told = let begun = sym stays.told ∙ to
 abbrev pub all_reached : FileShape → List ℕ → List ℕ
 all_reached shape chain = chain ++ map (pfs_page shape.geometry) (range_with_len 0 shape.pages)
 
+-- it is enough for any chain
 pub all_read : (view : View) (chain : List ℕ) → WasRead (all_reached view.shape chain) view chain
 all_read view chain =
     let f = pfs_page view.shape.geometry in
@@ -74,6 +75,7 @@ unused : {A B : Type 0} (f : View → A) (plan : Plan B) → (sees f then (λ _.
 unfolding ◌then◌ sees
 unused f plan = λ i view. plan view
 
+-- reading what the object owns, and then its three ways, is the plan
 pub object_plan : (shape : FileShape) (row : CatalogRow) (path : List ℕ)
     → (owned_read shape row then (λ (owned : List ℕ × List ℕ). page_had shape row owned.0 path then (λ found. found_or found (no_page shape)))) ≡ object_page shape row path
 object_plan shape row path =

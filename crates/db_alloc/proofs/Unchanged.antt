@@ -22,6 +22,7 @@ use Rattle.db_alloc.proofs.Reaches.{any_ends, by_ending}
 
 -- ---- a search leaves the view
 
+-- what holds wherever a plan gives something, holds of its ending
 met : {A : Type 0} (K : List ℕ → A → View → Type 0) (reached : List ℕ) (e : End A) → ((x : A) (w : View) → e ≡ Gives x w → K reached x w) → IfGives (K reached) e
 met K reached (Gives x w) h = h x w refl
 met K reached (Stops refusal) h = tt
@@ -30,16 +31,19 @@ met K reached (Stops refusal) h = tt
 abbrev Same : {A : Type 0} → Plan A → View → Type 0
 Same plan v = Leads plan v (λ x w. w ≡ v)
 
+-- a search in one extent leaves the view
 at_same : (shape : FileShape) (fits : View → ℕ → Bool) (find : View → ℕ → Option ℕ) (e : ℕ) (v : View) → Same (search_at shape fits find e) v
 at_same shape fits find e v =
     let here = search_at shape fits find e v in
     leads_weaker (search_at shape fits find e) v (FoundAt shape find e v here.reached) (λ x w. w ≡ v) (λ x w h. h.0)
     (met (FoundAt shape find e v) here.reached here.ending (at_meets shape fits find e v))
 
+-- so does what goes on from what was found, where the rest does
 later_same : (found : Option ℕ) (rest : Plan (Option ℕ)) (v w : View) → w ≡ v → ((u : View) → Same rest u) → Leads (or_later found rest) w (λ x u. u ≡ v)
 later_same None rest v w e same = subst (λ (k : View). Leads rest w (λ x u. u ≡ k)) e (same w)
 later_same (Some p) rest v w e same = leads_give (Some p) w (λ x u. u ≡ v) e
 
+-- so does the first that finds something
 first_same : (try : ℕ → Plan (Option ℕ)) (es : List ℕ) → ((e : ℕ) (v : View) → Same (try e) v) → (v : View) → Same (first_of try es) v
 unfolding first_of
 first_same try [] same v = leads_give None v (λ x w. w ≡ v) refl
@@ -48,6 +52,7 @@ first_same try (e ∷ es) same v =
     (leads_weaker (try e) v (λ x w. w ≡ v) (λ found w. Leads (or_later found (first_of try es)) w (λ x u. u ≡ v))
     (λ found w here. later_same found (first_of try es) v w here (first_same try es same)) (same e v))
 
+-- so does a search over all extents
 search_same : (shape : FileShape) (fits : View → ℕ → Bool) (find : View → ℕ → Option ℕ) (v : View) → Same (search shape fits find) v
 search_same shape fits find v = first_same (search_at shape fits find) (extents_of shape) (λ e w. at_same shape fits find e w) v
 
@@ -57,14 +62,17 @@ search_same shape fits find v = first_same (search_at shape fits find) (extents_
 abbrev KeepsNone : Plan (Option ℕ) → Type 0
 KeepsNone plan = (v : View) → Leads plan v (λ found w. found ≡ None → w ≡ v)
 
+-- what is found isn't nothing
 some_none : (p : ℕ) → Some p ≡ None → ⊥
 some_none p e = false≢true (ap is_some (sym e))
 
+-- what takes a page gives one
 never_none : (next : ℕ → Plan ℕ) (p : ℕ) (w : View) (K : View → Type 0) → Leads (where_found (Some p) next) w (λ x u. x ≡ None → K u)
 never_none next p w K =
     leads_then (next p) (λ q. give (Some q)) w (λ x u. x ≡ None → K u)
     (any_ends (λ q u. Leads (give (Some q)) u (λ x y. x ≡ None → K y)) (next p w).ending (λ q u. leads_give (Some q) u (λ x y. x ≡ None → K y) (λ none. absurd (some_none q none))))
 
+-- nothing was taken where nothing was found
 found_keeps : (next : ℕ → Plan ℕ) (found : Option ℕ) (v w : View) → (found ≡ None → w ≡ v) → Leads (where_found found next) w (λ x u. x ≡ None → u ≡ v)
 found_keeps next None v w e = leads_give None w (λ x u. x ≡ None → u ≡ v) (λ none. e refl)
 found_keeps next (Some p) v w e = never_none next p w (λ u. u ≡ v)
@@ -85,9 +93,11 @@ either_none first second one other v =
     by_found None w e = leads_weaker second w (λ x u. x ≡ None → u ≡ w) (λ x u. x ≡ None → u ≡ v) (λ x u k none. k none ∙ e refl) (other w)
     by_found (Some p) w e = leads_give (Some p) w (λ x u. x ≡ None → u ≡ v) (λ none. absurd (some_none p none))
 
+-- what leaves the view does so too where it finds nothing
 same_none : (plan : Plan (Option ℕ)) → ((v : View) → Same plan v) → KeepsNone plan
 same_none plan same v = leads_weaker plan v (λ x w. w ≡ v) (λ x w. x ≡ None → w ≡ v) (λ x w e none. e) (same v)
 
+-- a single page
 single_none : (shape : FileShape) (byte : ℕ) → KeepsNone (single_page shape byte)
 single_none shape byte =
     let shared = search shape (is_shared shape) (spare_page shape) in
@@ -96,6 +106,7 @@ single_none shape byte =
     (taken_none shared (of_mixed shape byte) (same_none shared (search_same shape (is_shared shape) (spare_page shape))))
     (taken_none unused (of_free shape byte) (same_none unused (search_same shape (is_unused shape) (first_page_of shape))))
 
+-- a single page for a slot
 pub slot_none : (shape : FileShape) (chain path : List ℕ) → KeepsNone (slot_page shape chain path)
 slot_none shape chain path v =
     let free : View → Option ℕ = λ view. first_in (slots_with chain 0 view) in
@@ -106,6 +117,7 @@ slot_none shape chain path v =
     by_slot None = leads_give None v (λ x u. x ≡ None → u ≡ v) (λ none. refl)
     by_slot (Some i) = taken_none (single_page shape (expected kinds.Single 0)) (λ p. page_taken (chain ++ path) p then (λ _. put_slot chain p i then (λ _. give p))) (single_none shape (expected kinds.Single 0)) v
 
+-- a page of a marked extent
 pub marked_none : (shape : FileShape) (chain path : List ℕ) → KeepsNone (marked_page shape chain path)
 marked_none shape chain path =
     taken_none (sees (lowest_marked shape chain)) (marked_page_taken shape (chain ++ path)) (λ v. leads_sees (lowest_marked shape chain) v (λ x w. x ≡ None → w ≡ v) (λ none. refl))

@@ -1,6 +1,7 @@
 -- The chain, page by page.
-use Rattle.std.proofs.lemmas.List.{map-append}
+use Rattle.std.proofs.lemmas.List.{map-append, length-map, length-append}
 use Rattle.std.proofs.Common.{◌≡◌, refl, ℕ, suc, ◌+◌, ◌-◌, ◌<◌, ◌≤◌, true, false, List, [], ◌∷◌, ◌++◌, length, map, ap, sym, ◌∙◌, subst, arith}
+use Rattle.spec_file.specs.declared.data.PageNo.{PageNo}
 use Rattle.spec_file.specs.CatalogRows.{CatalogRow}
 use Rattle.spec_chain.specs.Chains.{is_last}
 use Rattle.spec_words.specs.NetChanges.{FileShape}
@@ -11,7 +12,7 @@ use Rattle.spec_plan.specs.Refusals.{bad_page}
 use Rattle.db_locks.specs.States.{PlanState}
 use Rattle.db_locks.specs.Does.{Stop}
 use Rattle.db_locks.proofs.LoopLaws.{Leads}
-use Rattle.db_alloc.specs.Tables.{chain_link}
+use Rattle.db_alloc.specs.Tables.{numbers, chain_link}
 use Rattle.db_alloc.proofs.Steps.{then_assoc, then_same, give_then}
 
 -- the rest of a chain behind a page of it
@@ -59,3 +60,10 @@ leads_plan {A} {E} {meaning} {looked} {a} {b} {whole} e l = subst (λ (p : Plan 
 -- the bytes of one page more
 pub bytes_more : (f : ℕ → List ℕ) (xs ys : List ℕ) (p : ℕ) (before after : List (List ℕ)) → ys ≡ xs ++ p ∷ [] → before ≡ map f xs → after ≡ before ++ f p ∷ [] → after ≡ map f ys
 bytes_more f xs ys p before after e h more = more ∙ ap (λ all. all ++ f p ∷ []) h ∙ sym (map-append f xs (p ∷ [])) ∙ ap (map f) (sym e)
+
+-- one page more is one more
+pub more_by_one : (old new : List PageNo) (p n : ℕ) → numbers new ≡ numbers old ++ p ∷ [] → length old ≤ n → length new ≤ n + 1
+more_by_one old new p n e le =
+    let count = sym (length-map new (λ (q : PageNo). q.0)) ∙ ap (λ (xs : List ℕ). length xs) e ∙ length-append (numbers old) (p ∷ []) in
+    let before = length-map old (λ (q : PageNo). q.0) in
+    omega (arith, count, before, le)

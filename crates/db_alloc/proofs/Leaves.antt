@@ -1,4 +1,4 @@
--- What gives pages back leaves the pages that objects may own.
+-- What gives pages back, and what takes the first page of a free extent, leaves the pages that objects may own.
 use Rattle.std.proofs.Common.{◌≡◌, ◌≢◌, refl, ℕ, ◌/◌, Bool, true, false, List, [], ◌∷◌, get_or-set_other, sym, ap, ◌∙◌}
 use Rattle.std.specs.Prelude.{if◌then◌else◌, ◌||◌}
 use Rattle.std.proofs.lemmas.Bool.{cond_both, false≢true}
@@ -12,13 +12,17 @@ use Rattle.spec_log.specs.declared.item.Cell.TheVariants.{Bytes, Bit}
 use Rattle.spec_words.specs.NetChanges.{FileShape}
 use Rattle.spec_words.specs.Takes.{is_among}
 use Rattle.spec_words.specs.Views.{View, Plan}
-use Rattle.spec_words.specs.Words.{◌then◌, give, sees, reach, take, write, with_taken, put_gam, put_sgam, put_pfs, for_each}
+use Rattle.spec_words.specs.Words.{◌then◌, give, sees, look, reach, where_good, take, write, with_taken, put_gam, put_sgam, put_pfs, for_each}
+use Rattle.spec_chain.specs.Uses.{pfs_byte}
 use Rattle.spec_alloc.specs.Search.{map_read, gam_read, sgam_read, pfs_read}
 use Rattle.spec_alloc.specs.Freeing.{is_in_use, put_bits, shared_freed, extent_freed, marked_freed, is_shared_page}
 use Rattle.spec_alloc.specs.Objects.{page_dropped}
+use Rattle.spec_alloc.specs.Chains.{page_taken}
+use Rattle.spec_alloc.specs.ObjectPages.{as_allocated}
 use Rattle.law_net.specs.GoodViews.{Leads}
-use Rattle.law_net.proofs.WordLaws.{leads_then, leads_give, leads_sees, leads_reach, leads_good, leads_take, leads_write, leads_weaker}
+use Rattle.law_net.proofs.WordLaws.{leads_then, leads_give, leads_sees, leads_look, leads_reach, leads_good, leads_take, leads_write, leads_weaker}
 use Rattle.db_alloc.specs.Drops.{LeavesPages}
+use Rattle.db_alloc.specs.Objects.{extent_opened}
 use Rattle.db_alloc.proofs.MapPlaces.{gam_system, sgam_system, pfs_system}
 
 pub leaves_all : (g : Geometry) (v : View) → LeavesPages g v v
@@ -132,3 +136,26 @@ pub leaves_each : (g : Geometry) (each : ℕ → Plan (Unit {0})) (xs : List ℕ
 unfolding for_each
 leaves_each g each [] h = leaves_give g tt
 leaves_each g each (x ∷ xs) h = leaves_then g (each x) _ (h x) (λ _. leaves_each g each xs h)
+
+-- ---- what takes the first page of a free extent
+
+-- a look leaves them
+leaves_look : (g : Geometry) (r : Resource) (q : ℕ) → Leaves g (look r q)
+leaves_look g r q v = leads_look r q v (λ x w. LeavesPages g v w) (λ free. leaves_all g v)
+
+-- so does a test
+leaves_good : (g : Geometry) (good : Bool) (q : ℕ) → Leaves g (where_good good q)
+leaves_good g good q v = leads_good good q v (λ x w. LeavesPages g v w) (λ e. leaves_all g v)
+
+-- so does taking a page
+leaves_taken : (g : Geometry) (standing : List ℕ) (p : ℕ) → Leaves g (page_taken standing p)
+leaves_taken g standing p = leaves_then g (look (resource.Page (record { 0 = p })) p) _ (leaves_look g _ p) (λ bytes. leaves_then g _ (λ _. give p) (leaves_good g _ p) (λ _. leaves_give g p))
+
+-- and so do the bit and the byte that are put before
+pub opened_leaves : (shape : FileShape) (standing : List ℕ) (p : ℕ) → Leaves shape.geometry (extent_opened shape standing p)
+opened_leaves shape standing p =
+    let g = shape.geometry in
+    let byte : View → ℕ = λ view. pfs_byte g view.now p in
+    leaves_then g (put_gam shape (p / 8) 0) _ (leaves_gam shape (p / 8) 0) (λ _.
+    leaves_then g (sees byte) _ (leaves_sees g byte) (λ old.
+    leaves_then g (put_pfs shape p (as_allocated old)) _ (leaves_pfs shape p (as_allocated old)) (λ _. leaves_taken g standing p)))

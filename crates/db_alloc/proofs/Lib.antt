@@ -27,3 +27,7 @@ pub mod LastSteps
 pub mod NearPages
 pub mod NearExtents
 pub mod GiveBackSteps
+pub mod GrowSteps
+pub mod ExtentSteps
+pub mod Unchanged
+pub mod OnePageSteps

@@ -56,7 +56,7 @@ here_not f xs i lt e =
 pub none_left : (f : ℕ → Bool) (xs : List ℕ) (i : ℕ) → length xs ≤ i → first_in (filter f (drop i xs)) ≡ None
 none_left f xs i le = ap (λ ys. first_in (filter f ys)) (drop_all i xs le)
 
-none_some : (p : ℕ) → None ≡ Some p → ⊥
+pub none_some : (p : ℕ) → None ≡ Some p → ⊥
 none_some p e = false≢true (ap is_some e)
 
 abbrev one : ℕ → Option ℕ → ℕ

@@ -21,7 +21,7 @@ use Rattle.db_alloc.proofs.MapPlaces.{same_pfs}
 
 -- ---- what holds of what a plan reached, gave and left, wherever it gives something
 
-abbrev Meets : {A : Type 0} → (List ℕ → A → View → Type 0) → Outcome A → Type 0
+abbrev pub Meets : {A : Type 0} → (List ℕ → A → View → Type 0) → Outcome A → Type 0
 Meets {A} K o = (x : A) (w : View) → o.ending ≡ Gives x w → K o.reached x w
 
 abbrev does_give : {A : Type 0} → End A → Bool
@@ -79,14 +79,14 @@ map_meets type q view =
     (λ reached bytes w k. meets_good (λ more y u. Reaches view (q ∷ []) (reached ++ more) y u) (says type q bytes) q w (k.0, ap (λ ps. ps ++ []) k.1))
 
 -- what is found in extent e is what is looked for there, and its maps were reached
-abbrev FoundAt : FileShape → (View → ℕ → Option ℕ) → ℕ → View → List ℕ → Option ℕ → View → Type 0
+abbrev pub FoundAt : FileShape → (View → ℕ → Option ℕ) → ℕ → View → List ℕ → Option ℕ → View → Type 0
 FoundAt shape find e view reached found w =
     (w ≡ view) × ((p : ℕ) → found ≡ Some p → (find view e ≡ Some p) × (reached ≡ (gam_place shape.geometry e).page ∷ (sgam_place shape.geometry e).page ∷ pfs_page shape.geometry (8 * e) ∷ []))
 
 none_some : {A : Type 0} (x : A) → None ≡ Some x → ⊥
 none_some x e = false≢true (ap is_some e)
 
-at_meets : (shape : FileShape) (fits : View → ℕ → Bool) (find : View → ℕ → Option ℕ) (e : ℕ) (view : View) → Meets (FoundAt shape find e view) (search_at shape fits find e view)
+pub at_meets : (shape : FileShape) (fits : View → ℕ → Bool) (find : View → ℕ → Option ℕ) (e : ℕ) (view : View) → Meets (FoundAt shape find e view) (search_at shape fits find e view)
 at_meets shape fits find e view =
     let g = shape.geometry in
     let gam = (gam_place g e).page in

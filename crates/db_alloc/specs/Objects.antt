@@ -1,5 +1,6 @@
 -- Parts of the plans that give objects pages.
-use Rattle.std.specs.Prelude.{◌≡◌, ℕ, ◌+◌, ◌<◌, ◌≤◌, IsTrue, true, List, [], ◌++◌, length, map, All, Contains}
+use Rattle.std.specs.Prelude.{◌≡◌, ℕ, ◌+◌, ◌/◌, ◌<◌, ◌≤◌, IsTrue, true, Option, List, [], ◌++◌, length, map, All, Contains}
+use Rattle.spec_file.specs.declared.data.PageNo.{PageNo}
 use Rattle.spec_file.specs.CatalogRows.{CatalogRow}
 use Rattle.spec_file.specs.Image.{page}
 use Rattle.spec_file.specs.Places.{pfs_page}
@@ -7,9 +8,10 @@ use Rattle.spec_plan.specs.Changes.{last_of}
 use Rattle.spec_plan.specs.Reading.{is_marked}
 use Rattle.spec_words.specs.NetChanges.{FileShape}
 use Rattle.spec_words.specs.Views.{View, Plan}
-use Rattle.spec_words.specs.Words.{◌then◌, give, sees, put_page, found_or}
+use Rattle.spec_words.specs.Words.{◌then◌, give, sees, put_gam, put_page, found_or}
+use Rattle.spec_alloc.specs.Search.{either}
 use Rattle.spec_alloc.specs.Chains.{page_taken, new_iam_page, put_slot, put_next}
-use Rattle.spec_alloc.specs.ObjectPages.{iam_of, new_iam}
+use Rattle.spec_alloc.specs.ObjectPages.{iam_of, new_iam, slot_page, marked_page_taken, marked_page, extent_page}
 use Rattle.db_locks.specs.States.{PlanState}
 use Rattle.db_alloc.specs.declared.chain.Chain.{Chain}
 use Rattle.db_alloc.specs.Maps.{IsOwnable}
@@ -41,11 +43,27 @@ last_page_put id chain path interval q =
 abbrev pub iam_had : FileShape → CatalogRow → List ℕ → List ℕ → ℕ → Plan ℕ
 iam_had shape row chain path p = sees (iam_of shape chain p) then (λ iam. found_or iam (new_iam shape row chain path p))
 
+-- page p, the first of a free extent, becomes allocated in one that isn't free any more, and is taken
+abbrev pub extent_opened : FileShape → List ℕ → ℕ → Plan ℕ
+extent_opened shape standing p = put_gam shape (p / 8) 0 then (λ _. marked_page_taken shape standing p)
+
+-- a page of an extent that the object marks, or marks from then on, if one is to be had
+abbrev pub extent_had : FileShape → CatalogRow → List ℕ → List ℕ → Plan (Option ℕ)
+extent_had shape row chain path = either (marked_page shape chain path) (extent_page shape row chain path)
+
+-- one more page for an object that has this chain, if one is to be had
+abbrev pub page_had : FileShape → CatalogRow → List ℕ → List ℕ → Plan (Option ℕ)
+page_had shape row chain path = either (slot_page shape chain path) (extent_had shape row chain path)
+
+-- at least one page, each of which objects may own, and no more than a chain of the file has
+pub record IsChain (shape : FileShape) (chain : List PageNo) : Type 0 where
+  pub some : 1 ≤ length chain
+  pub few : length chain ≤ shape.pages + 2
+  pub ownable : All (IsOwnable shape) (numbers chain)
+
 -- a chain that was read is there as it was read
 pub record HasChain (chain : Chain) (s : PlanState) : Type 0 where
-  pub some : 1 ≤ length chain.numbers.items
-  pub few : length chain.numbers.items ≤ s.view.shape.pages + 2
-  pub ownable : All (IsOwnable s.view.shape) (numbers chain.numbers.items)
+  pub is : IsChain s.view.shape chain.numbers.items
   pub read : IsTrue s.told → bytes_of chain.pages.items ≡ map (page s.view.now) (numbers chain.numbers.items)
 
 -- the pages of a chain were reached, and the PFS page of each page of the file whose extent it marks

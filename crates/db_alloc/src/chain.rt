@@ -1,5 +1,5 @@
 // The IAM chain of a table.
-ghost use Rattle.std.specs.Prelude.{◌≡◌, ◌<◌, ◌≤◌, ◌==◌, ◌&&◌, ◌||◌, ◌++◌, ◌∷◌, [], IsTrue, IfOk, IfErr, OnOk, is_none, nat_lt, not, length, map, All};
+ghost use Rattle.std.specs.Prelude.{◌≡◌, ◌<◌, ◌≤◌, ◌+◌, ◌==◌, ◌&&◌, ◌||◌, ◌++◌, ◌∷◌, [], IsTrue, IfOk, IfErr, OnOk, is_none, nat_lt, not, length, map, All};
 ghost use Rattle.std.specs.List.{list_all, list_any};
 ghost use Rattle.spec_file.specs.Iam.{iam_slots};
 ghost use Rattle.spec_file.specs.Image.{page};
@@ -131,6 +131,7 @@ pub(crate) fn read_chain<P: PlanPages>(
     requires pages { table.now.pages ≡ (P.state v.old).view.shape.pages }
     ensures does { Does (P.state v.old) (P.state v.new) (spec.chain_of (P.state v.old).view.shape (row_of table.now.row)) (value_as (λ chain. numbers chain.numbers.items) result) }
     ensures some { IfOk result (λ chain. 1 ≤ length chain.numbers.items) }
+    ensures few { IfOk result (λ chain. length chain.numbers.items ≤ table.now.pages + 2) }
     ensures told { IfOk result (λ chain. IsTrue (P.state v.old).told → bytes_of chain.pages.items ≡ map (page (P.state v.old).view.now) (numbers chain.numbers.items)) }
     ensures ownable { IfOk result (λ chain. All (IsOwnable (P.state v.old).view.shape) (numbers chain.numbers.items)) }
     ensures view { (P.state v.new).view ≡ (P.state v.old).view }

@@ -1,5 +1,5 @@
 // The chain of a table and its allocated pages, read once for all that is done with them.
-ghost use Rattle.std.specs.Prelude.{◌≡◌, ◌<◌, ◌≤◌, IsTrue, IfOk, length, map, All};
+ghost use Rattle.std.specs.Prelude.{◌≡◌, ◌<◌, ◌≤◌, ◌+◌, IsTrue, IfOk, length, map, All};
 ghost use Rattle.spec_file.specs.Image.{page};
 ghost use Rattle.db_cat.specs.Rows.{row_of};
 ghost use Rattle.db_locks.specs.Does.{Does};
@@ -35,6 +35,7 @@ pub(crate) fn read_owned<P: PlanPages>(
     requires pages { table.now.pages ≡ (P.state v.old).view.shape.pages }
     ensures does { Does (P.state v.old) (P.state v.new) (owned_read (P.state v.old).view.shape (row_of table.now.row)) (value_as owned_of result) }
     ensures some { IfOk result (λ owned. 1 ≤ length owned.chain.numbers.items) }
+    ensures few { IfOk result (λ owned. length owned.chain.numbers.items ≤ table.now.pages + 2) }
     ensures told { IfOk result (λ owned. IsTrue (P.state v.old).told → bytes_of owned.chain.pages.items ≡ map (page (P.state v.old).view.now) (numbers owned.chain.numbers.items)) }
     ensures ownable { IfOk result (λ owned. All (IsOwnable (P.state v.old).view.shape) (numbers owned.chain.numbers.items)) }
     ensures inside { IfOk result (λ owned. All (λ p. p < table.now.pages) (numbers owned.pages.items)) }

@@ -10,6 +10,8 @@ mod changes;
 #[cfg(test)]
 mod count_tests;
 #[cfg(test)]
+mod give_back_tests;
+#[cfg(test)]
 mod insert_tests;
 #[cfg(test)]
 mod lock_tests;
@@ -17,6 +19,12 @@ mod lock_tests;
 mod made;
 #[cfg(test)]
 mod net_tests;
+#[cfg(test)]
+mod page_cases;
+#[cfg(test)]
+mod page_refusals;
+#[cfg(test)]
+mod page_tests;
 #[cfg(test)]
 mod plan_tests;
 #[cfg(test)]

@@ -35,14 +35,24 @@ fn page_from(file: &[u8], p: usize) -> Page {
     page
 }
 
-/// The pages of a small file of 24 pages with these pieces.
-pub fn pages_of(alloc: Global, parts: &[&[Piece]]) -> Result<Vec<Page>, Fail> {
-    let file = made(alloc, New::Small(24), parts)?;
+/// The first pages of a file with these pieces, so many.
+pub fn pages_in(
+    alloc: Global,
+    new: New,
+    count: usize,
+    parts: &[&[Piece]],
+) -> Result<Vec<Page>, Fail> {
+    let file = made(alloc, new, parts)?;
     let mut pages = Vec::new(alloc);
-    for p in 0..24 {
+    for p in 0..count {
         pages.push(page_from(&file, p))?;
     }
     Ok(pages)
+}
+
+/// The pages of a small file of 24 pages with these pieces.
+pub fn pages_of(alloc: Global, parts: &[&[Piece]]) -> Result<Vec<Page>, Fail> {
+    pages_in(alloc, New::Small(24), 24, parts)
 }
 
 /// Transaction 2 holds these resources.

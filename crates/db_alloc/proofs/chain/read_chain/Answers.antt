@@ -1,4 +1,4 @@
-use Rattle.std.proofs.Common.{ℕ, ◌+◌, ◌-◌, List, [], ◌∷◌, ◌++◌, refl, sym, ap, ◌∙◌, subst, All, Ok, Err}
+use Rattle.std.proofs.Common.{ℕ, ◌+◌, ◌-◌, List, [], ◌∷◌, ◌++◌, refl, sym, ap, ◌∙◌, subst, All, Ok, Err, arith}
 use Rattle.std.proofs.lemmas.List.{length-map}
 use Rattle.std.proofs.lemmas.List.Elements.{All-nil, All-push}
 use Rattle.spec_file.specs.declared.data.PageNo.{PageNo}
@@ -15,7 +15,7 @@ use Rattle.db_locks.proofs.LoopLaws.{Leads, leads_none, leads_then}
 use Rattle.db_alloc.specs.Maps.{IsOwnable}
 use Rattle.db_alloc.specs.Tables.{numbers, bytes_of, chain_link}
 use Rattle.db_alloc.proofs.Steps.{does_plan, leads_exit_as}
-use Rattle.db_alloc.proofs.Chains.{rest_of, chain_last, chain_more, chain_full, chain_starts, leads_plan, bytes_more}
+use Rattle.db_alloc.proofs.Chains.{rest_of, chain_last, chain_more, chain_full, chain_starts, leads_plan, bytes_more, more_by_one}
 use Rattle.db_alloc.proofs.chain.read_chain.Goals as goal
 
 pub loop-count-init : goal.loop-count-init
@@ -26,6 +26,7 @@ loop-count-init g c =
       leads = leads_plan (chain_starts a.view.shape row c.args.table.now.pages c.requires.pages) (leads_none stop_of [] a (chain_of a.view.shape row));
       told = λ told. refl;
       own = All-nil (IsOwnable a.view.shape);
+      few = omega arith;
       view = refl;
     })
 
@@ -66,6 +67,7 @@ loop-count-preserved g c =
           (c.in_ok-next.ensures.told (c.loop-count.invariant.leads.stays.told ∙ told) ∙ ap (λ (v : View). bytes_of c.loop-count.chain.pages.items ++ page v.now c.loop-count.p.0 ∷ []) c.loop-count.invariant.view);
       own = subst (All (IsOwnable a.view.shape)) (sym c.in_ok-next.ensures.numbers)
           (All-push (IsOwnable a.view.shape) met c.loop-count.p.0 c.loop-count.invariant.own (subst (λ (v : View). IsOwnable v.shape c.loop-count.p.0) c.loop-count.invariant.view c.in_ok-next.ensures.ownable));
+      few = more_by_one c.loop-count.chain.numbers.items c.add_link.new.chain.numbers.items c.loop-count.p.0 c.loop-count.count c.in_ok-next.ensures.numbers c.loop-count.invariant.few;
       view = c.add_link.ensures.view ∙ c.loop-count.invariant.view;
     }
 

@@ -1,4 +1,4 @@
-use Rattle.std.proofs.Common.{◌≡◌, ◌+◌, ◌-◌, IsTrue, [], map, All}
+use Rattle.std.proofs.Common.{◌≡◌, ◌+◌, ◌-◌, ◌≤◌, IsTrue, [], length, map, All}
 use Rattle.spec_file.specs.Image.{page}
 use Rattle.spec_words.specs.Tables.{chain_of, chain_from}
 use Rattle.db_cat.specs.Rows.{row_of}
@@ -17,5 +17,6 @@ invariant-loop-count g l =
       leads : Leads stop_of [] a b (chain_of a.view.shape row) (chain_from (l.table.pages + 2 - l.count) a.view.shape row (numbers l.chain.numbers.items) l.from.0 l.p.0);
       told : IsTrue a.told → bytes_of l.chain.pages.items ≡ map (page a.view.now) (numbers l.chain.numbers.items);
       own : All (IsOwnable a.view.shape) (numbers l.chain.numbers.items);
+      few : length l.chain.numbers.items ≤ l.count;
       view : b.view ≡ a.view;
     }

@@ -1,4 +1,4 @@
-//! The tests of the devices, in memory and of the system, and of the pages of a file in memory.
+//! The tests of the devices, in memory and of the system, of the pages of a file in memory, and of a new file.
 #![tactic(auto)]
 
 #[cfg(test)]
@@ -7,3 +7,5 @@ mod device_tests;
 mod frame_tests;
 #[cfg(test)]
 mod made;
+#[cfg(test)]
+mod new_file_tests;

@@ -1,5 +1,5 @@
 //! The tests of pages and their parts: headers, map bits and PFS bytes, rows, slots, the catalog, IAM pages, heap
-//! pages.
+//! pages, and the pages of a new file.
 #![tactic(auto)]
 
 #[cfg(test)]
@@ -10,6 +10,8 @@ mod header_tests;
 mod heap_tests;
 #[cfg(test)]
 mod made;
+#[cfg(test)]
+mod new_page_tests;
 #[cfg(test)]
 mod place_tests;
 #[cfg(test)]

@@ -1,0 +1,7 @@
+pub mod MapPages
+pub mod NewBytes
+pub mod Empty
+pub mod FirstPage
+pub mod WholeFile
+pub mod Clean
+pub mod Computed

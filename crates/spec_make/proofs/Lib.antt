@@ -1,0 +1,4 @@
+pub mod RuleLaws
+pub mod MapLaws
+pub mod PageLaws
+pub mod FileLaws

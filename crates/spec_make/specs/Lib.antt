@@ -1,0 +1,3 @@
+pub mod Rules
+pub mod NewMaps
+pub mod NewPages
